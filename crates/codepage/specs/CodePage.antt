@@ -1,0 +1,120 @@
+-- Document 01, "The table set".
+use mathlib.Core.Bool.{Bool, true, false, not, _&&_, _||_}
+use mathlib.Core.List.{List, [], _∷_}
+use mathlib.Core.Path.{_≡_}
+use Prim.Native.Nat.{ℕ, zero, suc, _+_, _*_, _/_, _%_, _<_, _≤_}
+use lib.Dec.{leb, ltb, eqb}
+use lib.ListN.{length, getD, take}
+use Rattle.codepage.specs.declared.Numbers.{Numbers}
+use Rattle.codepage.specs.declared.Fault.{Fault}
+use Rattle.codepage.specs.declared.Fault.the-variants.{Good, Page, ClassesSize, SinglesSize, PairsSize, IndexSize, BlocksSize, Class, Lead, Number}
+
+-- The table set: three numbers and the five lent tables.
+pub record CodePage : Type 0 where
+  pub page : ℕ
+  pub defaultByte : ℕ
+  pub defaultUnit : ℕ
+  pub classes : List ℕ
+  pub singles : List ℕ
+  pub pairs : List ℕ
+  pub index : List ℕ
+  pub blocks : List ℕ
+
+abbrev pub codePage : Numbers → List ℕ → List ℕ → List ℕ → List ℕ → List ℕ → CodePage
+codePage n classes singles pairs index blocks =
+    record {
+      page = n .page;
+      defaultByte = n .«default_byte»;
+      defaultUnit = n .«default_unit»;
+      classes = classes;
+      singles = singles;
+      pairs = pairs;
+      index = index;
+      blocks = blocks;
+    }
+
+abbrev pub pick {ℓ} : {A : Type ℓ} → Bool → A → A → A
+pick true a b = a
+pick false a b = b
+
+-- An entry of a table. Every place that a rule looks at lies inside a table of a good shape (`Inside`, below, and its law
+-- `inside`), so the 0 is never met.
+abbrev pub entry : List ℕ → ℕ → ℕ
+entry table place = getD table place 0
+
+-- classes: 0 never, 1 single, 2 lead; plus 4 if the byte may be a second byte
+unfoldable pub isKnown : ℕ → Bool
+isKnown class = leb class 2 || leb 4 class && leb class 6
+
+unfoldable pub isSingle : ℕ → Bool
+isSingle class = eqb class 1 || eqb class 5
+
+unfoldable pub isLead : ℕ → Bool
+isLead class = eqb class 2 || eqb class 6
+
+unfoldable pub isTrail : ℕ → Bool
+isTrail class = leb 4 class
+
+-- how many of some classes are those of leads
+unfoldable pub leads : List ℕ → ℕ
+leads [] = 0
+leads (c ∷ cs) = pick (isLead c) (suc (leads cs)) (leads cs)
+
+-- the leads below a byte
+unfoldable pub leadsBelow : List ℕ → ℕ → ℕ
+leadsBelow classes byte = leads (take byte classes)
+
+-- The shape is good exactly if all of this holds.
+pub record GoodShape (p : CodePage) : Type 0 where
+  pub page : p .page ≡ 0 → ⊥
+  pub classes : length (p .classes) ≡ 256
+  pub singles : length (p .singles) ≡ 256
+  pub pairs : length (p .pairs) ≡ 256 * leads (p .classes)
+  pub index : length (p .index) ≡ 256
+  pub blocks : (n : ℕ) × (1 ≤ n) × (n ≤ 256) × (length (p .blocks) ≡ 256 * n)
+  pub class : (byte : ℕ) → byte < 256 → isKnown (entry (p .classes) byte) ≡ true
+  pub low : (byte : ℕ) → byte < 0x80 → isLead (entry (p .classes) byte) ≡ false
+  pub number : (high : ℕ) → high < 256 → 256 * entry (p .index) high + 256 ≤ length (p .blocks)
+
+-- The report. The first place, counted from `place`, at which an entry is bad; behind the last where none is.
+unfoldable pub firstBad : (ℕ → ℕ → Bool) → ℕ → List ℕ → ℕ
+firstBad bad place [] = place
+firstBad bad place (x ∷ xs) = elim (bad place x) [ true ↦ place | false ↦ firstBad bad (suc place) xs ]
+
+-- a class that no byte can have, or a lead below 80
+unfoldable pub badClass : ℕ → ℕ → Bool
+badClass byte class = not (isKnown class) || ltb byte 0x80 && isLead class
+
+-- a number that names none of the blocks
+unfoldable pub badNumber : ℕ → ℕ → ℕ → Bool
+badNumber count place number = leb count number
+
+unfoldable pub classFault : List ℕ → ℕ → Fault
+classFault classes byte = pick (isKnown (entry classes byte)) (Lead byte) (Class byte)
+
+-- The first bad place: page, then the sizes in the order of the tables, then the first bad class or low lead, then the first
+-- bad index number.
+unfoldable pub firstFault : CodePage → Fault
+firstFault p =
+    pick (eqb (p .page) 0) Page
+    (pick (not (eqb (length (p .classes)) 256)) ClassesSize
+    (pick (not (eqb (length (p .singles)) 256)) SinglesSize
+    (pick (not (eqb (length (p .pairs)) (256 * leads (p .classes)))) PairsSize
+    (pick (not (eqb (length (p .index)) 256)) IndexSize
+    (pick (not (eqb (length (p .blocks) % 256) 0)) BlocksSize
+    (pick (not (leb 1 (length (p .blocks) / 256) && leb (length (p .blocks) / 256) 256)) BlocksSize
+    (pick (ltb (firstBad badClass 0 (p .classes)) 256) (classFault (p .classes) (firstBad badClass 0 (p .classes)))
+    (pick (ltb (firstBad (badNumber (length (p .blocks) / 256)) 0 (p .index)) 256) (Number (firstBad (badNumber (length (p .blocks) / 256)) 0 (p .index)))
+    Good))))))))
+
+abbrev pub isGood : Fault → Bool
+isGood Good = true
+isGood Page = false
+isGood ClassesSize = false
+isGood SinglesSize = false
+isGood PairsSize = false
+isGood IndexSize = false
+isGood BlocksSize = false
+isGood (Class byte) = false
+isGood (Lead byte) = false
+isGood (Number place) = false

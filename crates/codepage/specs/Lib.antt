@@ -1,0 +1,2 @@
+pub mod CodePage
+pub mod Reading

@@ -1,0 +1,86 @@
+-- Document 01, "Reading one code from bytes" and "Reading one unit for bytes": what a code means, with no policy.
+use mathlib.Core.Bool.{Bool, true, false}
+use mathlib.Core.List.{List, [], _∷_}
+use mathlib.Core.Option.{Option, none, some}
+use Prim.Native.Nat.{ℕ, zero, suc, _+_, _*_, _/_, _%_}
+use lib.Dec.{leb, eqb}
+use Rattle.codepage.specs.CodePage.{CodePage, pick, entry, isSingle, isLead, isTrail, leadsBelow}
+use Rattle.codepage.specs.declared.Kind.{Kind}
+use Rattle.codepage.specs.declared.Kind.the-variants.{UndefinedSingle, UndefinedPair, Invalid}
+use Rattle.codepage.specs.declared.Lookup.{Lookup}
+use Rattle.codepage.specs.declared.Lookup.the-variants.{Found, Lacking}
+
+-- what an entry says; FFFF means none
+unfoldable pub lookup : Kind → ℕ → Lookup
+lookup kind value = pick (eqb value 0xFFFF) (Lacking kind) (Found value)
+
+-- Reading one code from bytes.
+
+-- One byte. Class single: its character, or undefined single. Class never, and a lead at the end of the whole text: invalid.
+unfoldable pub byteAlone : (classes singles : List ℕ) → ℕ → Lookup
+byteAlone classes singles byte = pick (isSingle (entry classes byte)) (lookup UndefinedSingle (entry singles byte)) (Lacking Invalid)
+
+-- Two bytes. A lead followed by a byte that may be second: its character, or undefined pair. Followed by any other: invalid.
+-- The lead with j leads below it uses block j, at the second byte.
+unfoldable pub bytePair : (classes pairs : List ℕ) → ℕ → ℕ → Lookup
+bytePair classes pairs lead byte = pick (isTrail (entry classes byte)) (lookup UndefinedPair (entry pairs (256 * leadsBelow classes lead + byte))) (Lacking Invalid)
+
+-- Reading one unit for bytes.
+
+-- A unit's code, in the block of its high half at its low half, or undefined single.
+unfoldable pub unitCode : (index blocks : List ℕ) → ℕ → Lookup
+unitCode index blocks unit = lookup UndefinedSingle (entry blocks (256 * entry index (unit / 256) + unit % 256))
+
+-- a code up to 00FF is one byte; a larger one is its high half, then its low half
+unfoldable pub bytesOf : ℕ → List ℕ
+bytesOf code = pick (leb code 0xFF) (code ∷ []) (code / 256 ∷ code % 256 ∷ [])
+
+-- A reader of codes, for both directions.
+pub record Reader : Type 0 where
+  -- whether a unit needs a second one
+  pub waits : ℕ → Bool
+  -- a unit alone, or a waiting unit at the end of the whole text
+  pub one : ℕ → Lookup
+  -- a waiting unit and the one after it
+  pub two : ℕ → ℕ → Lookup
+  -- what is written for what was found
+  pub writes : ℕ → List ℕ
+
+unfoldable pub decoder : CodePage → Reader
+decoder p =
+    record {
+      waits = λ byte. isLead (entry (p .classes) byte);
+      one = byteAlone (p .classes) (p .singles);
+      two = bytePair (p .classes) (p .pairs);
+      writes = λ unit. unit ∷ [];
+    }
+
+-- No unit waits in encoding: each is looked up alone, surrogates too.
+unfoldable pub encoder : CodePage → Reader
+encoder p =
+    record {
+      waits = λ unit. false;
+      one = unitCode (p .index) (p .blocks);
+      two = λ before unit. unitCode (p .index) (p .blocks) unit;
+      writes = bytesOf;
+    }
+
+-- A code of a text: its first unit, how many units it has, and what it means.
+pub record Code : Type 0 where
+  pub first : ℕ
+  pub size : ℕ
+  pub means : Lookup
+
+-- The codes of a text, one after the other, with a waiting unit or none before it.
+unfoldable pub codesFrom : Reader → Option ℕ → List ℕ → List Code
+codesFrom r none [] = []
+codesFrom r (some c) [] = record { first = c; size = 1; means = r .one c } ∷ []
+codesFrom r none (a ∷ text) =
+    elim (r .waits a) [
+      | true ↦ codesFrom r (some a) text
+      | false ↦ record { first = a; size = 1; means = r .one a } ∷ codesFrom r none text
+    ]
+codesFrom r (some c) (b ∷ text) = record { first = c; size = 2; means = r .two c b } ∷ codesFrom r none text
+
+unfoldable pub codes : Reader → List ℕ → List Code
+codes r text = codesFrom r none text

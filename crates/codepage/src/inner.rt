@@ -1,0 +1,99 @@
+// Inner functions: other crates of this product call them on tables whose shape was found good. They are no public calls.
+ghost use mathlib.Core.Path.{_≡_};
+ghost use mathlib.Core.Bool.{true};
+ghost use Prim.Native.Nat.{ℕ, _+_, _*_, _≤_};
+ghost use lib.ListN.{length};
+ghost use Rattle.codepage.specs.CodePage.{codePage, entry, isLead, leadsBelow, firstFault, isGood};
+ghost use Rattle.codepage.specs.Reading.{lookup, byteAlone, bytePair, unitCode};
+use crate::Fault;
+use crate::Kind;
+use crate::Lookup;
+use crate::Numbers;
+
+// Whether the shape is good.
+pub fn good_shape(
+    numbers: Numbers,
+    classes: &[u8],
+    singles: &[u16],
+    pairs: &[u16],
+    index: &[u8],
+    blocks: &[u16],
+) -> bool
+    ensures { λ r. ⌜ r ≡ isGood (firstFault (codePage numbers (now (classes .entry)) (now (singles .entry)) (now (pairs .entry)) (now (index .entry)) (now (blocks .entry)))) ⌝ }
+{
+    is_good(crate::shape_report(numbers, classes, singles, pairs, index, blocks))
+}
+
+fn is_good(report: Fault) -> bool
+    ensures { λ r. ⌜ r ≡ isGood report ⌝ }
+{
+    match report {
+        Fault::Good => true,
+        Fault::Page => false,
+        Fault::ClassesSize => false,
+        Fault::SinglesSize => false,
+        Fault::PairsSize => false,
+        Fault::IndexSize => false,
+        Fault::BlocksSize => false,
+        Fault::Class(_) => false,
+        Fault::Lead(_) => false,
+        Fault::Number(_) => false,
+    }
+}
+
+// What an entry says of a code.
+fn found(kind: Kind, value: u16) -> Lookup
+    ensures { λ r. ⌜ r ≡ lookup kind value ⌝ }
+{
+    if value == 0xFFFF {
+        Lookup::Lacking(kind)
+    } else {
+        Lookup::Found(value)
+    }
+}
+
+// Whether a byte is a lead byte.
+pub fn is_lead(classes: &[u8], byte: u8) -> bool
+    requires { ⌜ length (now classes) ≡ 256 ⌝ }
+    ensures { λ r. ⌜ r ≡ isLead (entry (now (classes .entry)) byte) ⌝ }
+{
+    let at = byte as usize;
+    crate::is_lead_class(classes[at])
+}
+
+// A byte alone.
+pub fn byte_alone(classes: &[u8], singles: &[u16], byte: u8) -> Lookup
+    requires { ⌜ (length (now classes) ≡ 256) × (length (now singles) ≡ 256) ⌝ }
+    ensures { λ r. ⌜ r ≡ byteAlone (now (classes .entry)) (now (singles .entry)) byte ⌝ }
+{
+    let at = byte as usize;
+    if crate::is_single_class(classes[at]) {
+        return found(Kind::UndefinedSingle, singles[at]);
+    }
+    Lookup::Lacking(Kind::Invalid)
+}
+
+// A lead byte and the byte after it.
+pub fn byte_pair(classes: &[u8], pairs: &[u16], lead: u8, byte: u8) -> Lookup
+    requires { ⌜ (length (now classes) ≡ 256) × (256 * leadsBelow (now classes) lead + 256 ≤ length (now pairs)) ⌝ }
+    ensures { λ r. ⌜ r ≡ bytePair (now (classes .entry)) (now (pairs .entry)) lead byte ⌝ }
+{
+    let at = byte as usize;
+    if 4 <= classes[at] {
+        let block = crate::leads_below(classes, lead as usize);
+        return found(Kind::UndefinedPair, pairs[256 * block + at]);
+    }
+    Lookup::Lacking(Kind::Invalid)
+}
+
+// A unit's code.
+pub fn unit_code(index: &[u8], blocks: &[u16], unit: u16) -> Lookup
+    requires { ⌜ length (now index) ≡ 256 ⌝ }
+    requires { ⌜ ((high : ℕ) → 256 * entry (now index) high + 256 ≤ length (now blocks)) ⌝ }
+    ensures { λ r. ⌜ r ≡ unitCode (now (index .entry)) (now (blocks .entry)) unit ⌝ }
+{
+    let high = (unit / 256) as usize;
+    let low = (unit % 256) as usize;
+    let block = index[high] as usize;
+    found(Kind::UndefinedSingle, blocks[256 * block + low])
+}

@@ -1,0 +1,192 @@
+// A code page as lent tables: its shape, and the shape report. (Document 01, "The table set".)
+pub mod inner;
+
+ghost use mathlib.Core.Path.{_≡_};
+ghost use Prim.Native.Nat.{ℕ, _≤_};
+ghost use lib.ListN.{length};
+ghost use Rattle.codepage.specs.CodePage.{codePage, isSingle, isLead, isKnown, leadsBelow, firstBad, badClass, badNumber, firstFault};
+
+// The numbers of a table set.
+pub struct Numbers {
+    pub page: u16,
+    pub default_byte: u8,
+    pub default_unit: u16,
+}
+
+// What the shape report says: the shape is good, or its first bad place.
+pub enum Fault {
+    Good,
+    // The page is 0.
+    Page,
+    // A table has another size than it must have.
+    ClassesSize,
+    SinglesSize,
+    PairsSize,
+    IndexSize,
+    BlocksSize,
+    // The first byte whose class is not one of 0, 1, 2, 4, 5, 6.
+    Class(usize),
+    // The first lead byte below 80.
+    Lead(usize),
+    // The first index number that names no block.
+    Number(usize),
+}
+
+// Why a code has no character.
+pub enum Kind {
+    UndefinedSingle,
+    UndefinedPair,
+    Invalid,
+}
+
+// What a table says of a code: its character (in encoding, of a unit: its code), or none and why.
+pub enum Lookup {
+    Found(u16),
+    Lacking(Kind),
+}
+
+// Whether a class is that of a lead byte.
+fn is_lead_class(class: u8) -> bool
+    ensures { λ r. ⌜ r ≡ isLead class ⌝ }
+{
+    if class == 2 {
+        return true;
+    }
+    class == 6
+}
+
+// Whether a class is that of a single byte.
+fn is_single_class(class: u8) -> bool
+    ensures { λ r. ⌜ r ≡ isSingle class ⌝ }
+{
+    if class == 1 {
+        return true;
+    }
+    class == 5
+}
+
+// Whether a class is one that a byte can have.
+fn is_known_class(class: u8) -> bool
+    ensures { λ r. ⌜ r ≡ isKnown class ⌝ }
+{
+    if class <= 2 {
+        return true;
+    }
+    if class < 4 {
+        return false;
+    }
+    class <= 6
+}
+
+// Whether a byte's class is unknown or that of a lead byte below 80.
+fn is_bad_class(byte: usize, class: u8) -> bool
+    ensures { λ r. ⌜ r ≡ badClass byte class ⌝ }
+{
+    if !is_known_class(class) {
+        return true;
+    }
+    if byte < 0x80 {
+        return is_lead_class(class);
+    }
+    false
+}
+
+// The number of lead bytes below a byte.
+fn leads_below(classes: &[u8], byte: usize) -> usize
+    requires { ⌜ byte ≤ length (now classes) ⌝ }
+    ensures { λ r. ⌜ r ≡ leadsBelow (now (classes .entry)) byte ⌝ }
+{
+    let mut count = 0;
+    let mut i = 0;
+    while i < byte {
+        if is_lead_class(classes[i]) {
+            count += 1;
+        }
+        i += 1;
+    }
+    count
+}
+
+// The first byte with a bad class, or the number of classes where there is none.
+fn first_bad_class(classes: &[u8]) -> usize
+    ensures { λ r. ⌜ r ≡ firstBad badClass 0 (now (classes .entry)) ⌝ }
+{
+    let mut i = 0;
+    let place = loop {
+        if classes.len() <= i {
+            break i;
+        }
+        if is_bad_class(i, classes[i]) {
+            break i;
+        }
+        i += 1;
+    };
+    place
+}
+
+// The first index entry that names none of `count` blocks, or the number of entries where there is none.
+fn first_bad_number(index: &[u8], count: usize) -> usize
+    ensures { λ r. ⌜ r ≡ firstBad (badNumber count) 0 (now (index .entry)) ⌝ }
+{
+    let mut i = 0;
+    let place = loop {
+        if index.len() <= i {
+            break i;
+        }
+        if count <= (index[i] as usize) {
+            break i;
+        }
+        i += 1;
+    };
+    place
+}
+
+// The shape report.
+pub fn shape_report(
+    numbers: Numbers,
+    classes: &[u8],
+    singles: &[u16],
+    pairs: &[u16],
+    index: &[u8],
+    blocks: &[u16],
+) -> Fault
+    ensures { λ r. ⌜ r ≡ firstFault (codePage numbers (now (classes .entry)) (now (singles .entry)) (now (pairs .entry)) (now (index .entry)) (now (blocks .entry))) ⌝ }
+{
+    if numbers.page == 0 {
+        return Fault::Page;
+    }
+    if classes.len() != 256 {
+        return Fault::ClassesSize;
+    }
+    if singles.len() != 256 {
+        return Fault::SinglesSize;
+    }
+    if pairs.len() != 256 * leads_below(classes, 256) {
+        return Fault::PairsSize;
+    }
+    if index.len() != 256 {
+        return Fault::IndexSize;
+    }
+    let count = blocks.len() / 256;
+    if blocks.len() % 256 != 0 {
+        return Fault::BlocksSize;
+    }
+    if count < 1 {
+        return Fault::BlocksSize;
+    }
+    if 256 < count {
+        return Fault::BlocksSize;
+    }
+    let byte = first_bad_class(classes);
+    if byte < 256 {
+        if is_known_class(classes[byte]) {
+            return Fault::Lead(byte);
+        }
+        return Fault::Class(byte);
+    }
+    let place = first_bad_number(index, count);
+    if place < 256 {
+        return Fault::Number(place);
+    }
+    Fault::Good
+}
