@@ -4,7 +4,7 @@ use mathlib.Core.List.{List, [], _∷_}
 use mathlib.Core.Option.{Option, none, some}
 use Prim.Native.Nat.{ℕ, zero, suc, _+_, _*_, _/_, _%_}
 use lib.Dec.{leb, eqb}
-use Rattle.codepage.specs.CodePage.{CodePage, pick, entry, isSingle, isLead, isTrail, leadsBelow}
+use Rattle.codepage.specs.CodePage.{pick, entry, isSingle, isLead, isTrail, leadsBelow}
 use Rattle.codepage.specs.declared.Kind.{Kind}
 use Rattle.codepage.specs.declared.Kind.the-variants.{UndefinedSingle, UndefinedPair, Invalid}
 use Rattle.codepage.specs.declared.Lookup.{Lookup}
@@ -46,22 +46,26 @@ pub record Reader : Type 0 where
   -- what is written for what was found
   pub writes : ℕ → List ℕ
 
-unfoldable pub decoder : CodePage → Reader
-decoder p =
+-- a character's unit
+abbrev pub unitOf : ℕ → List ℕ
+unitOf unit = unit ∷ []
+
+unfoldable pub decoder : (classes singles pairs : List ℕ) → Reader
+decoder classes singles pairs =
     record {
-      waits = λ byte. isLead (entry (p .classes) byte);
-      one = byteAlone (p .classes) (p .singles);
-      two = bytePair (p .classes) (p .pairs);
-      writes = λ unit. unit ∷ [];
+      waits = λ byte. isLead (entry classes byte);
+      one = byteAlone classes singles;
+      two = bytePair classes pairs;
+      writes = unitOf;
     }
 
 -- No unit waits in encoding: each is looked up alone, surrogates too.
-unfoldable pub encoder : CodePage → Reader
-encoder p =
+unfoldable pub encoder : (index blocks : List ℕ) → Reader
+encoder index blocks =
     record {
       waits = λ unit. false;
-      one = unitCode (p .index) (p .blocks);
-      two = λ before unit. unitCode (p .index) (p .blocks) unit;
+      one = unitCode index blocks;
+      two = λ before unit. unitCode index blocks unit;
       writes = bytesOf;
     }
 

@@ -1,0 +1,312 @@
+-- Laws of a run call.
+use mathlib.Core.Bool.{Bool, true, false, not, _&&_, _||_, false≢true}
+use mathlib.Core.List.{List, [], _∷_, _++_}
+use mathlib.Core.Option.{Option, none, some}
+use mathlib.Core.Path.{_≡_, refl, sym, ap, _∙_, subst}
+use Prim.Native.Nat.{ℕ, zero, suc, _+_, _-_, _*_, _^_, _<_, _≤_}
+use native.Mathlib.Omega.{arith}
+use lib.Dec.{leb, ltb, eqb}
+use lib.ListN.{length, getD, drop, length-append, length-drop, List·getD-eq-default}
+use lib.Bits.{bitOr}
+use Rattle.codepage.specs.CodePage.{CodePage, pick, entry, isLead, GoodShape, firstFault, isGood}
+use Rattle.codepage.specs.Reading.{decoder, encoder}
+use Rattle.codepage.proofs.ShapeLaws.{shape-exact}
+use Rattle.convert.specs.declared.Direction.{Direction}
+use Rattle.convert.specs.declared.Direction.the-variants.{Decoding, Encoding}
+use Rattle.convert.specs.declared.Outcome.{Outcome}
+use Rattle.convert.specs.declared.progress.Progress.{Progress}
+use Rattle.convert.specs.declared.Pending.{Pending}
+use Rattle.convert.specs.declared.Pending.the-variants.{Nothing, Byte}
+use Rattle.convert.specs.declared.Policy.{Policy}
+use Rattle.convert.specs.declared.Run.{Run}
+use borrow.Author.Tests.{eqb-true, eqb-false, leb-true, ltb-true, ltb-false, eq-eqb, ne-eqb, le-leb, not-true, not-false}
+use Rattle.convert.specs.Policies.{policyAllowed}
+use Rattle.convert.specs.Runs.{pieceLimit, readLimit, isDecoding, mostWritten, ifPending, validRun}
+use Rattle.convert.specs.Engine.{Converter, converter, limit, Fed}
+use Rattle.convert.specs.Calls.{converterOf, sameDirection, leadIn, check, refusal, Called, pendingUnit, pendingCount, finalUnit, readOf, pendingAfter, endedAfter, runAfter, fedBy, acceptedCall, refusedCall, runCall, over, Answered}
+use Rattle.convert.specs.Steps.{summary, DecodeSizes, optional, hasPending, pendingByte, decodeFed, encodeFed, Finished, Refused}
+use Rattle.convert.proofs.EngineLaws.{waitingUnits, Waits, Shape, shape-from}
+use Rattle.convert.proofs.EncodeLaws.{encoder-waits}
+use Rattle.convert.proofs.EffectLaws.{and-left, and-right}
+
+-- ---- the final unit
+pub final-empty : (pending : Pending) (piece : List ℕ) → length piece ≡ 0 → pending ≡ finalUnit pending piece
+final-empty pending [] e = refl
+final-empty pending (a ∷ l) e = absurd (omega arith)
+
+final-at : (pending : Pending) (a : ℕ) (l : List ℕ) → Byte (getD (a ∷ l) (length l) 0) ≡ finalUnit pending (a ∷ l)
+final-at pending a [] = refl
+final-at pending a (b ∷ l) = final-at (Byte a) b l
+
+pub final-last : (pending : Pending) (piece : List ℕ) → (length piece ≡ 0 → ⊥) → Byte (getD piece (length piece - 1) 0) ≡ finalUnit pending piece
+final-last pending [] e = absurd (e refl)
+final-last pending (a ∷ l) e =
+    let z : suc (length l) - 1 ≡ length l = omega arith in
+    rw z (final-at pending a l)
+
+-- ---- what is read is of the piece
+pub read-le : (pending : Pending) (count answer used : ℕ) → used ≤ pendingCount pending + count → readOf pending count answer used ≤ count
+unfolding readOf
+read-le pending count answer used h = by-answer (eqb answer 1)
+  where
+    by-answer : (b : Bool) → pick b count (used - pendingCount pending) ≤ count
+    by-answer true = omega arith
+    by-answer false = omega arith
+
+-- ---- what a valid run is
+-- the facts behind the run rules
+pub record Valid (run : Run) : Type 0 where
+  pub page : run .page ≡ 0 → ⊥
+  pub policy : policyAllowed (run .direction) (run .policy) ≡ true
+  pub flags : run .flags ≤ 15
+  pub read : run .read ≤ readLimit
+  pub written : run .written ≤ mostWritten (run .direction) (run .read)
+  pub stopped : (ltb (run .flags) 8 || run .ended) ≡ true
+  pub pending : ifPending (run .pending) (isDecoding (run .direction) && (not (run .ended) && ltb (run .written) (run .read))) ≡ true
+
+pub valid-facts : (run : Run) → validRun run ≡ true → Valid run
+unfolding validRun
+valid-facts run e =
+    let e₁ = and-right (not (eqb (run .page) 0)) _ e in
+    let e₂ = and-right (policyAllowed (run .direction) (run .policy)) _ e₁ in
+    let e₃ = and-right (leb (run .flags) 15) _ e₂ in
+    let e₄ = and-right (leb (run .read) readLimit) _ e₃ in
+    let e₅ = and-right (leb (run .written) (mostWritten (run .direction) (run .read))) _ e₄ in
+    let e₆ = and-right (ltb (run .flags) 8 || run .ended) _ e₅ in
+    record {
+      page = eqb-false _ _ (not-true _ (and-left _ _ e));
+      policy = and-left _ _ e₁;
+      flags = leb-true _ _ (and-left _ _ e₂);
+      read = leb-true _ _ (and-left _ _ e₃);
+      written = leb-true _ _ (and-left _ _ e₄);
+      stopped = and-left _ _ e₅;
+      pending = and-left _ _ e₆;
+    }
+
+pub valid-of : (run : Run) → Valid run → validRun run ≡ true
+unfolding validRun
+valid-of run v =
+    rw (
+      ne-eqb _ _ (v .page),
+      v .policy,
+      le-leb _ _ (v .flags),
+      le-leb _ _ (v .read),
+      le-leb _ _ (v .written),
+      v .stopped,
+      v .pending,
+    )
+
+pub valid-read : (run : Run) → validRun run ≡ true → run .read ≤ readLimit
+valid-read run e = valid-facts run e .read
+
+-- ---- what an accepted call may rely on
+pub record Accepted (direction : Direction) (run : Run) (p : CodePage) (count : ℕ) : Type 0 where
+  pub good : GoodShape p
+  pub short : count ≤ pieceLimit
+  pub valid : Valid run
+  pub same : direction ≡ run .direction
+  pub page : run .page ≡ p .page
+  pub lead : leadIn (p .classes) (run .pending) ≡ true
+  pub going : run .ended ≡ false
+  pub total : run .read + count ≤ readLimit
+
+pub same-direction : (a b : Direction) → sameDirection a b ≡ true → a ≡ b
+same-direction Decoding Decoding e = refl
+same-direction Decoding Encoding e = absurd (false≢true e)
+same-direction Encoding Decoding e = absurd (false≢true e)
+same-direction Encoding Encoding e = refl
+
+passed : (number : ℕ) (holds : Bool) (next : ℕ) → (number ≡ 0 → ⊥) → check number holds next ≡ 0 → (holds ≡ true) × (next ≡ 0)
+passed number true next h e = (refl, e)
+passed number false next h e = absurd (h e)
+
+pub accepted-facts : (direction : Direction) (run : Run) (p : CodePage) (count : ℕ) → refusal direction run p count ≡ 0 → Accepted direction run p count
+unfolding refusal
+accepted-facts direction run p count e =
+    let e₁ = passed 10 (isGood (firstFault p)) _ (λ z. omega arith) e in
+    let e₂ = passed 11 (leb count pieceLimit) _ (λ z. omega arith) (e₁ .1) in
+    let e₃ = passed 12 (validRun run) _ (λ z. omega arith) (e₂ .1) in
+    let e₄ = passed 13 (sameDirection direction (run .direction) && eqb (run .page) (p .page)) _ (λ z. omega arith) (e₃ .1) in
+    let e₅ = passed 14 (leadIn (p .classes) (run .pending)) _ (λ z. omega arith) (e₄ .1) in
+    let e₆ = passed 15 (not (run .ended)) _ (λ z. omega arith) (e₅ .1) in
+    let e₇ = passed 16 (leb (run .read + count) readLimit) _ (λ z. omega arith) (e₆ .1) in
+    record {
+      good = shape-exact p .0 (e₁ .0);
+      short = leb-true _ _ (e₂ .0);
+      valid = valid-facts run (e₃ .0);
+      same = same-direction direction (run .direction) (and-left _ _ (e₄ .0));
+      page = eqb-true _ _ (and-right (sameDirection direction (run .direction)) _ (e₄ .0));
+      lead = e₅ .0;
+      going = not-true _ (e₆ .0);
+      total = leb-true _ _ (e₇ .0);
+    }
+
+-- a refusal's number is one of 10 to 16
+pub record Named (number : ℕ) : Type 0 where
+  pub low : 10 ≤ number
+  pub high : number ≤ 16
+
+named-check : (number : ℕ) (holds : Bool) (next : ℕ) → 10 ≤ number → number ≤ 16 → ((next ≡ 0 → ⊥) → Named next) → (check number holds next ≡ 0 → ⊥) → Named (check number holds next)
+named-check number true next l h rest ne = rest ne
+named-check number false next l h rest ne = record { low = l; high = h }
+
+pub refusal-named : (direction : Direction) (run : Run) (p : CodePage) (count : ℕ) → (refusal direction run p count ≡ 0 → ⊥) → Named (refusal direction run p count)
+unfolding refusal
+refusal-named direction run p count =
+    named-check 10 (isGood (firstFault p)) _ (omega arith) (omega arith)
+    (named-check 11 (leb count pieceLimit) _ (omega arith) (omega arith)
+    (named-check 12 (validRun run) _ (omega arith) (omega arith)
+    (named-check 13 (sameDirection direction (run .direction) && eqb (run .page) (p .page)) _ (omega arith) (omega arith)
+    (named-check 14 (leadIn (p .classes) (run .pending)) _ (omega arith) (omega arith)
+    (named-check 15 (not (run .ended)) _ (omega arith) (omega arith)
+    (named-check 16 (leb (run .read + count) readLimit) _ (omega arith) (omega arith)
+    (λ ne. absurd (ne refl))))))))
+
+-- ---- what a call feeds
+pub optional-pending : (pending : Pending) → optional (hasPending pending) (pendingByte pending) ≡ pendingUnit pending
+optional-pending Nothing = refl
+optional-pending (Byte byte) = refl
+
+pub pending-units : (pending : Pending) → length (waitingUnits (pendingUnit pending)) ≡ pendingCount pending
+pending-units Nothing = refl
+pending-units (Byte byte) = refl
+
+pub lead-pending : (classes : List ℕ) (pending : Pending) → leadIn classes pending ≡ true → hasPending pending ≡ true → isLead (entry classes (pendingByte pending)) ≡ true
+lead-pending classes Nothing e h = absurd (false≢true h)
+lead-pending classes (Byte byte) e h = e
+
+-- a run of encoding has nothing pending
+no-pending : (pending : Pending) (direction : Direction) (b : Bool) → Encoding ≡ direction → ifPending pending (isDecoding direction && b) ≡ true → pending ≡ Nothing
+no-pending Nothing direction b e h = refl
+no-pending (Byte byte) direction b e h = absurd (false≢true (subst (λ (d : Direction). (isDecoding d && b) ≡ true) (sym e) h))
+
+pub encoding-pending : (run : Run) (p : CodePage) (count : ℕ) → Accepted Encoding run p count → run .pending ≡ Nothing
+encoding-pending run p count a = no-pending (run .pending) (run .direction) _ (a .same) (a .valid .pending)
+
+waits-pending : (p : CodePage) (policy : Policy) (pending : Pending) → leadIn (p .classes) pending ≡ true → Waits (converterOf Decoding p policy) (pendingUnit pending)
+unfolding converter decoder
+waits-pending p policy Nothing e = tt
+waits-pending p policy (Byte byte) e = e
+
+pub call-waits : (direction : Direction) (run : Run) (p : CodePage) (count : ℕ) → Accepted direction run p count → Waits (converterOf direction p (run .policy)) (pendingUnit (run .pending))
+call-waits Decoding run p count a = waits-pending p (run .policy) (run .pending) (a .lead)
+call-waits Encoding run p count a = rw (encoding-pending run p count a) tt
+
+-- ---- the result
+-- what is written fits the room
+over-length : (before ys after : List ℕ) → after ≡ over before ys → length after ≡ length before → length ys ≤ length before
+unfolding over
+over-length before ys after e h = omega (arith, simp (length-append, length-drop) at (ap length e))
+
+most-twice : (direction : Direction) (read : ℕ) → mostWritten direction read ≤ 2 * read
+most-twice Decoding read = omega arith
+most-twice Encoding read = omega arith
+
+module _ (direction : Direction) (run : Run) (p : CodePage) (piece : List ℕ) (last : Bool) (before : List ℕ) where
+  pub call-shape : Accepted direction run p (length piece) → Shape (converterOf direction p (run .policy)) last (waitingUnits (pendingUnit (run .pending)) ++ piece) (fedBy direction run p piece last (length before))
+  unfolding fedBy
+  call-shape a = shape-from (converterOf direction p (run .policy)) last (limit (length before)) (pendingUnit (run .pending)) piece (call-waits direction run p (length piece) a)
+
+  pub used-le : Accepted direction run p (length piece) → fedBy direction run p piece last (length before) .used ≤ pendingCount (run .pending) + length piece
+  used-le a = omega (arith, call-shape a .within, length-append (waitingUnits (pendingUnit (run .pending))) piece, pending-units (run .pending))
+
+  -- what `accepted` requires
+  pub finish-needs : (s : Progress) (after : List ℕ) → Accepted direction run p (length piece) → s ≡ summary (fedBy direction run p piece last (length before))
+      → after ≡ over before (fedBy direction run p piece last (length before) .output) → length after ≡ length before → length before < 2 ^ 63
+      → (s .answer ≤ 3) × ((s .used ≤ pendingCount (run .pending) + length piece) × (run .read + length piece ≤ readLimit) × (run .written + s .written < 2 ^ 64))
+  unfolding summary
+  finish-needs s after a e f h k = (
+    omega (arith, ap (λ (v : Progress). v .answer) e, call-shape a .known),
+    (
+      omega (arith, ap (λ (v : Progress). v .used) e, used-le a),
+      a .total,
+      omega (
+        arith,
+        ap (λ (v : Progress). v .written) e,
+        over-length before (fedBy direction run p piece last (length before) .output) after f h,
+        a .valid .written,
+        a .valid .read,
+        most-twice (run .direction) (run .read),
+      ),
+    ),
+  )
+
+  pub answered-accepted : (s : Progress) (after : List ℕ) (pending : Pending) (r : Outcome) → refusal direction run p (length piece) ≡ 0
+      → s ≡ summary (fedBy direction run p piece last (length before)) → after ≡ over before (fedBy direction run p piece last (length before) .output)
+      → pending ≡ pendingAfter (run .pending) piece (s .answer) (s .used) → Finished run s pending (length piece) last r
+      → Answered (runCall direction run p piece last (length before)) r before after
+  unfolding runCall acceptedCall summary
+  answered-accepted s after pending r z e f q w =
+      let accepted : eqb (refusal direction run p (length piece)) 0 ≡ true = eq-eqb _ _ z in
+      let answer : s .answer ≡ fedBy direction run p piece last (length before) .answer = ap (λ (v : Progress). v .answer) e in
+      rw accepted
+      (record {
+        number = w .number ∙ answer;
+        read = w .read ∙ ap (λ (v : Progress). readOf (run .pending) (length piece) (v .answer) (v .used)) e;
+        written = w .written ∙ ap (λ (v : Progress). v .written) e;
+        run =
+            w .run′ ∙ ap (λ (n : Pending). runAfter run n (readOf (run .pending) (length piece) (s .answer) (s .used)) (s .written) (s .flags) (endedAfter last (s .answer))) q
+            ∙ ap (λ (v : Progress). runAfter run (pendingAfter (run .pending) piece (v .answer) (v .used)) (readOf (run .pending) (length piece) (v .answer) (v .used)) (v .written) (v .flags) (endedAfter last (v .answer))) e;
+        lent = f;
+      })
+
+  pub answered-refused : (number : ℕ) (r : Outcome) → number ≡ refusal direction run p (length piece) → (number ≡ 0 → ⊥) → Refused number run r
+      → Answered (runCall direction run p piece last (length before)) r before before
+  unfolding runCall refusedCall over
+  answered-refused number r e z w =
+      rw (← e, ne-eqb _ _ z) (record { number = w .number′; read = w .read; written = w .written; run = w .run′; lent = refl })
+
+-- ---- the two loops
+-- what the decode loop requires, and that it feeds what the call feeds
+pub decode-needs : (run : Run) (p : CodePage) (count : ℕ) (has : Bool) (byte : ℕ) → has ≡ hasPending (run .pending) → byte ≡ pendingByte (run .pending) → Accepted Decoding run p count
+    → DecodeSizes (p .classes) (p .singles) (p .pairs) × (has ≡ true → isLead (entry (p .classes) byte) ≡ true)
+decode-needs run p count has byte e f a = (
+  record { all-classes = a .good .classes; all-singles = a .good .singles; all-pairs = a .good .pairs },
+  λ h. rw f (lead-pending (p .classes) (run .pending) (a .lead) (sym e ∙ h)),
+)
+
+pub decode-fed : (run : Run) (p : CodePage) (piece : List ℕ) (last : Bool) (room : ℕ) (has : Bool) (byte : ℕ) → has ≡ hasPending (run .pending) → byte ≡ pendingByte (run .pending)
+    → decodeFed (p .classes) (p .singles) (p .pairs) (run .policy) (p .defaultUnit) last room (optional has byte) piece ≡ fedBy Decoding run p piece last room
+unfolding fedBy
+decode-fed run p piece last room has byte e f =
+    ap (λ (o : Option ℕ). decodeFed (p .classes) (p .singles) (p .pairs) (run .policy) (p .defaultUnit) last room o piece) (rw (e, f) (optional-pending (run .pending)))
+
+-- the same of the encode loop
+index-high : (index : List ℕ) (blocks high : ℕ) → length index ≡ 256 → ((h : ℕ) → h < 256 → 256 * entry index h + 256 ≤ blocks) → 256 ≤ blocks → 256 * entry index high + 256 ≤ blocks
+index-high index blocks high e h l = by-place (ltb high 256) refl
+  where
+    by-place : (t : Bool) → ltb high 256 ≡ t → 256 * entry index high + 256 ≤ blocks
+    by-place true q = h high (ltb-true _ _ q)
+    by-place false q = omega (arith, ltb-false high 256 q, List·getD-eq-default index 0 {n = high} (omega (arith, ltb-false high 256 q)))
+
+pub encode-needs : (run : Run) (p : CodePage) (count : ℕ) → Accepted Encoding run p count
+    → (policyAllowed Encoding (run .policy) ≡ true) × ((length (p .index) ≡ 256) × ((high : ℕ) → 256 * entry (p .index) high + 256 ≤ length (p .blocks)))
+encode-needs run p count a = (
+  rw (a .same) (a .valid .policy),
+  (a .good .index, λ high. index-high (p .index) (length (p .blocks)) high (a .good .index) (a .good .number) (omega (arith, a .good .blocks))),
+)
+
+pub encode-fed : (run : Run) (p : CodePage) (piece : List ℕ) (last : Bool) (room : ℕ) → Accepted Encoding run p (length piece)
+    → encodeFed (p .index) (p .blocks) (run .policy) (p .defaultByte) last room piece ≡ fedBy Encoding run p piece last room
+unfolding fedBy
+encode-fed run p piece last room a = rw (encoding-pending run p (length piece) a)
+
+-- nothing waits in encoding
+pub encode-pending : (run : Run) (p : CodePage) (piece : List ℕ) (last : Bool) (before : List ℕ) (s : Progress) → Accepted Encoding run p (length piece)
+    → s ≡ summary (fedBy Encoding run p piece last (length before)) → Nothing ≡ pendingAfter (run .pending) piece (s .answer) (s .used)
+unfolding pendingAfter summary
+encode-pending run p piece last before s a e =
+    let answer : s .answer ≡ fedBy Encoding run p piece last (length before) .answer = ap (λ (v : Progress). v .answer) e in
+    let never : s .answer ≡ 1 → ⊥ = λ z. no-wait _ (call-shape Encoding run p piece last before a .holds (sym answer ∙ z) .1) in
+    rw (ne-eqb (s .answer) 1 never, encoding-pending run p (length piece) a) (either (eqb (s .used) 0))
+  where
+    either : (t : Bool) → Nothing ≡ pick t Nothing Nothing
+    either true = refl
+    either false = refl
+
+    no-wait : (unit : ℕ) → converterOf Encoding p (run .policy) .waits unit ≡ true → ⊥
+    no-wait unit q = false≢true (sym (encoder-waits (p .index) (p .blocks) (run .policy) (p .defaultByte) unit) ∙ q)
+
+-- what a loop gives is what the call feeds
+pub loop-gives : (F G : Fed) (s : Progress) (before after : List ℕ) → F ≡ G → s ≡ summary F → after ≡ over before (F .output) → (s ≡ summary G) × (after ≡ over before (G .output))
+loop-gives F G s before after q e f = (e ∙ ap summary q, f ∙ ap (λ (v : Fed). over before (v .output)) q)

@@ -1,0 +1,5 @@
+pub mod Policies
+pub mod Engine
+pub mod Runs
+pub mod Calls
+pub mod Steps

@@ -1,0 +1,83 @@
+-- Document 01, "The run and its saved line": the run, its limits and rules, and the start of a run.
+use mathlib.Core.Bool.{Bool, true, false, not, _&&_, _||_}
+use mathlib.Core.List.{List, [], _∷_}
+use mathlib.Core.Option.{Option, none, some}
+use Prim.Native.Nat.{ℕ, _*_}
+use lib.Dec.{leb, ltb, eqb}
+use Rattle.codepage.specs.CodePage.{pick}
+use Rattle.convert.specs.declared.Direction.{Direction}
+use Rattle.convert.specs.declared.Direction.the-variants.{Decoding, Encoding}
+use Rattle.convert.specs.declared.Policy.{Policy}
+use Rattle.convert.specs.declared.Pending.{Pending}
+use Rattle.convert.specs.declared.Pending.the-variants.{Nothing, Byte}
+use Rattle.convert.specs.declared.Run.{Run}
+use Rattle.convert.specs.declared.Started.{Started}
+use Rattle.convert.specs.declared.Started.the-variants.{Accepted, Refused}
+use Rattle.convert.specs.Policies.{policyAllowed}
+
+-- The limits of a run: the units of one piece, and of all that it reads.
+abbrev pub pieceLimit : ℕ
+pieceLimit = 65536
+
+abbrev pub readLimit : ℕ
+readLimit = 4294967295
+
+abbrev pub isDecoding : Direction → Bool
+isDecoding Decoding = true
+isDecoding Encoding = false
+
+-- written at most read (decoding) or twice read (encoding)
+abbrev pub mostWritten : Direction → ℕ → ℕ
+mostWritten Decoding read = read
+mostWritten Encoding read = 2 * read
+
+-- what has to hold if a byte is carried
+abbrev pub ifPending : Pending → Bool → Bool
+ifPending Nothing holds = true
+ifPending (Byte byte) holds = holds
+
+abbrev pub every : List Bool → Bool
+every [] = true
+every (b ∷ bs) = b && every bs
+
+-- The run rules: page not 0; digits allowed; flags at most 15; read within the limit; written at most read or twice read;
+-- flag 8 only if ended; a carried byte only if decoding, not ended, written below read.
+unfoldable pub validRun : Run → Bool
+validRun run =
+    every
+    (not (eqb (run .page) 0)
+    ∷ policyAllowed (run .direction) (run .policy)
+    ∷ leb (run .flags) 15
+    ∷ leb (run .read) readLimit
+    ∷ leb (run .written) (mostWritten (run .direction) (run .read))
+    ∷ (ltb (run .flags) 8 || run .ended)
+    ∷ ifPending (run .pending) (isDecoding (run .direction) && (not (run .ended) && ltb (run .written) (run .read)))
+    ∷ [])
+
+-- An accepted start gives a fresh run.
+abbrev pub fresh : Direction → ℕ → Policy → Run
+fresh direction page policy =
+    record {
+      direction = direction;
+      page = page;
+      policy = policy;
+      pending = Nothing;
+      flags = 0;
+      read = 0;
+      written = 0;
+      ended = false;
+    }
+
+-- What a start gives: 0 and the run, or 17, start numbers not allowed (page 0, a policy digit).
+pub record Start : Type 0 where
+  pub number : ℕ
+  pub run : Option Run
+
+unfoldable pub startOf : Direction → ℕ → Policy → Start
+startOf direction page policy =
+    pick (not (eqb page 0) && policyAllowed direction policy) (record { number = 0; run = some (fresh direction page policy) }) (record { number = 17; run = none })
+
+-- the number and values of each case of the answer
+abbrev pub startedAs : Started → Start
+startedAs (Accepted run) = record { number = 0; run = some run }
+startedAs Refused = record { number = 17; run = none }

@@ -1,0 +1,209 @@
+// A conversion between code page bytes and UTF-16 units as a run that is fed in pieces. (Document 01.)
+mod decoder;
+mod encoder;
+mod finish;
+mod policies;
+mod progress;
+pub mod rules;
+
+ghost use mathlib.Core.Path.{_≡_};
+ghost use mathlib.Core.Bool.{true};
+ghost use Prim.Native.Nat.{ℕ};
+ghost use lib.ListN.{length};
+ghost use Rattle.codepage.specs.CodePage.{codePage};
+ghost use Rattle.convert.specs.declared.Direction.the-variants.{Decoding, Encoding};
+ghost use Rattle.convert.specs.Policies.{policyAllowed};
+ghost use Rattle.convert.specs.Runs.{startOf, startedAs};
+ghost use Rattle.convert.specs.Calls.{runCall, Answered};
+use codepage::Numbers;
+
+// Decoding turns bytes into units, encoding units into bytes.
+pub enum Direction {
+    Decoding,
+    Encoding,
+}
+
+// What is done about a code without a character: a digit for an undefined single, an undefined pair, an invalid code.
+pub struct Policy {
+    pub single: u8,
+    pub pair: u8,
+    pub invalid: u8,
+}
+
+// The lead byte that was read at the end of a piece (document 01: the carried byte), or none.
+pub enum Pending {
+    Nothing,
+    Byte(u8),
+}
+
+// A run.
+pub struct Run {
+    pub direction: Direction,
+    pub page: u16,
+    pub policy: Policy,
+    pub pending: Pending,
+    pub flags: u8,
+    pub read: u64,
+    pub written: u64,
+    pub ended: bool,
+}
+
+// What a start answers: a fresh run, or 17.
+pub enum Started {
+    Accepted(Run),
+    Refused,
+}
+
+// What a run call answers.
+pub enum Answer {
+    // 0: all read, nothing pending, not stopped.
+    AllRead,
+    // 1: all read, a lead byte is pending.
+    LeadPending,
+    // 2: the next code does not fit.
+    OutputFull,
+    // 3: stopped by policy digit 0.
+    Stopped,
+    // 10: the shape of the tables is not good.
+    BadShape,
+    // 11: the piece is over the limit.
+    PieceTooLong,
+    // 12: the run breaks the run rules.
+    InvalidRun,
+    // 13: the run is of the other direction or another page.
+    OtherRun,
+    // 14: the pending byte is no lead byte here.
+    PendingNotLead,
+    // 15: the run has ended.
+    RunEnded,
+    // 16: the read total would exceed the limit.
+    ReadLimit,
+}
+
+// The result of a run call: the units of the piece read, the units of output written, and the new run.
+pub struct Outcome {
+    pub answer: Answer,
+    pub read: usize,
+    pub written: usize,
+    pub run: Run,
+}
+
+impl Run {
+    // The most units of input in one call.
+    pub const PIECE_LIMIT: usize = 65536;
+    // The most units of input in a run.
+    pub const READ_LIMIT: u64 = 4294967295;
+
+    // A fresh run, if the page and the digits are allowed.
+    pub fn start(direction: Direction, page: u16, policy: Policy) -> Started
+        ensures { λ r. ⌜ startedAs r ≡ startOf direction page policy ⌝ }
+    {
+        if page == 0 {
+            return Started::Refused;
+        }
+        if !policies::allowed(direction, policy) {
+            return Started::Refused;
+        }
+        Started::Accepted(Run {
+            direction,
+            page,
+            policy,
+            pending: Pending::Nothing,
+            flags: 0,
+            read: 0,
+            written: 0,
+            ended: false,
+        })
+    }
+}
+
+// One call of a decoding run.
+pub fn decode(
+    run: Run,
+    numbers: Numbers,
+    classes: &[u8],
+    singles: &[u16],
+    pairs: &[u16],
+    index: &[u8],
+    blocks: &[u16],
+    piece: &[u8],
+    last: bool,
+    out: &mut [u16],
+) -> Outcome
+    ensures { λ r. ⌜ Answered (runCall Decoding run (codePage numbers (now (classes .entry)) (now (singles .entry)) (now (pairs .entry)) (now (index .entry)) (now (blocks .entry))) (now (piece .entry)) last (length (now (out .entry)))) r (now (out .entry)) (now (out .exit)) ⌝ }
+{
+    let number = rules::refusal(
+        Direction::Decoding,
+        run,
+        numbers,
+        classes,
+        singles,
+        pairs,
+        index,
+        blocks,
+        piece.len(),
+    );
+    if number != 0 {
+        return finish::refused(number, run);
+    }
+    let policy = run.policy;
+    let pending = run.pending;
+    let waits = finish::has_pending(pending);
+    let lead = finish::pending_byte(pending);
+    let progress = decoder::decode_loop(
+        policy,
+        numbers.default_unit,
+        classes,
+        singles,
+        pairs,
+        waits,
+        lead,
+        piece,
+        last,
+        out,
+    );
+    let next = finish::pending_after(pending, progress, piece);
+    finish::accepted(run, progress, next, piece.len(), last)
+}
+
+// One call of an encoding run.
+pub fn encode(
+    run: Run,
+    numbers: Numbers,
+    classes: &[u8],
+    singles: &[u16],
+    pairs: &[u16],
+    index: &[u8],
+    blocks: &[u16],
+    piece: &[u16],
+    last: bool,
+    out: &mut [u8],
+) -> Outcome
+    ensures { λ r. ⌜ Answered (runCall Encoding run (codePage numbers (now (classes .entry)) (now (singles .entry)) (now (pairs .entry)) (now (index .entry)) (now (blocks .entry))) (now (piece .entry)) last (length (now (out .entry)))) r (now (out .entry)) (now (out .exit)) ⌝ }
+{
+    let number = rules::refusal(
+        Direction::Encoding,
+        run,
+        numbers,
+        classes,
+        singles,
+        pairs,
+        index,
+        blocks,
+        piece.len(),
+    );
+    if number != 0 {
+        return finish::refused(number, run);
+    }
+    let policy = run.policy;
+    let progress = encoder::encode_loop(
+        policy,
+        numbers.default_byte,
+        index,
+        blocks,
+        piece,
+        last,
+        out,
+    );
+    finish::accepted(run, progress, Pending::Nothing, piece.len(), last)
+}

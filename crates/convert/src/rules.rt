@@ -1,0 +1,168 @@
+// The run rules, and the refusals of a run call. (Document 01, "The run and its saved line" and "One call of a run".)
+ghost use mathlib.Core.Path.{_≡_};
+ghost use mathlib.Core.Bool.{not, _&&_, _||_};
+ghost use Prim.Native.Nat.{ℕ, _≤_};
+ghost use lib.Dec.{ltb};
+ghost use lib.ListN.{length};
+ghost use Rattle.codepage.specs.CodePage.{codePage, entry, isLead};
+ghost use Rattle.convert.specs.Runs.{isDecoding, mostWritten, ifPending, validRun};
+ghost use Rattle.convert.specs.Calls.{sameDirection, leadIn, refusal};
+use crate::Direction;
+use crate::Pending;
+use crate::Run;
+use codepage::Numbers;
+
+fn is_decoding(direction: Direction) -> bool
+    ensures { λ r. ⌜ r ≡ isDecoding direction ⌝ }
+{
+    match direction {
+        Direction::Decoding => true,
+        Direction::Encoding => false,
+    }
+}
+
+fn same_direction(a: Direction, b: Direction) -> bool
+    ensures { λ r. ⌜ r ≡ sameDirection a b ⌝ }
+{
+    match a {
+        Direction::Decoding => match b {
+            Direction::Decoding => true,
+            Direction::Encoding => false,
+        },
+        Direction::Encoding => match b {
+            Direction::Decoding => false,
+            Direction::Encoding => true,
+        },
+    }
+}
+
+// The most that can have been written for what was read.
+fn most_written(direction: Direction, read: u64) -> u64
+    requires { ⌜ read ≤ 4294967295 ⌝ }
+    ensures { λ r. ⌜ r ≡ mostWritten direction read ⌝ }
+{
+    match direction {
+        Direction::Decoding => read,
+        Direction::Encoding => 2 * read,
+    }
+}
+
+// Flag 8 only if ended.
+fn end_agrees(flags: u8, ended: bool) -> bool
+    ensures { λ r. ⌜ r ≡ (ltb flags 8 || ended) ⌝ }
+{
+    if flags < 8 {
+        return true;
+    }
+    ended
+}
+
+fn may_wait(direction: Direction, ended: bool, written: u64, read: u64) -> bool
+    ensures { λ r. ⌜ r ≡ (isDecoding direction && (not ended && ltb written read)) ⌝ }
+{
+    if !is_decoding(direction) {
+        return false;
+    }
+    if ended {
+        return false;
+    }
+    written < read
+}
+
+// A pending byte only if decoding, not ended, written below read.
+fn pending_agrees(
+    pending: Pending,
+    direction: Direction,
+    ended: bool,
+    written: u64,
+    read: u64,
+) -> bool
+    ensures { λ r. ⌜ r ≡ ifPending pending (isDecoding direction && (not ended && ltb written read)) ⌝ }
+{
+    match pending {
+        Pending::Nothing => true,
+        Pending::Byte(_) => may_wait(direction, ended, written, read),
+    }
+}
+
+// Whether a run keeps the run rules.
+pub fn valid_run(run: Run) -> bool
+    ensures { λ r. ⌜ r ≡ validRun run ⌝ }
+{
+    let direction = run.direction;
+    let policy = run.policy;
+    let pending = run.pending;
+    if run.page == 0 {
+        return false;
+    }
+    if !crate::policies::allowed(direction, policy) {
+        return false;
+    }
+    if 15 < run.flags {
+        return false;
+    }
+    if Run::READ_LIMIT < run.read {
+        return false;
+    }
+    if most_written(direction, run.read) < run.written {
+        return false;
+    }
+    if !end_agrees(run.flags, run.ended) {
+        return false;
+    }
+    pending_agrees(pending, direction, run.ended, run.written, run.read)
+}
+
+// Whether what is pending, if anything, is a lead byte here.
+fn pending_is_lead(pending: Pending, classes: &[u8]) -> bool
+    requires { ⌜ length (now classes) ≡ 256 ⌝ }
+    ensures { λ r. ⌜ r ≡ leadIn (now (classes .entry)) pending ⌝ }
+{
+    match pending {
+        Pending::Nothing => true,
+        Pending::Byte(byte) => codepage::inner::is_lead(classes, byte),
+    }
+}
+
+// The number of the first check that a call on `count` units fails, or 0.
+pub fn refusal(
+    direction: Direction,
+    run: Run,
+    numbers: Numbers,
+    classes: &[u8],
+    singles: &[u16],
+    pairs: &[u16],
+    index: &[u8],
+    blocks: &[u16],
+    count: usize,
+) -> u8
+    ensures { λ r. ⌜ r ≡ refusal direction run (codePage numbers (now (classes .entry)) (now (singles .entry)) (now (pairs .entry)) (now (index .entry)) (now (blocks .entry))) count ⌝ }
+{
+    if !codepage::inner::good_shape(numbers, classes, singles, pairs, index, blocks) {
+        return 10;
+    }
+    if Run::PIECE_LIMIT < count {
+        return 11;
+    }
+    if !valid_run(run) {
+        return 12;
+    }
+    let own = run.direction;
+    if !same_direction(direction, own) {
+        return 13;
+    }
+    if run.page != numbers.page {
+        return 13;
+    }
+    let pending = run.pending;
+    if !pending_is_lead(pending, classes) {
+        return 14;
+    }
+    if run.ended {
+        return 15;
+    }
+    if Run::READ_LIMIT < run.read + (count as u64) {
+        return 16;
+    }
+    0
+}
