@@ -192,6 +192,11 @@ pub call-waits : (direction : Direction) (run : Run) (p : CodePage) (count : ℕ
 call-waits Decoding run p count a = waits-pending p (run .policy) (run .pending) (a .lead)
 call-waits Encoding run p count a = rw (encoding-pending run p count a) tt
 
+pub feed-shape : (direction : Direction) (run : Run) (p : CodePage) (piece : List ℕ) (last : Bool) (room : ℕ) → Accepted direction run p (length piece)
+    → Shape (converterOf direction p (run .policy)) last (waitingUnits (pendingUnit (run .pending)) ++ piece) (fedBy direction run p piece last room)
+unfolding fedBy
+feed-shape direction run p piece last room a = shape-from (converterOf direction p (run .policy)) last (limit room) (pendingUnit (run .pending)) piece (call-waits direction run p (length piece) a)
+
 -- ---- the result
 -- what is written fits the room
 over-length : (before ys after : List ℕ) → after ≡ over before ys → length after ≡ length before → length ys ≤ length before
@@ -203,12 +208,8 @@ most-twice Decoding read = omega arith
 most-twice Encoding read = omega arith
 
 module _ (direction : Direction) (run : Run) (p : CodePage) (piece : List ℕ) (last : Bool) (before : List ℕ) where
-  pub call-shape : Accepted direction run p (length piece) → Shape (converterOf direction p (run .policy)) last (waitingUnits (pendingUnit (run .pending)) ++ piece) (fedBy direction run p piece last (length before))
-  unfolding fedBy
-  call-shape a = shape-from (converterOf direction p (run .policy)) last (limit (length before)) (pendingUnit (run .pending)) piece (call-waits direction run p (length piece) a)
-
   pub used-le : Accepted direction run p (length piece) → fedBy direction run p piece last (length before) .used ≤ pendingCount (run .pending) + length piece
-  used-le a = omega (arith, call-shape a .within, length-append (waitingUnits (pendingUnit (run .pending))) piece, pending-units (run .pending))
+  used-le a = omega (arith, feed-shape direction run p piece last (length before) a .within, length-append (waitingUnits (pendingUnit (run .pending))) piece, pending-units (run .pending))
 
   -- what `accepted` requires
   pub finish-needs : (s : Progress) (after : List ℕ) → Accepted direction run p (length piece) → s ≡ summary (fedBy direction run p piece last (length before))
@@ -216,7 +217,7 @@ module _ (direction : Direction) (run : Run) (p : CodePage) (piece : List ℕ) (
       → (s .answer ≤ 3) × ((s .used ≤ pendingCount (run .pending) + length piece) × (run .read + length piece ≤ readLimit) × (run .written + s .written < 2 ^ 64))
   unfolding summary
   finish-needs s after a e f h k = (
-    omega (arith, ap (λ (v : Progress). v .answer) e, call-shape a .known),
+    omega (arith, ap (λ (v : Progress). v .answer) e, feed-shape direction run p piece last (length before) a .known),
     (
       omega (arith, ap (λ (v : Progress). v .used) e, used-le a),
       a .total,
@@ -297,7 +298,7 @@ pub encode-pending : (run : Run) (p : CodePage) (piece : List ℕ) (last : Bool)
 unfolding pendingAfter summary
 encode-pending run p piece last before s a e =
     let answer : s .answer ≡ fedBy Encoding run p piece last (length before) .answer = ap (λ (v : Progress). v .answer) e in
-    let never : s .answer ≡ 1 → ⊥ = λ z. no-wait _ (call-shape Encoding run p piece last before a .holds (sym answer ∙ z) .1) in
+    let never : s .answer ≡ 1 → ⊥ = λ z. no-wait _ (feed-shape Encoding run p piece last (length before) a .holds (sym answer ∙ z) .1) in
     rw (ne-eqb (s .answer) 1 never, encoding-pending run p (length piece) a) (either (eqb (s .used) 0))
   where
     either : (t : Bool) → Nothing ≡ pick t Nothing Nothing

@@ -5,3 +5,6 @@ pub mod TurnLaws
 pub mod DecodeLaws
 pub mod EncodeLaws
 pub mod CallLaws
+pub mod CodeLaws
+pub mod BoundLaws
+pub mod RunLaws
