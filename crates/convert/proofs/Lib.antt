@@ -8,3 +8,6 @@ pub mod CallLaws
 pub mod CodeLaws
 pub mod BoundLaws
 pub mod RunLaws
+pub mod RefusalLaws
+pub mod AnswerLaws
+pub mod SampleRows

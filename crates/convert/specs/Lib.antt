@@ -3,3 +3,4 @@ pub mod Engine
 pub mod Runs
 pub mod Calls
 pub mod Steps
+pub mod Sample

@@ -1,0 +1,154 @@
+-- Document 01, "The little page, and sixteen rows to prove": the sample page, and its rows of run calls.
+use mathlib.Core.Bool.{Bool, true, false}
+use mathlib.Core.List.{List, [], _∷_, _++_}
+use mathlib.Core.Path.{_≡_}
+use Prim.Native.Nat.{ℕ, zero, suc, _+_}
+use lib.ListN.{length, set, replicate}
+use Rattle.codepage.specs.CodePage.{CodePage}
+use Rattle.convert.specs.declared.Direction.{Direction}
+use Rattle.convert.specs.declared.Direction.the-variants.{Decoding, Encoding}
+use Rattle.convert.specs.declared.Policy.{Policy}
+use Rattle.convert.specs.declared.Pending.{Pending}
+use Rattle.convert.specs.declared.Pending.the-variants.{Nothing, Byte}
+use Rattle.convert.specs.declared.Run.{Run}
+use Rattle.convert.specs.Runs.{fresh}
+use Rattle.convert.specs.Calls.{Called, runCall}
+
+-- n, n + 1, .., of them `count`
+abbrev pub upFrom : (n count : ℕ) → List ℕ
+upFrom n zero = []
+upFrom n (suc count) = n ∷ upFrom (suc n) count
+
+-- FFFF, `count` times
+abbrev pub noneOf : ℕ → List ℕ
+noneOf count = replicate count 0xFFFF
+
+-- Page 7, default byte 3F, default unit 30FB. 00 to 7F single, same unit. 80 single, none. 81, 82 lead. A0 single, 00A0. All
+-- others never. Second bytes: 40 to 7E. Pairs 8140 is 3000, 8141 is 3001, 827C is 4E00. Units: 0000 to 007F the same, 00A0
+-- gives 20, 3000 gives 8140, 3001 gives 8141, 4E00 gives 827C.
+abbrev pub samplePage : CodePage
+samplePage =
+    record {
+      page = 7;
+      defaultByte = 0x3F;
+      defaultUnit = 0x30FB;
+      classes = replicate 0x40 1 ++ (replicate 0x3F 5 ++ (1 ∷ 1 ∷ 2 ∷ 2 ∷ (replicate 0x1D 0 ++ (1 ∷ replicate 0x5F 0))));
+      singles = upFrom 0 0x80 ++ (noneOf 0x20 ++ (0xA0 ∷ noneOf 0x5F));
+      pairs = set (set (noneOf 256) 0x40 0x3000) 0x41 0x3001 ++ set (noneOf 256) 0x7C 0x4E00;
+      index = set (set (set (replicate 256 0) 0x00 1) 0x30 2) 0x4E 3;
+      blocks =
+          noneOf 256
+          ++ (upFrom 0 0x80 ++ (noneOf 0x20 ++ (0x20 ∷ noneOf 0x5F)) ++ (set (set (noneOf 256) 0x00 0x8140) 0x01 0x8141 ++ set (noneOf 256) 0x00 0x827C));
+    }
+
+-- the policies of the rows, by their digits
+abbrev pub digits : (single pair invalid : ℕ) → Policy
+digits single pair invalid = record { single = single; pair = pair; invalid = invalid }
+
+-- A row: a call of a run on the sample page, and what is seen of it.
+pub record Seen : Type 0 where
+  pub number : ℕ
+  pub read : ℕ
+  pub written : ℕ
+  pub output : List ℕ
+  pub flags : ℕ
+  pub pending : Pending
+  pub ended : Bool
+
+pub record Row : Type 0 where
+  pub direction : Direction
+  pub run : Run
+  pub piece : List ℕ
+  pub last : Bool
+  pub room : ℕ
+  pub seen : Seen
+
+abbrev pub called : Row → Called
+called r = runCall (r .direction) (r .run) samplePage (r .piece) (r .last) (r .room)
+
+abbrev pub seenOf : Called → Seen
+seenOf c =
+    record {
+      number = c .number;
+      read = c .read;
+      written = length (c .output);
+      output = c .output;
+      flags = c .run .flags;
+      pending = c .run .pending;
+      ended = c .run .ended;
+    }
+
+abbrev pub RowHolds : Row → Type 0
+RowHolds r = seenOf (called r) ≡ r .seen
+
+-- room enough
+abbrev pub ample : ℕ
+ample = 9
+
+-- a call on a fresh run of the sample page, marked last
+abbrev pub lastCall : Direction → Policy → (room : ℕ) → List ℕ → Seen → Row
+lastCall direction policy room piece seen = record { direction = direction; run = fresh direction 7 policy; piece = piece; last = true; room = room; seen = seen }
+
+-- all read, and the run ended
+abbrev pub allRead : (read : ℕ) → (output : List ℕ) → (flags : ℕ) → Seen
+allRead read output flags = record { number = 0; read = read; written = length output; output = output; flags = flags; pending = Nothing; ended = true }
+
+abbrev pub row4 : Row
+row4 =
+    record {
+      direction = Decoding;
+      run = fresh Decoding 7 (digits 5 5 5);
+      piece = 0x82 ∷ [];
+      last = false;
+      room = ample;
+      seen = record { number = 1; read = 1; written = 0; output = []; flags = 0; pending = Byte 0x82; ended = false };
+    }
+
+abbrev pub rows : List Row
+rows =
+    -- 1. empty: nothing, 0, ended
+    lastCall Decoding (digits 5 5 5) ample [] (allRead 0 [] 0)
+    -- 2. 41: 0041
+    ∷ lastCall Decoding (digits 5 5 5) ample (0x41 ∷ []) (allRead 1 (0x0041 ∷ []) 0)
+    -- 3. 82 7C: 4E00
+    ∷ lastCall Decoding (digits 5 5 5) ample (0x82 ∷ 0x7C ∷ []) (allRead 2 (0x4E00 ∷ []) 0)
+    -- 4. 82 not last: 1, read 1, written 0; then 7C last: 4E00
+    ∷ row4
+    ∷ record {
+      direction = Decoding;
+      run = called row4 .run;
+      piece = 0x7C ∷ [];
+      last = true;
+      room = ample;
+      seen = allRead 1 (0x4E00 ∷ []) 0;
+    }
+    -- 5. 82: 30FB, flag 4
+    ∷ lastCall Decoding (digits 5 5 5) ample (0x82 ∷ []) (allRead 1 (0x30FB ∷ []) 4)
+    -- 6. 81 5A: 30FB, flag 2
+    ∷ lastCall Decoding (digits 5 5 5) ample (0x81 ∷ 0x5A ∷ []) (allRead 2 (0x30FB ∷ []) 2)
+    -- 7. 81 0A 41: 30FB 0041, flag 4
+    ∷ lastCall Decoding (digits 5 5 5) ample (0x81 ∷ 0x0A ∷ 0x41 ∷ []) (allRead 3 (0x30FB ∷ 0x0041 ∷ []) 4)
+    -- 8. 83 41: 30FB 0041, flag 4
+    ∷ lastCall Decoding (digits 5 5 5) ample (0x83 ∷ 0x41 ∷ []) (allRead 2 (0x30FB ∷ 0x0041 ∷ []) 4)
+    -- 9. 80, policy 655: F180, flag 1
+    ∷ lastCall Decoding (digits 6 5 5) ample (0x80 ∷ []) (allRead 1 (0xF180 ∷ []) 1)
+    -- 10. 41 42, room 1: 0041, answer 2, read 1
+    ∷ lastCall Decoding (digits 5 5 5) 1 (0x41 ∷ 0x42 ∷ [])
+    (record { number = 2; read = 1; written = 1; output = 0x0041 ∷ []; flags = 0; pending = Nothing; ended = false })
+    -- 11. 80 41, policy 055: nothing, 3, read 1, flags 9, ended
+    ∷ lastCall Decoding (digits 0 5 5) ample (0x80 ∷ 0x41 ∷ [])
+    (record { number = 3; read = 1; written = 0; output = []; flags = 9; pending = Nothing; ended = true })
+    -- 12. encode 3000, room 1: answer 2, read 0, byte untouched
+    ∷ lastCall Encoding (digits 5 5 5) 1 (0x3000 ∷ [])
+    (record { number = 2; read = 0; written = 0; output = []; flags = 0; pending = Nothing; ended = false })
+    -- 13. encode 3000, room 2: 81 40
+    ∷ lastCall Encoding (digits 5 5 5) 2 (0x3000 ∷ []) (allRead 1 (0x81 ∷ 0x40 ∷ []) 0)
+    -- 14. encode 00A0: 20, no flag
+    ∷ lastCall Encoding (digits 5 5 5) ample (0x00A0 ∷ []) (allRead 1 (0x20 ∷ []) 0)
+    -- 15. encode D83D DE00: 3F 3F, flag 1
+    ∷ lastCall Encoding (digits 5 5 5) ample (0xD83D ∷ 0xDE00 ∷ []) (allRead 2 (0x3F ∷ 0x3F ∷ []) 1)
+    ∷ []
+
+abbrev pub AllHold : List Row → Type 0
+AllHold [] = Unit {0}
+AllHold (r ∷ rs) = RowHolds r × AllHold rs
