@@ -23,7 +23,7 @@ use Rattle.convert.specs.declared.policies.Action.{Action}
 use Rattle.convert.specs.declared.policies.Action.the-variants.{Stop, Skip, Write}
 use Rattle.convert.specs.Policies.{digitOf, flagOf, actionOf}
 use Rattle.convert.specs.Engine.{Effect, acted, effectOf, Converter, converter, Room, limit, fits, less, Fed, halt, after, stopAt, takeWhen, takeCode, feedFrom}
-use Rattle.convert.specs.Calls.{converterOf}
+use Rattle.convert.specs.Calls.{converterOf, defaultOf}
 use Rattle.convert.proofs.EngineLaws.{waitingUnits, feed-wait, feed-one}
 use lib.Dec.{leb}
 
@@ -140,11 +140,11 @@ pub bounded-of : (direction : Direction) (p : CodePage) (policy : Policy) → Bo
 unfolding converter decoder encoder
 bounded-of Decoding p policy =
     record {
-      one = λ a. small-effect 1 unitOf policy (p .defaultUnit) a _ (omega arith) (λ value. omega arith);
-      two = λ a b. small-effect 1 unitOf policy (p .defaultUnit) a _ (omega arith) (λ value. omega arith);
+      one = λ a. small-effect 1 unitOf policy (defaultOf Decoding p) a _ (omega arith) (λ value. omega arith);
+      two = λ a b. small-effect 1 unitOf policy (defaultOf Decoding p) a _ (omega arith) (λ value. omega arith);
     }
 bounded-of Encoding p policy =
     record {
-      one = λ a. small-effect 2 bytesOf policy (p .defaultByte) a _ (omega arith) bytes-le;
-      two = λ a b. small-effect 2 bytesOf policy (p .defaultByte) a _ (omega arith) bytes-le;
+      one = λ a. small-effect 2 bytesOf policy (defaultOf Encoding p) a _ (omega arith) bytes-le;
+      two = λ a b. small-effect 2 bytesOf policy (defaultOf Encoding p) a _ (omega arith) bytes-le;
     }

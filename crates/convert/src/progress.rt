@@ -63,11 +63,11 @@ pub fn take_units(d: Doing, size: usize, s: Progress, out: &mut [u16]) -> Progre
     if d.count == 0 {
         return taken(d, size, s, 0);
     }
-    if at < out.len() {
-        out[at] = d.value;
-        return taken(d, size, s, 1);
+    if out.len() <= at {
+        return full(s);
     }
-    full(s)
+    out[at] = d.value;
+    taken(d, size, s, 1)
 }
 
 // Takes a unit in encoding: stops, writes its bytes if all fit, or skips it.

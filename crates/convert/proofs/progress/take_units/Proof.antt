@@ -1,6 +1,3 @@
-use mathlib.Core.Path.{_≡_, sym, subst}
-use Rattle.convert.specs.declared.progress.Progress.{Progress}
-use Rattle.convert.specs.Steps.{unitEffect, Took}
 use Rattle.convert.proofs.DecodeLaws.{units-stop, units-none, units-one, units-full}
 use borrow.Author.Needs.{needs}
 use Rattle.convert.proofs.progress.take_units.Statement.{statement}
@@ -28,32 +25,32 @@ returns-2 : tie.Need-returns-2
 returns-2 c = rw (c .taken .ensures) (units-none _ _ _ _ (c .before .before .before .before .before .pre .0) (c .before .before .before .if1 .left) (c .before .if2 .taken))
 
 -- src/progress.rt:67:9
-mul-out : tie.Need-mul-out
-mul-out c = search needs
-
--- src/progress.rt:67:9
-slice-write-out : tie.Need-slice-write-out
-slice-write-out c = search needs
-
--- src/progress.rt:68:9
-taken-requires-2 : tie.Need-taken-requires-2
-taken-requires-2 c κs = search needs
-
--- src/progress.rt:68:9
-same-length : tie.Need-same-length
-same-length c = search needs
-
--- src/progress.rt:68:9
-returns-3 : tie.Need-returns-3
-returns-3 c = rw (c .taken2 .ensures) (units-one _ _ _ _ (c .before .before .before .before .before .before .pre .0) (c .before .before .before .before .if1 .left) (c .before .before .if2 .left) (c .before .if3 .taken))
-
--- src/progress.rt:70:5
 full-requires : tie.Need-full-requires
 full-requires c κs = search needs
 
+-- src/progress.rt:67:9
+returns-3 : tie.Need-returns-3
+returns-3 c = rw (c .full .ensures) (units-full _ _ _ _ (c .before .before .before .before .before .before .pre .0) (c .before .before .before .before .if1 .left) (c .before .before .if2 .left) (c .before .if3 .taken))
+
+-- src/progress.rt:69:5
+mul-out : tie.Need-mul-out
+mul-out c = search needs
+
+-- src/progress.rt:69:5
+slice-write-out : tie.Need-slice-write-out
+slice-write-out c = search needs
+
+-- src/progress.rt:70:5
+taken-requires-2 : tie.Need-taken-requires-2
+taken-requires-2 c κs = search needs
+
+-- src/progress.rt:55:1
+same-length : tie.Need-same-length
+same-length c = search needs
+
 -- src/progress.rt:55:1
 returns-4 : tie.Need-returns-4
-returns-4 c = rw (c .full .ensures) (units-full _ _ _ _ (c .before .before .before .before .before .before .pre .0) (c .before .before .before .before .if1 .left) (c .before .before .if2 .left) (c .before .if3 .left))
+returns-4 c = rw (c .taken2 .ensures) (units-one _ _ _ _ (c .before .before .before .before .before .before .pre .0) (c .before .before .before .before .if1 .left) (c .before .before .if2 .left) (c .before .if3 .left))
 
 pub take-units-spec : {M : Type 1} → statement M
 take-units-spec =
@@ -63,10 +60,10 @@ take-units-spec =
     returns
     taken-requires
     returns-2
+    full-requires
+    returns-3
     mul-out
     slice-write-out
     taken-requires-2
     same-length
-    returns-3
-    full-requires
     returns-4)
