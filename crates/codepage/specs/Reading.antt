@@ -4,6 +4,7 @@ use mathlib.Core.List.{List, [], _∷_}
 use mathlib.Core.Option.{Option, none, some}
 use Prim.Native.Nat.{ℕ, zero, suc, _+_, _*_, _/_, _%_}
 use lib.Dec.{leb, eqb}
+use lib.ListN.{length}
 use Rattle.codepage.specs.CodePage.{pick, entry, isSingle, isLead, isTrail, leadsBelow}
 use Rattle.codepage.specs.declared.Kind.{Kind}
 use Rattle.codepage.specs.declared.Kind.the-variants.{UndefinedSingle, UndefinedPair, Invalid}
@@ -69,22 +70,30 @@ encoder index blocks =
       writes = bytesOf;
     }
 
--- A code of a text: its first unit, how many units it has, and what it means.
+-- A code of a text: its units, a first and perhaps one more, and what it means.
 pub record Code : Type 0 where
   pub first : ℕ
-  pub size : ℕ
+  pub more : List ℕ
   pub means : Lookup
+
+abbrev pub unitsOf : Code → List ℕ
+unitsOf k = k .first ∷ k .more
+
+abbrev pub sizeOf : Code → ℕ
+sizeOf k = length (unitsOf k)
+
+abbrev pub alone : Reader → ℕ → Code
+alone r a = record { first = a; more = []; means = r .one a }
+
+abbrev pub together : Reader → ℕ → ℕ → Code
+together r a b = record { first = a; more = b ∷ []; means = r .two a b }
 
 -- The codes of a text, one after the other, with a waiting unit or none before it.
 unfoldable pub codesFrom : Reader → Option ℕ → List ℕ → List Code
 codesFrom r none [] = []
-codesFrom r (some c) [] = record { first = c; size = 1; means = r .one c } ∷ []
-codesFrom r none (a ∷ text) =
-    elim (r .waits a) [
-      | true ↦ codesFrom r (some a) text
-      | false ↦ record { first = a; size = 1; means = r .one a } ∷ codesFrom r none text
-    ]
-codesFrom r (some c) (b ∷ text) = record { first = c; size = 2; means = r .two c b } ∷ codesFrom r none text
+codesFrom r (some a) [] = alone r a ∷ []
+codesFrom r none (a ∷ text) = elim (r .waits a) [ true ↦ codesFrom r (some a) text | false ↦ alone r a ∷ codesFrom r none text ]
+codesFrom r (some a) (b ∷ text) = together r a b ∷ codesFrom r none text
 
 unfoldable pub codes : Reader → List ℕ → List Code
 codes r text = codesFrom r none text

@@ -11,7 +11,7 @@ use lib.Dec.{leb}
 use lib.ListN.{length, length-append}
 use lib.Bits.{bitOr, or-zero-l}
 use borrow.Author.Tests.{leb-true, leb-false}
-use Rattle.codepage.specs.Reading.{Reader, Code, codesFrom}
+use Rattle.codepage.specs.Reading.{Reader, Code, sizeOf, codesFrom}
 use Rattle.convert.specs.declared.Policy.{Policy}
 use Rattle.convert.specs.Policies.{stoppedFlag}
 use Rattle.convert.specs.Engine.{Effect, effectOf, Converter, converter, Room, limit, fits, less, Fed, halt, after, stopAt, takeWhen, takeCode, feedFrom}
@@ -243,7 +243,7 @@ answers-exact v last room p l = reached-from v last room p l
 
 -- The codes of a call marked last are those of the text under the policy.
 abbrev pub stepOf : Reader → Policy → ℕ → Code → Step
-stepOf r policy default k = step (k .size) (effectOf (r .writes) policy default (k .first) (k .means))
+stepOf r policy default k = step (sizeOf k) (effectOf (r .writes) policy default (k .first) (k .means))
 
 module _ (r : Reader) (policy : Policy) (default : ℕ) where
   steps-codes-one : (a : ℕ) (l : List ℕ) (t : Bool) → r .waits a ≡ t → steps (converter r policy default) true none l ≡ map (stepOf r policy default) (codesFrom r none l)

@@ -5,23 +5,17 @@ use mathlib.Core.Option.{Option, none, some}
 use mathlib.Core.Path.{_≡_, refl, sym, ap, _∙_}
 use Prim.Native.Nat.{ℕ, zero, suc, _+_}
 use lib.ListN.{length, drop}
-use Rattle.codepage.specs.Reading.{Reader, Code, codesFrom, codes}
+use Rattle.codepage.specs.Reading.{Reader, Code, sizeOf, alone, together, codesFrom, codes}
 use Rattle.convert.specs.declared.Policy.{Policy}
 use Rattle.convert.specs.Engine.{Effect, effectOf, Converter, converter, Room, endless, fits, less, Fed, halt, takeCode, feedFrom, feed, takeAll, whole}
 use Rattle.convert.proofs.EngineLaws.{uncut, feed-wait, feed-one}
 
 -- ---- a code is fixed by at most two units
-abbrev pub single : Reader → ℕ → Code
-single r a = record { first = a; size = 1; means = r .one a }
-
-abbrev pub double : Reader → ℕ → ℕ → Code
-double r a b = record { first = a; size = 2; means = r .two a b }
-
 -- the code that begins with a, before the unit b or at the text's end
 abbrev pub firstWhen : (waits : Bool) → Reader → ℕ → Option ℕ → Code
-firstWhen false r a next = single r a
-firstWhen true r a none = single r a
-firstWhen true r a (some b) = double r a b
+firstWhen false r a next = alone r a
+firstWhen true r a none = alone r a
+firstWhen true r a (some b) = together r a b
 
 abbrev pub firstOf : List ℕ → Option ℕ
 firstOf [] = none
@@ -31,26 +25,26 @@ pub codes-wait : (r : Reader) (a : ℕ) (l : List ℕ) → r .waits a ≡ true �
 unfolding codesFrom
 codes-wait r a l e = rw (e, codesFrom)
 
-pub codes-one : (r : Reader) (a : ℕ) (l : List ℕ) → r .waits a ≡ false → codesFrom r none (a ∷ l) ≡ single r a ∷ codesFrom r none l
+pub codes-one : (r : Reader) (a : ℕ) (l : List ℕ) → r .waits a ≡ false → codesFrom r none (a ∷ l) ≡ alone r a ∷ codesFrom r none l
 unfolding codesFrom
 codes-one r a l e = rw (e, codesFrom)
 
 codes-first : (r : Reader) (a : ℕ) (l : List ℕ) (t : Bool) → r .waits a ≡ t
-    → codesFrom r none (a ∷ l) ≡ firstWhen t r a (firstOf l) ∷ codesFrom r none (drop (firstWhen t r a (firstOf l) .size) (a ∷ l))
+    → codesFrom r none (a ∷ l) ≡ firstWhen t r a (firstOf l) ∷ codesFrom r none (drop (sizeOf (firstWhen t r a (firstOf l))) (a ∷ l))
 codes-first r a l false e = codes-one r a l e
 codes-first r a [] true e = codes-wait r a [] e ∙ end
   where
-    end : codesFrom r (some a) [] ≡ single r a ∷ codesFrom r none []
+    end : codesFrom r (some a) [] ≡ alone r a ∷ codesFrom r none []
     end = unfold codesFrom in refl
 codes-first r a (b ∷ l) true e = codes-wait r a (b ∷ l) e ∙ pair
   where
-    pair : codesFrom r (some a) (b ∷ l) ≡ double r a b ∷ codesFrom r none l
+    pair : codesFrom r (some a) (b ∷ l) ≡ together r a b ∷ codesFrom r none l
     pair = unfold codesFrom in refl
 
 -- A CODE IS FIXED BY AT MOST TWO UNITS: the first code is a function of the text's first two, and the rest are the codes of
 -- what is left.
 pub codes-fixed : (r : Reader) (a : ℕ) (l : List ℕ)
-    → codes r (a ∷ l) ≡ firstWhen (r .waits a) r a (firstOf l) ∷ codes r (drop (firstWhen (r .waits a) r a (firstOf l) .size) (a ∷ l))
+    → codes r (a ∷ l) ≡ firstWhen (r .waits a) r a (firstOf l) ∷ codes r (drop (sizeOf (firstWhen (r .waits a) r a (firstOf l))) (a ∷ l))
 unfolding codes
 codes-fixed r a l = codes-first r a l (r .waits a) refl
 

@@ -7,7 +7,7 @@ use Prim.Native.Nat.{ℕ, zero, suc, _+_, _-_}
 use lib.Dec.{leb}
 use lib.ListN.{length}
 use lib.Bits.{bitOr}
-use Rattle.codepage.specs.Reading.{Reader, Code, codes}
+use Rattle.codepage.specs.Reading.{Reader, Code, sizeOf, codes}
 use Rattle.codepage.specs.declared.Lookup.{Lookup}
 use Rattle.codepage.specs.declared.Lookup.the-variants.{Found, Lacking}
 use Rattle.convert.specs.declared.Policy.{Policy}
@@ -105,7 +105,7 @@ feed v last room units = feedFrom v last room none units
 -- The whole reading: code after code of the text, with room for all, to the text's end or the first stop.
 unfoldable pub takeAll : Reader → Policy → ℕ → List Code → Fed
 takeAll r policy default [] = halt 0
-takeAll r policy default (k ∷ ks) = takeCode endless (k .size) (effectOf (r .writes) policy default (k .first) (k .means)) (takeAll r policy default ks)
+takeAll r policy default (k ∷ ks) = takeCode endless (sizeOf k) (effectOf (r .writes) policy default (k .first) (k .means)) (takeAll r policy default ks)
 
 unfoldable pub whole : Reader → Policy → ℕ → List ℕ → Fed
 whole r policy default text = takeAll r policy default (codes r text)
