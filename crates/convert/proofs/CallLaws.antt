@@ -273,7 +273,7 @@ decode-fed run p piece last room has byte e f =
     ap (λ (o : Option ℕ). decodeFed (p .classes) (p .singles) (p .pairs) (run .policy) (p .defaultUnit) last room o piece) (rw (e, f) (optional-pending (run .pending)))
 
 -- the same of the encode loop
-index-high : (index : List ℕ) (blocks high : ℕ) → length index ≡ 256 → ((h : ℕ) → h < 256 → 256 * entry index h + 256 ≤ blocks) → 256 ≤ blocks → 256 * entry index high + 256 ≤ blocks
+pub index-high : (index : List ℕ) (blocks high : ℕ) → length index ≡ 256 → ((h : ℕ) → h < 256 → 256 * entry index h + 256 ≤ blocks) → 256 ≤ blocks → 256 * entry index high + 256 ≤ blocks
 index-high index blocks high e h l = by-place (ltb high 256) refl
   where
     by-place : (t : Bool) → ltb high 256 ≡ t → 256 * entry index high + 256 ≤ blocks

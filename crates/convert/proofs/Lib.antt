@@ -11,3 +11,5 @@ pub mod RunLaws
 pub mod RefusalLaws
 pub mod AnswerLaws
 pub mod SampleRows
+pub mod CountLaws
+pub mod TextLaws

@@ -134,17 +134,16 @@ module _ (direction : Direction) (run : Run) (p : CodePage) (count : ℕ) where
         );
         not-lead = (
           λ e. let q = number 4 .0 e in
-          (good (q .0), leb-true _ _ (q .1 .0), q .1 .1 .0, same (q .1 .1 .1 .0) .0, same (q .1 .1 .1 .0) .1, q .1 .1 .1 .1),
+              (good (q .0), leb-true _ _ (q .1 .0), q .1 .1 .0, same (q .1 .1 .1 .0) .0, same (q .1 .1 .1 .0) .1, q .1 .1 .1 .1),
           λ h. number 4 .1 (is-good (h .0), (le-leb _ _ (h .1), (h .2, (is-same (h .3) (h .4), h .5)))),
         );
         ended = (
           λ e. let q = number 5 .0 e in
-          (good (q .0), leb-true _ _ (q .1 .0), q .1 .1 .0, same (q .1 .1 .1 .0) .0, same (q .1 .1 .1 .0) .1, q .1 .1 .1 .1 .0, not-false _ (q .1 .1 .1 .1 .1)),
+              (good (q .0), leb-true _ _ (q .1 .0), q .1 .1 .0, same (q .1 .1 .1 .0) .0, same (q .1 .1 .1 .0) .1, q .1 .1 .1 .1 .0, not-false _ (q .1 .1 .1 .1 .1)),
           λ h. number 5 .1 (is-good (h .0), (le-leb _ _ (h .1), (h .2, (is-same (h .3) (h .4), (h .5, rw (h .6)))))),
         );
         read-limit = (
-          λ e. let q = number 6 .0 e in
-          (
+          λ e. let q = number 6 .0 e in (
             good (q .0),
             leb-true _ _ (q .1 .0),
             q .1 .1 .0,
@@ -157,8 +156,7 @@ module _ (direction : Direction) (run : Run) (p : CodePage) (count : ℕ) where
           λ h. number 6 .1 (is-good (h .0), (le-leb _ _ (h .1), (h .2, (is-same (h .3) (h .4), (h .5, (rw (h .6), lt-leb _ _ (h .7))))))),
         );
         accepted = (
-          λ e. let q = none .0 e in
-          (
+          λ e. let q = none .0 e in (
             good (q .0),
             leb-true _ _ (q .1 .0),
             q .1 .1 .0,

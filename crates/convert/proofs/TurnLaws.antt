@@ -17,8 +17,23 @@ use Rattle.convert.proofs.LoopLaws.{Going, Ends, going-start, going-too
 next : (i : ℕ) (l : List ℕ) → i < length l → drop i l ≡ getD l i 0 ∷ drop (i + 1) l
 next i l h = rw (add-one, drop-cons l i 0)
 
-no-more : (i : ℕ) (l : List ℕ) → length l ≤ i → drop i l ≡ []
+pub no-more : (i : ℕ) (l : List ℕ) → length l ≤ i → drop i l ≡ []
 no-more i l h = drop-of-length-le l h
+
+-- ---- the code at index i of a piece, in any room
+module _ (v : Converter) (last : Bool) (piece : List ℕ) (i : ℕ) (k : Effect) (h : i < length piece) where
+  pub two-step : (waits : Bool) (first : ℕ) → waits ≡ true → k ≡ v .two first (getD piece i 0) → (room : Room)
+      → feedFrom v last room (optional waits first) (drop i piece) ≡ takeCode room 2 k (feedFrom v last (less room (length (k .writes))) none (drop (i + 1) piece))
+  unfolding feedFrom
+  two-step waits first e q room = rw (e, next i piece h, q)
+
+  pub one-step : (waits : Bool) (first : ℕ) → waits ≡ false → v .waits (getD piece i 0) ≡ false → k ≡ v .one (getD piece i 0) → (room : Room)
+      → feedFrom v last room (optional waits first) (drop i piece) ≡ takeCode room 1 k (feedFrom v last (less room (length (k .writes))) none (drop (i + 1) piece))
+  one-step waits first e w q room = rw (e, next i piece h, q) (feed-one v last room (getD piece i 0) (drop (i + 1) piece) w)
+
+pub wait-step : (v : Converter) (last : Bool) (piece : List ℕ) (i : ℕ) → i < length piece → (waits : Bool) (first : ℕ) → waits ≡ false → v .waits (getD piece i 0) ≡ true → (room : Room)
+    → feedFrom v last room (optional waits first) (drop i piece) ≡ feedFrom v last room (some (getD piece i 0)) (drop (i + 1) piece)
+wait-step v last piece i h waits first e w room = rw (e, next i piece h) (feed-wait v last room (getD piece i 0) (drop (i + 1) piece) w)
 
 -- The loop's invariant, at index i of the piece: a unit waits or none, and F is what the whole call gives.
 pub record Loop (v : Converter) (last : Bool) (F : Fed) (out₀ piece out : List ℕ) (waits : Bool) (first : ℕ) (s : Progress) (i : ℕ) : Type 0 where
@@ -37,7 +52,6 @@ module _ {v : Converter} {last : Bool} {F : Fed} {out₀ piece out : List ℕ} {
   -- the unit waits
   pub turn-wait : waits ≡ false → i < length piece → v .waits (getD piece i 0) ≡ true → Loop v last F out₀ piece out true (getD piece i 0) s (i + 1)
   turn-wait e h w =
-      let g′ : Going v last F out₀ out s none (getD piece i 0 ∷ drop (i + 1) piece) = rw (e, next i piece h) at (g .at) in
       record {
         inside = omega arith;
         short = g .short;
@@ -46,21 +60,12 @@ module _ {v : Converter} {last : Bool} {F : Fed} {out₀ piece out : List ℕ} {
         at =
             record {
               zero-so-far = g .at .zero-so-far;
-              sum = g′ .sum ∙ ap (sofar s out) (feed-wait v last (limit (length out - s .written)) (getD piece i 0) (drop (i + 1) piece) w);
+              sum = g .at .sum ∙ ap (sofar s out) (wait-step v last piece i h waits first e w (limit (length out - s .written)));
               same = g .at .same;
               within = g .at .within;
               kept = g .at .kept;
             };
       }
-
-  two-step : (k : Effect) → waits ≡ true → i < length piece → k ≡ v .two first (getD piece i 0) → (room : Room)
-      → feedFrom v last room (optional waits first) (drop i piece) ≡ takeCode room 2 k (feedFrom v last (less room (length (k .writes))) none (drop (i + 1) piece))
-  unfolding feedFrom
-  two-step k e h q room = rw (e, next i piece h, q)
-
-  one-step : (k : Effect) → waits ≡ false → i < length piece → v .waits (getD piece i 0) ≡ false → k ≡ v .one (getD piece i 0) → (room : Room)
-      → feedFrom v last room (optional waits first) (drop i piece) ≡ takeCode room 1 k (feedFrom v last (less room (length (k .writes))) none (drop (i + 1) piece))
-  one-step k e h w q room = rw (e, next i piece h, q) (feed-one v last room (getD piece i 0) (drop (i + 1) piece) w)
 
   module _ {k : Effect} {r : Progress} {out′ : List ℕ} where
     -- a code of two units is taken, or ends the call
@@ -71,11 +76,11 @@ module _ {v : Converter} {last : Bool} {F : Fed} {out₀ piece out : List ℕ} {
           short = g .short;
           few = omega (arith, g .few, w .more z .1);
           waiting = λ y. absurd (false≢true y);
-          at = going-took v last F out₀ out s k 2 (optional waits first) (drop i piece) (drop (i + 1) piece) r out′ (g .at) (two-step k e h q) w z;
+          at = going-took v last F out₀ out s k 2 (optional waits first) (drop i piece) (drop (i + 1) piece) r out′ (g .at) (two-step v last piece i k h waits first e q) w z;
         }
 
     pub stop-two : Took k 2 s out r out′ → waits ≡ true → i < length piece → k ≡ v .two first (getD piece i 0) → (r .answer ≡ 0 → ⊥) → Ends F out₀ out′ r
-    stop-two w e h q z = ended-took v last F out₀ out s k 2 (optional waits first) (drop i piece) (drop (i + 1) piece) r out′ (g .at) (two-step k e h q) w z
+    stop-two w e h q z = ended-took v last F out₀ out s k 2 (optional waits first) (drop i piece) (drop (i + 1) piece) r out′ (g .at) (two-step v last piece i k h waits first e q) w z
 
     -- a code of one unit is taken, or ends the call
     pub turn-one : Took k 1 s out r out′ → waits ≡ false → i < length piece → v .waits (getD piece i 0) ≡ false → k ≡ v .one (getD piece i 0) → r .answer ≡ 0
@@ -86,12 +91,12 @@ module _ {v : Converter} {last : Bool} {F : Fed} {out₀ piece out : List ℕ} {
           short = g .short;
           few = omega (arith, g .few, u .more z .1);
           waiting = g .waiting;
-          at = rw e (going-took v last F out₀ out s k 1 (optional waits first) (drop i piece) (drop (i + 1) piece) r out′ (g .at) (one-step k e h w q) u z);
+          at = rw e (going-took v last F out₀ out s k 1 (optional waits first) (drop i piece) (drop (i + 1) piece) r out′ (g .at) (one-step v last piece i k h waits first e w q) u z);
         }
 
     pub stop-one : Took k 1 s out r out′ → waits ≡ false → i < length piece → v .waits (getD piece i 0) ≡ false → k ≡ v .one (getD piece i 0) → (r .answer ≡ 0 → ⊥)
         → Ends F out₀ out′ r
-    stop-one u e h w q z = ended-took v last F out₀ out s k 1 (optional waits first) (drop i piece) (drop (i + 1) piece) r out′ (g .at) (one-step k e h w q) u z
+    stop-one u e h w q z = ended-took v last F out₀ out s k 1 (optional waits first) (drop i piece) (drop (i + 1) piece) r out′ (g .at) (one-step v last piece i k h waits first e w q) u z
 
   -- the ends
   pub end-none : waits ≡ false → length piece ≤ i → Ends F out₀ out s

@@ -2,5 +2,6 @@ pub mod Policies
 pub mod Engine
 pub mod Runs
 pub mod Calls
+pub mod Texts
 pub mod Steps
 pub mod Sample

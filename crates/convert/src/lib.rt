@@ -1,10 +1,12 @@
 // A conversion between code page bytes and UTF-16 units as a run that is fed in pieces. (Document 01.)
+mod counter;
 mod decoder;
 mod encoder;
 mod finish;
 mod policies;
 mod progress;
 pub mod rules;
+pub mod text;
 
 ghost use mathlib.Core.Path.{_≡_};
 ghost use mathlib.Core.Bool.{true};
@@ -86,6 +88,43 @@ pub struct Outcome {
     pub read: usize,
     pub written: usize,
     pub run: Run,
+}
+
+// What a text gave as a whole: the flags it set, the units read, and the units of output.
+pub struct Totals {
+    pub flags: u8,
+    pub read: usize,
+    pub written: usize,
+}
+
+// What counting answers.
+pub enum Counted {
+    // 0: all read.
+    All(Totals),
+    // 3: stopped by policy digit 0.
+    Stopped(Totals),
+    // 17: a policy digit is not allowed.
+    BadPolicy,
+    // 10: the shape of the tables is not good.
+    BadShape,
+    // 11: the text is over the limit.
+    TooLong,
+}
+
+// What the one-go call answers.
+pub enum Converted {
+    // 0: all read.
+    All(Totals),
+    // 2: the next code does not fit.
+    OutputFull(Totals),
+    // 3: stopped by policy digit 0.
+    Stopped(Totals),
+    // 17: a policy digit is not allowed.
+    BadPolicy,
+    // 10: the shape of the tables is not good.
+    BadShape,
+    // 11: the text is over the limit.
+    TooLong,
 }
 
 impl Run {

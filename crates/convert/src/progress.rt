@@ -14,7 +14,7 @@ pub struct Progress {
 }
 
 // The code stops the call.
-fn stopped(d: Doing, size: usize, s: Progress) -> Progress
+pub fn stopped(d: Doing, size: usize, s: Progress) -> Progress
     requires { ⌜ s .used + size < 2 ^ 64 ⌝ }
     ensures { λ r. ⌜ r ≡ stoppedBy (d .flag) size s ⌝ }
 {
@@ -39,7 +39,7 @@ fn full(s: Progress) -> Progress
 }
 
 // The code was taken and wrote `count` elements.
-fn taken(d: Doing, size: usize, s: Progress, count: usize) -> Progress
+pub fn taken(d: Doing, size: usize, s: Progress, count: usize) -> Progress
     requires { ⌜ (s .used + size < 2 ^ 64) × (s .written + count < 2 ^ 64) ⌝ }
     ensures { λ r. ⌜ r ≡ takenBy (d .flag) size s count ⌝ }
 {

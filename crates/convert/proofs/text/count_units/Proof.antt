@@ -1,0 +1,60 @@
+use mathlib.Core.Path.{_≡_, _∙_, sym, ap, refl}
+use native.Mathlib.Omega.{arith}
+use lib.ListN.{length}
+use Rattle.codepage.specs.CodePage.{CodePage, codePage}
+use Rattle.convert.specs.declared.Direction.the-variants.{Decoding}
+use Rattle.convert.specs.Engine.{limit, endless}
+use Rattle.convert.specs.Texts.{textFed}
+use Rattle.convert.proofs.TextLaws.{text-named, text-accepted, decode-text-needs, count-answer, counted-refused, counted-accepted}
+use borrow.Author.Needs.{needs}
+use Rattle.convert.proofs.text.count_units.Statement.{statement}
+use Rattle.convert.proofs.text.count_units.Tie as tie
+use Rattle.convert.proofs.text.count_units.Reads as reads
+use Rattle.convert.proofs.text.count_units.Lts as lts
+use Rattle.convert.proofs.counter.count_decoded.Reads as count-decoded-reads
+use Rattle.convert.proofs.text.counted.Reads as counted-reads
+use Rattle.convert.proofs.text.refused_count.Reads as refused-count-reads
+use Rattle.convert.proofs.text.text_refusal.Reads as text-refusal-reads
+
+-- src/text.rt:158:9
+text-refusal-requires : tie.Need-text-refusal-requires
+text-refusal-requires c κs = search needs
+
+-- src/text.rt:170:9
+refused-count-requires : tie.Need-refused-count-requires
+refused-count-requires c κs = text-named Decoding (c .before .before .before .before .before .before .before .before .args .policy) _ _ _ (c .before .text-refusal .ensures) (c .if1 .taken)
+
+-- src/text.rt:170:9
+returns : tie.Need-returns
+returns c = counted-refused Decoding (c .before .before .before .before .before .before .before .before .before .args .policy) _ (c .before .before .before .before .before .before .before .before .before .args .text .now) _ _ (c .before .before .text-refusal .ensures) (c .before .if1 .taken) (c .refused-count .ensures)
+
+-- src/text.rt:172:9
+count-decoded-requires : tie.Need-count-decoded-requires
+count-decoded-requires c κs =
+    let p : CodePage = codePage (c .before .before .before .before .before .before .before .before .args .numbers) (c .before .before .before .before .before .before .before .before .args .classes .now) (c .before .before .before .before .before .before .before .before .args .singles .now) (c .before .before .before .before .before .before .before .before .args .pairs .now) (c .before .before .before .before .before .before .before .before .args .index .now) (c .before .before .before .before .before .before .before .before .args .blocks .now) in
+    decode-text-needs (c .before .before .before .before .before .before .before .before .args .policy) p _ (text-accepted Decoding (c .before .before .before .before .before .before .before .before .args .policy) p _ (sym (c .before .text-refusal .ensures) ∙ c .if1 .left))
+
+-- src/text.rt:173:5
+counted-requires : tie.Need-counted-requires
+unfolding textFed
+counted-requires c κs =
+    let p : CodePage = codePage (c .before .before .before .before .before .before .before .before .before .args .numbers) (c .before .before .before .before .before .before .before .before .before .args .classes .now) (c .before .before .before .before .before .before .before .before .before .args .singles .now) (c .before .before .before .before .before .before .before .before .before .args .pairs .now) (c .before .before .before .before .before .before .before .before .before .args .index .now) (c .before .before .before .before .before .before .before .before .before .args .blocks .now) in
+    count-answer Decoding (c .before .before .before .before .before .before .before .before .before .args .policy) p (c .before .before .before .before .before .before .before .before .before .args .text .now) _ (c .count-decoded .ensures)
+
+-- src/text.rt:146:1
+returns-2 : tie.Need-returns-2
+unfolding textFed
+returns-2 c =
+    let p : CodePage = codePage (c .before .before .before .before .before .before .before .before .before .before .args .numbers) (c .before .before .before .before .before .before .before .before .before .before .args .classes .now) (c .before .before .before .before .before .before .before .before .before .before .args .singles .now) (c .before .before .before .before .before .before .before .before .before .before .args .pairs .now) (c .before .before .before .before .before .before .before .before .before .before .args .index .now) (c .before .before .before .before .before .before .before .before .before .before .args .blocks .now) in
+    counted-accepted Decoding (c .before .before .before .before .before .before .before .before .before .before .args .policy) p (c .before .before .before .before .before .before .before .before .before .before .args .text .now) _ _ (sym (c .before .before .before .text-refusal .ensures) ∙ c .before .before .if1 .left) (c .before .count-decoded .ensures) (c .counted .ensures)
+
+pub count-units-spec : {M : Type 1} → statement M
+count-units-spec =
+    tie.close
+    (tie.spec
+    text-refusal-requires
+    refused-count-requires
+    returns
+    count-decoded-requires
+    counted-requires
+    returns-2)

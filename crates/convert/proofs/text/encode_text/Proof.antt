@@ -1,0 +1,65 @@
+use mathlib.Core.Path.{_≡_, _∙_, sym, ap, refl}
+use native.Mathlib.Omega.{arith}
+use lib.ListN.{length}
+use Rattle.codepage.specs.CodePage.{CodePage, codePage}
+use Rattle.convert.specs.declared.Direction.the-variants.{Encoding}
+use Rattle.convert.specs.Engine.{limit, endless}
+use Rattle.convert.specs.Texts.{textFed}
+use Rattle.convert.proofs.TextLaws.{text-named, text-accepted, encode-text-needs, text-answer, converted-refused, converted-accepted}
+use borrow.Author.Needs.{needs}
+use Rattle.convert.proofs.text.encode_text.Statement.{statement}
+use Rattle.convert.proofs.text.encode_text.Tie as tie
+use Rattle.convert.proofs.text.encode_text.Reads as reads
+use Rattle.convert.proofs.text.encode_text.Lts as lts
+use Rattle.convert.proofs.encoder.encode_loop.Reads as encode-loop-reads
+use Rattle.convert.proofs.text.converted.Reads as converted-reads
+use Rattle.convert.proofs.text.refused_conversion.Reads as refused-conversion-reads
+use Rattle.convert.proofs.text.text_refusal.Reads as text-refusal-reads
+
+-- src/text.rt:264:9
+text-refusal-requires : tie.Need-text-refusal-requires
+text-refusal-requires c κs = search needs
+
+-- src/text.rt:276:9
+refused-conversion-requires : tie.Need-refused-conversion-requires
+refused-conversion-requires c κs = text-named Encoding (c .before .before .before .before .before .before .before .before .before .args .policy) _ _ _ (c .before .text-refusal .ensures) (c .if1 .taken)
+
+-- src/text.rt:276:9
+returns : tie.Need-returns
+returns c = converted-refused Encoding (c .before .before .before .before .before .before .before .before .before .before .args .policy) _ (c .before .before .before .before .before .before .before .before .before .before .args .text .now) _ _ _ (c .before .before .text-refusal .ensures) (c .before .if1 .taken) (c .refused-conversion .ensures)
+
+-- src/text.rt:278:9
+encode-loop-requires : tie.Need-encode-loop-requires
+encode-loop-requires c κs =
+    let p : CodePage = codePage (c .before .before .before .before .before .before .before .before .before .before .args .numbers) (c .before .before .before .before .before .before .before .before .before .before .args .classes .now) (c .before .before .before .before .before .before .before .before .before .before .args .singles .now) (c .before .before .before .before .before .before .before .before .before .before .args .pairs .now) (c .before .before .before .before .before .before .before .before .before .before .args .index .now) (c .before .before .before .before .before .before .before .before .before .before .args .blocks .now) in
+    encode-text-needs (c .before .before .before .before .before .before .before .before .before .before .args .policy) p _ (text-accepted Encoding (c .before .before .before .before .before .before .before .before .before .before .args .policy) p _ (sym (c .before .before .text-refusal .ensures) ∙ c .before .if1 .left))
+
+-- src/text.rt:287:5
+converted-requires : tie.Need-converted-requires
+unfolding textFed
+converted-requires c κs =
+    let p : CodePage = codePage (c .before .before .before .before .before .before .before .before .before .before .before .before .before .args .numbers) (c .before .before .before .before .before .before .before .before .before .before .before .before .before .args .classes .now) (c .before .before .before .before .before .before .before .before .before .before .before .before .before .args .singles .now) (c .before .before .before .before .before .before .before .before .before .before .before .before .before .args .pairs .now) (c .before .before .before .before .before .before .before .before .before .before .before .before .before .args .index .now) (c .before .before .before .before .before .before .before .before .before .before .before .before .before .args .blocks .now) in
+    text-answer Encoding (c .before .before .before .before .before .before .before .before .before .before .before .before .before .args .policy) p (limit (length (c .before .before .before .before .before .before .before .before .before .before .before .before .before .args .out .now))) (c .before .before .before .before .before .before .before .before .before .before .before .before .before .args .text .now) _ (c .before .before .encode-loop .ensures .0)
+
+-- src/text.rt:251:1
+same-length : tie.Need-same-length
+same-length c = search needs
+
+-- src/text.rt:251:1
+returns-2 : tie.Need-returns-2
+unfolding textFed
+returns-2 c =
+    let p : CodePage = codePage (c .before .before .before .before .before .before .before .before .before .before .before .before .before .before .args .numbers) (c .before .before .before .before .before .before .before .before .before .before .before .before .before .before .args .classes .now) (c .before .before .before .before .before .before .before .before .before .before .before .before .before .before .args .singles .now) (c .before .before .before .before .before .before .before .before .before .before .before .before .before .before .args .pairs .now) (c .before .before .before .before .before .before .before .before .before .before .before .before .before .before .args .index .now) (c .before .before .before .before .before .before .before .before .before .before .before .before .before .before .args .blocks .now) in
+    converted-accepted Encoding (c .before .before .before .before .before .before .before .before .before .before .before .before .before .before .args .policy) p (c .before .before .before .before .before .before .before .before .before .before .before .before .before .before .args .text .now) _ _ (c .before .before .before .before .before .before .before .before .before .before .before .before .before .before .args .out .now) _ (sym (c .before .before .before .before .before .before .text-refusal .ensures) ∙ c .before .before .before .before .before .if1 .left) (c .before .before .before .encode-loop .ensures .0) (c .before .before .before .encode-loop .ensures .1) (c .converted .ensures)
+
+pub encode-text-spec : {M : Type 1} → statement M
+encode-text-spec =
+    tie.close
+    (tie.spec
+    text-refusal-requires
+    refused-conversion-requires
+    returns
+    encode-loop-requires
+    converted-requires
+    same-length
+    returns-2)
