@@ -13,3 +13,5 @@ pub mod AnswerLaws
 pub mod SampleRows
 pub mod CountLaws
 pub mod TextLaws
+pub mod TextTheorems
+pub mod RoundTripLaws

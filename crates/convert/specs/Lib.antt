@@ -3,5 +3,6 @@ pub mod Engine
 pub mod Runs
 pub mod Calls
 pub mod Texts
+pub mod RoundTrips
 pub mod Steps
 pub mod Sample

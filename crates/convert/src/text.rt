@@ -315,8 +315,8 @@ pub fn decode_filled<'a>(
     *number = number_of(answer);
     *flags = totals.flags;
     *read = totals.read;
-    let count = totals.written;
-    &mut out[..count]
+    let units = totals.written;
+    &mut out[..units]
 }
 
 // Encodes a unit text in one go and hands back the filled part of the output, as `decode_filled` does.
@@ -354,6 +354,6 @@ pub fn encode_filled<'a>(
     *number = number_of(answer);
     *flags = totals.flags;
     *read = totals.read;
-    let count = totals.written;
-    &mut out[..count]
+    let bytes = totals.written;
+    &mut out[..bytes]
 }

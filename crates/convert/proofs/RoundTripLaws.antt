@@ -1,0 +1,195 @@
+-- A text that maps both ways comes back.
+use mathlib.Core.Bool.{Bool, true, false, _||_, true≢false, false≢true}
+use mathlib.Core.List.{List, [], _∷_, _++_, append-assoc, append-nil}
+use mathlib.Core.Option.{Option, none, some}
+use mathlib.Core.Path.{_≡_, refl, sym, ap, _∙_, subst}
+use Prim.Native.Nat.{ℕ, zero, suc, _+_, _/_, _%_, _<_, _≤_}
+use native.Mathlib.Nat.{zero-add}
+use native.Mathlib.Omega.{arith}
+use lib.Dec.{leb, eqb}
+use lib.ListN.{length, drop, length-append}
+use lib.Bits.{bitOr, or-zero-l}
+use borrow.Author.Tests.{eqb-true}
+use Rattle.codepage.specs.CodePage.{CodePage, pick, entry, isSingle, isLead}
+use Rattle.codepage.specs.Reading.{lookup, byteAlone, bytesOf, unitOf, Reader, decoder, encoder, Code, unitsOf, sizeOf, alone, together, codesFrom, codes}
+use Rattle.codepage.specs.declared.Kind.the-variants.{Invalid}
+use Rattle.codepage.specs.declared.Lookup.{Lookup}
+use Rattle.codepage.specs.declared.Lookup.the-variants.{Found, Lacking}
+use Rattle.convert.specs.declared.Direction.the-variants.{Decoding, Encoding}
+use Rattle.convert.specs.declared.Policy.{Policy}
+use Rattle.convert.specs.Engine.{effectOf, endless, fits, Fed, halt, after, takeWhen, takeCode, takeAll, whole}
+use Rattle.convert.specs.Calls.{readerOf}
+use Rattle.convert.specs.RoundTrips.{RoundTrips, UnitsReturn, CodeReturns, CodesReturn, BytesReturn}
+use Rattle.convert.proofs.CodeLaws.{codes-wait, codes-one}
+
+-- ---- a code that has a character is read the same before any other bytes
+-- a lead alone has no character
+lead-lacks : (classes singles : List ℕ) (byte : ℕ) → isLead (entry classes byte) ≡ true → byteAlone classes singles byte ≡ Lacking Invalid
+unfolding byteAlone isSingle isLead
+lead-lacks classes singles byte e = by-class (eqb (entry classes byte) 2) refl
+  where
+    alone-of : (c : ℕ) → entry classes byte ≡ c → (eqb c 1 || eqb c 5) ≡ false → byteAlone classes singles byte ≡ Lacking Invalid
+    alone-of c q f = rw (q, f)
+
+    by-class : (t : Bool) → eqb (entry classes byte) 2 ≡ t → byteAlone classes singles byte ≡ Lacking Invalid
+    by-class true q = alone-of 2 (eqb-true _ _ q) refl
+    by-class false q = alone-of 6 (eqb-true _ _ (sym (rw q) ∙ e)) refl
+
+lacks-not-found : (unit : ℕ) → Lacking Invalid ≡ Found unit → ⊥
+lacks-not-found unit e = let z : _≡_ {A = ℕ} 0 1 = cc in omega arith
+
+cons-path : (k m : Code) (ks ms : List Code) → k ∷ ks ≡ m ∷ ms → (k ≡ m) × (ks ≡ ms)
+cons-path k m ks ms e = (cc, cc)
+
+not-nil : (k : Code) (ks : List Code) → k ∷ ks ≡ [] → ⊥
+not-nil k ks e = let z : _≡_ {A = ℕ} 0 1 = cc in omega arith
+
+codes-some : (r : Reader) (b : ℕ) (t : Bool) → r .waits b ≡ t → codesFrom r none (b ∷ []) ≡ [] → ⊥
+unfolding codesFrom
+codes-some r b true e q = not-nil _ _ (sym (codes-wait r b [] e) ∙ q)
+codes-some r b false e q = not-nil _ _ (sym (codes-one r b [] e) ∙ q)
+
+module _ (classes singles pairs : List ℕ) where
+  abbrev r : Reader
+  r = decoder classes singles pairs
+
+  one-byte : (b : ℕ) (k : Code) (unit : ℕ) (rest : List ℕ) → codesFrom r none (b ∷ []) ≡ k ∷ [] → k .means ≡ Found unit → (t : Bool) → isLead (entry classes b) ≡ t
+      → codesFrom r none (b ∷ rest) ≡ k ∷ codesFrom r none rest
+  unfolding decoder codesFrom
+  one-byte b k unit rest e c true w =
+      let q : alone r b ≡ k = cons-path (alone r b) k [] [] (sym (codes-wait r b [] w) ∙ e) .0 in
+      absurd (lacks-not-found unit (sym (lead-lacks classes singles b w) ∙ ap (λ (x : Code). x .means) q ∙ c))
+  one-byte b k unit rest e c false w =
+      let q : alone r b ≡ k = cons-path (alone r b) k [] [] (sym (codes-one r b [] w) ∙ e) .0 in
+      codes-one r b rest w ∙ ap (λ (x : Code). x ∷ codesFrom r none rest) q
+
+  two-bytes : (a b : ℕ) (k : Code) (rest : List ℕ) → codesFrom r none (a ∷ b ∷ []) ≡ k ∷ [] → (t : Bool) → isLead (entry classes a) ≡ t → codesFrom r none (a ∷ b ∷ rest) ≡ k ∷ codesFrom r none rest
+  unfolding decoder codesFrom
+  two-bytes a b k rest e true w =
+      let q : together r a b ≡ k = cons-path (together r a b) k [] [] (sym (codes-wait r a (b ∷ []) w) ∙ e) .0 in
+      codes-wait r a (b ∷ rest) w ∙ ap (λ (x : Code). x ∷ codesFrom r none rest) q
+  two-bytes a b k rest e false w =
+      absurd (codes-some r b (isLead (entry classes b)) refl (cons-path (alone r a) k (codesFrom r none (b ∷ [])) [] (sym (codes-one r a (b ∷ []) w) ∙ e) .1))
+
+  pub code-first : (code : ℕ) (k : Code) (unit : ℕ) (rest : List ℕ) → codes r (bytesOf code) ≡ k ∷ [] → k .means ≡ Found unit → codes r (bytesOf code ++ rest) ≡ k ∷ codes r rest
+  unfolding codes bytesOf
+  code-first code k unit rest = by-size (leb code 0xFF)
+    where
+      by-size : (t : Bool) → codesFrom r none (pick t (code ∷ []) (code / 256 ∷ code % 256 ∷ [])) ≡ k ∷ [] → k .means ≡ Found unit
+          → codesFrom r none (pick t (code ∷ []) (code / 256 ∷ code % 256 ∷ []) ++ rest) ≡ k ∷ codesFrom r none rest
+      by-size true e c = one-byte code k unit rest e c (isLead (entry classes code)) refl
+      by-size false e c = two-bytes (code / 256) (code % 256) k rest e (isLead (entry classes (code / 256))) refl
+
+-- ---- a code with a character is written, with no flag
+found-taken : (r : Reader) (policy : Policy) (default value : ℕ) (k : Code) (ks : List Code) → k .means ≡ Found value
+    → takeAll r policy default (k ∷ ks) ≡ after (sizeOf k) (r .writes value) 0 (takeAll r policy default ks)
+unfolding takeAll effectOf takeCode takeWhen fits
+found-taken r policy default value k ks e = rw e
+
+-- what a reading without a flag is
+pub record Clear (f : Fed) (output : List ℕ) : Type 0 where
+  pub answer : f .answer ≡ 0
+  pub flags : f .flags ≡ 0
+  pub written : f .output ≡ output
+
+clear-end : (r : Reader) (policy : Policy) (default : ℕ) → Clear (takeAll r policy default []) []
+unfolding takeAll halt
+clear-end r policy default = record { answer = refl; flags = refl; written = refl }
+
+clear-more : (r : Reader) (policy : Policy) (default value : ℕ) (k : Code) (ks : List Code) (output : List ℕ) → k .means ≡ Found value → Clear (takeAll r policy default ks) output
+    → Clear (takeAll r policy default (k ∷ ks)) (r .writes value ++ output)
+unfolding after
+clear-more r policy default value k ks output e g =
+    rw (found-taken r policy default value k ks e)
+    (record {
+      answer = g .answer;
+      flags = or-zero-l (takeAll r policy default ks .flags) ∙ g .flags;
+      written = ap (λ (l : List ℕ). r .writes value ++ l) (g .written);
+    })
+
+-- ---- units
+-- the bytes of units that belong with their codes
+abbrev bytesBy : (p : CodePage) (text : List ℕ) → UnitsReturn p text → List ℕ
+bytesBy p [] h = []
+bytesBy p (unit ∷ text) h = bytesOf (h .0 .0) ++ bytesBy p text (h .1)
+
+module _ (p : CodePage) (policy : Policy) (default : ℕ) where
+  encoded-clear : (text : List ℕ) (h : UnitsReturn p text) → Clear (whole (readerOf Encoding p) policy default text) (bytesBy p text h)
+  unfolding whole codes codesFrom encoder
+  encoded-clear [] h = clear-end (readerOf Encoding p) policy default
+  encoded-clear (unit ∷ text) h = clear-more (readerOf Encoding p) policy default (h .0 .0) (alone (readerOf Encoding p) unit) (codesFrom (readerOf Encoding p) none text) (bytesBy p text (h .1)) (h .0 .1 .own) (encoded-clear text (h .1))
+
+  decoded-clear : (text : List ℕ) (h : UnitsReturn p text) → Clear (whole (readerOf Decoding p) policy default (bytesBy p text h)) text
+  unfolding whole
+  decoded-clear [] h = unfold codes codesFrom in clear-end (readerOf Decoding p) policy default
+  decoded-clear (unit ∷ text) h =
+      rw (code-first (p .classes) (p .singles) (p .pairs) (h .0 .0) (h .0 .1 .read) unit (bytesBy p text (h .1)) (h .0 .1 .one-code) (h .0 .1 .character))
+      (clear-unit (clear-more (readerOf Decoding p) policy default unit (h .0 .1 .read) (codes (readerOf Decoding p) (bytesBy p text (h .1))) text (h .0 .1 .character) (decoded-clear text (h .1))))
+    where
+      clear-unit : {f : Fed} → Clear f (readerOf Decoding p .writes unit ++ text) → Clear f (unit ∷ text)
+      clear-unit c = unfold decoder in c
+
+-- UNITS RETURN: a text of units that belong with their codes, of any length, encoded and decoded under any policies, comes back,
+-- and no flag is set.
+pub returns-units : (p : CodePage) (text : List ℕ) → UnitsReturn p text → (encoding decoding : Policy) (default₁ default₂ : ℕ)
+    → (whole (readerOf Decoding p) decoding default₂ (whole (readerOf Encoding p) encoding default₁ text .output) .output ≡ text)
+    × (whole (readerOf Encoding p) encoding default₁ text .flags ≡ 0)
+    × (whole (readerOf Decoding p) decoding default₂ (whole (readerOf Encoding p) encoding default₁ text .output) .flags ≡ 0)
+returns-units p text h encoding decoding default₁ default₂ =
+    let e = encoded-clear p encoding default₁ text h in
+    let d = decoded-clear p decoding default₂ text h in
+    (rw (e .written) (d .written), e .flags, rw (e .written) (d .flags))
+
+-- ---- bytes
+-- the units of a text's codes, one after the other, are the text
+abbrev joined : List Code → List ℕ
+joined [] = []
+joined (k ∷ ks) = unitsOf k ++ joined ks
+
+abbrev pendingList : Option ℕ → List ℕ
+pendingList none = []
+pendingList (some a) = a ∷ []
+
+covered-one : (r : Reader) (a : ℕ) (text : List ℕ) (t : Bool) → r .waits a ≡ t → joined (codesFrom r none text) ≡ text → joined (codesFrom r (some a) text) ≡ a ∷ text → joined (codesFrom r none (a ∷ text)) ≡ a ∷ text
+covered-one r a text true e h₁ h₂ = ap joined (codes-wait r a text e) ∙ h₂
+covered-one r a text false e h₁ h₂ = ap joined (codes-one r a text e) ∙ ap (λ (l : List ℕ). a ∷ l) h₁
+
+pub covered : (r : Reader) (p : Option ℕ) (text : List ℕ) → joined (codesFrom r p text) ≡ pendingList p ++ text
+unfolding codesFrom
+covered r none [] = refl
+covered r (some a) [] = refl
+covered r none (a ∷ text) = covered-one r a text (r .waits a) refl (covered r none text) (covered r (some a) text)
+covered r (some a) (b ∷ text) = ap (λ (l : List ℕ). a ∷ b ∷ l) (covered r none text)
+
+-- the characters of codes that belong with them
+abbrev unitsBy : (p : CodePage) (ks : List Code) → CodesReturn p ks → List ℕ
+unitsBy p [] h = []
+unitsBy p (k ∷ ks) h = h .0 .unit ∷ unitsBy p ks (h .1)
+
+units-return : (p : CodePage) (ks : List Code) (h : CodesReturn p ks) → UnitsReturn p (unitsBy p ks h)
+units-return p [] h = tt
+units-return p (k ∷ ks) h = ((h .0 .code, h .0 .belong), units-return p ks (h .1))
+
+bytes-are : (p : CodePage) (ks : List Code) (h : CodesReturn p ks) → bytesBy p (unitsBy p ks h) (units-return p ks h) ≡ joined ks
+unfolding units-return
+bytes-are p [] h = refl
+bytes-are p (k ∷ ks) h = ap (λ (l : List ℕ). l ++ bytesBy p (unitsBy p ks (h .1)) (units-return p ks (h .1))) (sym (h .0 .bytes)) ∙ ap (λ (l : List ℕ). unitsOf k ++ l) (bytes-are p ks (h .1))
+
+characters-clear : (p : CodePage) (policy : Policy) (default : ℕ) (ks : List Code) (h : CodesReturn p ks) → Clear (takeAll (readerOf Decoding p) policy default ks) (unitsBy p ks h)
+unfolding decoder
+characters-clear p policy default [] h = clear-end (readerOf Decoding p) policy default
+characters-clear p policy default (k ∷ ks) h =
+    clear-more (readerOf Decoding p) policy default (h .0 .unit) k ks (unitsBy p ks (h .1)) (h .0 .character) (characters-clear p policy default ks (h .1))
+
+-- BYTES RETURN: a byte text whose every code belongs with its character, of any length, decoded and encoded under any policies,
+-- comes back, and no flag is set.
+pub returns-bytes : (p : CodePage) (text : List ℕ) → BytesReturn p text → (decoding encoding : Policy) (default₁ default₂ : ℕ)
+    → (whole (readerOf Encoding p) encoding default₂ (whole (readerOf Decoding p) decoding default₁ text .output) .output ≡ text)
+    × (whole (readerOf Decoding p) decoding default₁ text .flags ≡ 0)
+    × (whole (readerOf Encoding p) encoding default₂ (whole (readerOf Decoding p) decoding default₁ text .output) .flags ≡ 0)
+returns-bytes p text h decoding encoding default₁ default₂ =
+    let d : Clear (whole (readerOf Decoding p) decoding default₁ text) (unitsBy p (codes (readerOf Decoding p) text) h) = unfold whole in characters-clear p decoding default₁ (codes (readerOf Decoding p) text) h in
+    let e = encoded-clear p encoding default₂ (unitsBy p (codes (readerOf Decoding p) text) h) (units-return p (codes (readerOf Decoding p) text) h) in
+    let back : bytesBy p (unitsBy p (codes (readerOf Decoding p) text) h) (units-return p (codes (readerOf Decoding p) text) h) ≡ text =
+    bytes-are p (codes (readerOf Decoding p) text) h ∙ unfold codes in covered (readerOf Decoding p) none text in
+    (rw (d .written) (e .written ∙ back), d .flags, rw (d .written) (e .flags))
