@@ -1,0 +1,6 @@
+pub mod DecimalLaws
+pub mod ParserLaws
+pub mod LineLaws
+pub mod PlaceLaws
+pub mod ReadLaws
+pub mod WriteLaws

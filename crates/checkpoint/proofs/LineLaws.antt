@@ -1,0 +1,366 @@
+-- Laws of the saved line: each run that keeps the rules has one line and each line one run; nothing else is read.
+use mathlib.Core.Bool.{Bool, true, false, not, _&&_, false≢true}
+use mathlib.Core.List.{List, [], _∷_, _++_, append-assoc}
+use mathlib.Core.Logic.{_↔_}
+use mathlib.Core.Option.{Option, none, some}
+use mathlib.Core.Path.{_≡_, refl, sym, ap, _∙_, subst}
+use Prim.Native.Nat.{ℕ, _+_, _*_, _<_, _≤_, _^_}
+use native.Mathlib.Omega.{arith}
+use lib.Dec.{leb, ltb}
+use lib.ListN.{length, length-append}
+use borrow.Author.Tests.{le-leb, leb-true, lt-ltb, ltb-true}
+use Rattle.codepage.specs.CodePage.{pick}
+use Rattle.convert.specs.declared.Direction.{Direction}
+use Rattle.convert.specs.declared.Direction.the-variants.{Decoding, Encoding}
+use Rattle.convert.specs.declared.Policy.{Policy}
+use Rattle.convert.specs.declared.Pending.{Pending}
+use Rattle.convert.specs.declared.Pending.the-variants.{Nothing, Byte}
+use Rattle.convert.specs.declared.Run.{Run}
+use Rattle.convert.specs.Runs.{validRun, mostWritten, isDecoding, ifPending}
+use Rattle.convert.specs.Policies.{policyAllowed, highestSingle}
+use Rattle.convert.proofs.CallLaws.{Valid, valid-facts}
+use Rattle.checkpoint.specs.Line.{tab, lineOf, fieldOf, closingOf, decimal, decimalFrom, runOf, kept, fields, field, letter, number, moreDigits, threeDigits, carried, hexPair, closing, one, orElse, return, _>>=_, Parsed, Parser, Representable, CarriedFits, letterOf, digitsOf, carriedOf, Saving, unwritten, writeOf, Loading, loaded, readOf}
+use Rattle.checkpoint.proofs.DecimalLaws.{decimal-short}
+use Rattle.checkpoint.proofs.ParserLaws.{got, none-some, some-eq, and-left, and-right, Reads, then-some, then-back, Digits, letter-reads, number-reads, digits-read, carried-reads, field-forth, field-back, closing-forth, closing-back}
+
+-- ---- the fields of a line
+line-fields : (run : Run) → lineOf run ≡
+    fieldOf (letterOf (run .direction))
+    ++ (fieldOf (decimal (run .page))
+    ++ (fieldOf (digitsOf (run .policy))
+    ++ (fieldOf (carriedOf (run .pending))
+    ++ (fieldOf (decimal (run .flags))
+    ++ (fieldOf (decimal (run .read))
+    ++ (fieldOf (decimal (run .written))
+    ++ closingOf (run .ended)))))))
+unfolding lineOf
+line-fields run = simp append-assoc
+
+pub fields-forth : (run : Run) → Digits (run .policy) → CarriedFits (run .pending) → fields (lineOf run) ≡ got run []
+unfolding fields return
+fields-forth run d c =
+    ap fields (line-fields run)
+    ∙ then-some (field letter) _ _ _ _ (field-forth letter-reads (run .direction) _ tt)
+    ∙ then-some (field number) _ _ _ _ (field-forth number-reads (run .page) _ tt)
+    ∙ then-some (field threeDigits) _ _ _ _ (field-forth digits-read (run .policy) _ d)
+    ∙ then-some (field carried) _ _ _ _ (field-forth carried-reads (run .pending) _ c)
+    ∙ then-some (field number) _ _ _ _ (field-forth number-reads (run .flags) _ tt)
+    ∙ then-some (field number) _ _ _ _ (field-forth number-reads (run .read) _ tt)
+    ∙ then-some (field number) _ _ _ _ (field-forth number-reads (run .written) _ tt)
+    ∙ then-some closing _ _ _ _ (closing-forth (run .ended))
+
+-- what was read is the line of the run, whose digits and carried byte are such
+pub record Spelled (line : List ℕ) (run : Run) : Type 0 where
+  pub line-is : line ≡ lineOf run
+  pub digits : Digits (run .policy)
+  pub pending : CarriedFits (run .pending)
+
+-- the next field of what was read
+peel : {A : Type 0} {p : Parser A} {written : A → List ℕ} {Good : A → Type 0} {Goal : Type 0} → Reads p written Good → (next : A → Parser Run) (bytes : List ℕ) (r : Parsed Run)
+    → (field p >>= next) bytes ≡ some r → ((a : A) (rest : List ℕ) → bytes ≡ fieldOf (written a) ++ rest → Good a → next a rest ≡ some r → Goal) → Goal
+peel {p} w next bytes r e goal =
+    let v = then-back (field p) next bytes r e in
+    let b = field-back w bytes (v .0) (v .1) in
+    goal (v .0 .value) (v .0 .rest) (b .0) (b .1) (v .2)
+
+pub fields-back : (line : List ℕ) (r : Parsed Run) → fields line ≡ some r → Spelled line (r .value)
+unfolding fields return
+fields-back line r e =
+    peel letter-reads _ line r e λ direction l₁ s₁ g₁ e₁.
+    peel number-reads _ l₁ r e₁ λ page l₂ s₂ g₂ e₂.
+    peel digits-read _ l₂ r e₂ λ policy l₃ s₃ g₃ e₃.
+    peel carried-reads _ l₃ r e₃ λ pending l₄ s₄ g₄ e₄.
+    peel number-reads _ l₄ r e₄ λ flags l₅ s₅ g₅ e₅.
+    peel number-reads _ l₅ r e₅ λ read l₆ s₆ g₆ e₆.
+    peel number-reads _ l₆ r e₆ λ written l₇ s₇ g₇ e₇.
+    let w = then-back closing _ l₇ r e₇ in
+    let run : Run = record { direction = direction; page = page; policy = policy; pending = pending; flags = flags; read = read; written = written; ended = w .0 .value } in
+    let same : run ≡ r .value = ap (λ (f : Parsed Run). f .value) (some-eq (w .2)) in
+    let s₈ : l₇ ≡ closingOf (run .ended) = closing-back l₇ (w .0) (w .1) .0 in
+    let spelled : line ≡ lineOf run =
+    s₁ ∙ ap (λ (l : List ℕ). fieldOf (letterOf direction) ++ l)
+    (s₂ ∙ ap (λ (l : List ℕ). fieldOf (decimal page) ++ l)
+    (s₃ ∙ ap (λ (l : List ℕ). fieldOf (digitsOf policy) ++ l)
+    (s₄ ∙ ap (λ (l : List ℕ). fieldOf (carriedOf pending) ++ l)
+    (s₅ ∙ ap (λ (l : List ℕ). fieldOf (decimal flags) ++ l)
+    (s₆ ∙ ap (λ (l : List ℕ). fieldOf (decimal read) ++ l)
+    (s₇ ∙ ap (λ (l : List ℕ). fieldOf (decimal written) ++ l) s₈))))))
+    ∙ sym (line-fields run) in
+    subst (Spelled line) same (record { line-is = spelled; digits = g₃; pending = g₄ })
+
+-- ---- a run that keeps the rules
+allowed-digits : (direction : Direction) (policy : Policy) → policyAllowed direction policy ≡ true → Digits policy
+unfolding policyAllowed
+allowed-digits direction policy e =
+    let rest = and-right (leb (policy .single) (highestSingle direction)) _ e in
+    record {
+      single = omega (arith, leb-true (policy .single) (highestSingle direction) (and-left (leb (policy .single) (highestSingle direction)) _ e), highest direction);
+      pair = omega (arith, leb-true (policy .pair) 5 (and-left (leb (policy .pair) 5) _ rest));
+      invalid = omega (arith, leb-true (policy .invalid) 5 (and-right (leb (policy .pair) 5) _ rest));
+    }
+  where
+    highest : (direction : Direction) → highestSingle direction ≤ 6
+    highest Decoding = omega arith
+    highest Encoding = omega arith
+
+most-twice : (direction : Direction) (read : ℕ) → mostWritten direction read ≤ 2 * read
+most-twice Decoding read = omega arith
+most-twice Encoding read = omega arith
+
+-- what a valid run holds
+pub record Bounded (run : Run) : Type 0 where
+  pub digits : Digits (run .policy)
+  pub flags : run .flags ≤ 15
+  pub read : run .read ≤ 4294967295
+  pub written : run .written ≤ 8589934590
+
+pub bounded : (run : Run) → validRun run ≡ true → Bounded run
+bounded run e =
+    let v : Valid run = valid-facts run e in
+    record {
+      digits = allowed-digits (run .direction) (run .policy) (v .policy);
+      flags = v .flags;
+      read = v .read;
+      written = omega (arith, v .read, v .written, most-twice (run .direction) (run .read));
+    }
+
+-- of a valid run only the page and the carried byte are still to be bounded
+pub representable : (run : Run) → validRun run ≡ true → run .page < 2 ^ 16 → CarriedFits (run .pending) → Representable run
+representable run e h c =
+    let b : Bounded run = bounded run e in
+    record {
+      page = h;
+      single = omega (arith, b .digits .single);
+      pair = omega (arith, b .digits .pair);
+      invalid = omega (arith, b .digits .invalid);
+      pending = c;
+      flags = omega (arith, b .flags);
+      read = omega (arith, b .read);
+      written = omega (arith, b .written);
+    }
+
+pub kept-some : (run : Run) (rest : List ℕ) → run .page ≤ 65535 → validRun run ≡ true → kept (got run rest) ≡ some run
+unfolding kept
+kept-some run rest h e = rw (le-leb (run .page) 65535 h, e)
+
+-- ---- each run that keeps the rules has one line and each line one run
+pub write-read : (run : Run) → Representable run → validRun run ≡ true → runOf (lineOf run) ≡ some run
+unfolding runOf
+write-read run w e = ap kept (fields-forth run (bounded run e .digits) (w .pending)) ∙ kept-some run [] (omega (arith, w .page)) e
+
+-- what it means that a line is read as a run
+pub record Restores (line : List ℕ) (run : Run) : Type 0 where
+  pub line-is : lineOf run ≡ line
+  pub valid : validRun run ≡ true
+  pub fits : Representable run
+
+pub read-write : (line : List ℕ) (run : Run) → runOf line ≡ some run → Restores line run
+unfolding runOf kept
+read-write line run e = by-fields (fields line) refl
+  where
+    by-test : (r : Parsed Run) → fields line ≡ some r → (t : Bool) → (leb (r .value .page) 65535 && validRun (r .value)) ≡ t → Restores line run
+    by-test r q false u = absurd (none-some (rw (q, u) at e))
+    by-test r q true u =
+        let same : r .value ≡ run = some-eq (rw (q, u) at e) in
+        let v : validRun (r .value) ≡ true = and-right (leb (r .value .page) 65535) _ u in
+        let w : Spelled line (r .value) = fields-back line r q in
+        subst (Restores line) same
+        (record {
+          line-is = sym (w .line-is);
+          valid = v;
+          fits = representable (r .value) v (omega (arith, leb-true (r .value .page) 65535 (and-left (leb (r .value .page) 65535) _ u))) (w .pending);
+        })
+
+    by-fields : (o : Option (Parsed Run)) → fields line ≡ o → Restores line run
+    by-fields none q = absurd (none-some (rw q at e))
+    by-fields (some r) q = by-test r q (leb (r .value .page) 65535 && validRun (r .value)) refl
+
+-- nothing else is read
+pub refused-exactly : (line : List ℕ) → (runOf line ≡ none) ↔ ((run : Run) → Representable run → validRun run ≡ true → lineOf run ≡ line → ⊥)
+refused-exactly line = (
+  λ e run w v q. none-some (sym e ∙ ap runOf (sym q) ∙ write-read run w v),
+  λ never. by-run never (runOf line) refl,
+)
+  where
+    by-run : ((run : Run) → Representable run → validRun run ≡ true → lineOf run ≡ line → ⊥) → (o : Option Run) → runOf line ≡ o → runOf line ≡ none
+    by-run never none q = q
+    by-run never (some run) q =
+        let w : Restores line run = read-write line run q in
+        absurd (never run (w .fits) (w .valid) (w .line-is))
+
+pub one-line-one-run : (a b : Run) → Representable a → validRun a ≡ true → Representable b → validRun b ≡ true → lineOf a ≡ lineOf b → a ≡ b
+one-line-one-run a b fa va fb vb e = some-eq (sym (write-read a fa va) ∙ ap runOf e ∙ write-read b fb vb)
+
+-- ---- a line has at most 44 bytes
+pub field-length : (bytes : List ℕ) → length (fieldOf bytes) ≡ length bytes + 1
+unfolding fieldOf
+field-length bytes = length-append bytes (tab ∷ [])
+
+pub line-length : (run : Run) → length (lineOf run) ≡
+    length (letterOf (run .direction)) + length (decimal (run .page)) + length (carriedOf (run .pending)) + length (decimal (run .flags)) + length (decimal (run .read)) + length (decimal (run .written)) + length (closingOf (run .ended)) + 10
+unfolding lineOf
+line-length run = simp (length-append, field-length) (omega arith)
+
+pub letter-length : (direction : Direction) → length (letterOf direction) ≡ 1
+letter-length Decoding = refl
+letter-length Encoding = refl
+
+-- a carried byte only if not ended
+ends-length : (pending : Pending) (ended a b : Bool) → ifPending pending (a && (not ended && b)) ≡ true → length (carriedOf pending) + length (closingOf ended) ≤ 6
+unfolding closingOf
+ends-length Nothing true a b e = omega arith
+ends-length Nothing false a b e = omega arith
+ends-length (Byte byte) true a b e = absurd (false≢true (and-right a (not true && b) e))
+ends-length (Byte byte) false a b e = omega arith
+
+pub at-most-44 : (run : Run) → Representable run → validRun run ≡ true → length (lineOf run) ≤ 44
+at-most-44 run w e =
+    let b : Bounded run = bounded run e in
+    omega (
+      arith,
+      line-length run,
+      letter-length (run .direction),
+      decimal-short 4 (run .page) (omega (arith, w .page)),
+      decimal-short 1 (run .flags) (omega (arith, b .flags)),
+      decimal-short 9 (run .read) (omega (arith, b .read)),
+      decimal-short 9 (run .written) (omega (arith, b .written)),
+      ends-length (run .pending) (run .ended) (isDecoding (run .direction)) (ltb (run .written) (run .read)) (valid-facts run e .pending),
+    )
+
+-- and some line has 44
+pub longestRun : Run
+longestRun =
+    record {
+      direction = Encoding;
+      page = 65535;
+      policy = record { single = 5; pair = 5; invalid = 5 };
+      pending = Nothing;
+      flags = 15;
+      read = 4294967295;
+      written = 8589934590;
+      ended = true;
+    }
+
+pub longest-valid : validRun longestRun ≡ true
+unfolding longestRun validRun policyAllowed
+longest-valid = refl
+
+pub longest-fits : Representable longestRun
+unfolding longestRun
+longest-fits = record { page = omega arith; single = omega arith; pair = omega arith; invalid = omega arith; pending = tt; flags = omega arith; read = omega arith; written = omega arith }
+
+pub longest-has-44 : length (lineOf longestRun) ≡ 44
+unfolding lineOf fieldOf closingOf decimal decimalFrom longestRun
+longest-has-44 = refl
+
+-- ---- the answers, each exactly in its case
+saves : (valid full : Bool) → List ℕ → Saving
+saves valid full line = pick (not valid) (unwritten 12) (pick full (unwritten 19) (record { number = 0; line = line }))
+
+writes-as : (run : Run) (room : ℕ) → writeOf run room ≡ saves (validRun run) (ltb room (length (lineOf run))) (lineOf run)
+unfolding writeOf saves
+writes-as run room = refl
+
+saves-12 : (t u : Bool) (line : List ℕ) → saves t u line .number ≡ 12 → t ≡ false
+unfolding saves
+saves-12 true true line e = absurd (omega arith)
+saves-12 true false line e = absurd (omega arith)
+saves-12 false u line e = refl
+
+saves-19 : (t u : Bool) (line : List ℕ) → saves t u line .number ≡ 19 → (t ≡ true) × (u ≡ true)
+unfolding saves
+saves-19 true true line e = (refl, refl)
+saves-19 true false line e = absurd (omega arith)
+saves-19 false u line e = absurd (omega arith)
+
+pub writes-12 : (run : Run) (room : ℕ) → (writeOf run room .number ≡ 12) ↔ (validRun run ≡ false)
+unfolding saves
+writes-12 run room = (
+  λ e. saves-12 (validRun run) (ltb room (length (lineOf run))) (lineOf run) (ap (λ (s : Saving). s .number) (sym (writes-as run room)) ∙ e),
+  λ e. ap (λ (s : Saving). s .number) (writes-as run room) ∙ rw e,
+)
+
+pub writes-19 : (run : Run) (room : ℕ) → (writeOf run room .number ≡ 19) ↔ ((validRun run ≡ true) × (room < length (lineOf run)))
+unfolding saves
+writes-19 run room = (
+  λ e.
+      let w = saves-19 (validRun run) (ltb room (length (lineOf run))) (lineOf run) (ap (λ (s : Saving). s .number) (sym (writes-as run room)) ∙ e) in
+      (w .0, ltb-true room (length (lineOf run)) (w .1)),
+  λ e. ap (λ (s : Saving). s .number) (writes-as run room) ∙ rw (e .0, lt-ltb room (length (lineOf run)) (e .1)),
+)
+
+-- so a room of 44 is always enough
+pub never-19 : (run : Run) (room : ℕ) → Representable run → 44 ≤ room → writeOf run room .number ≡ 19 → ⊥
+never-19 run room w h e =
+    let c = writes-19 run room .0 e in
+    omega (arith, c .1, at-most-44 run w (c .0))
+
+saves-0 : (t u : Bool) (line : List ℕ) → saves t u line .number ≡ 0 → (t ≡ true) × (saves t u line .line ≡ line)
+unfolding saves
+saves-0 true true line e = absurd (omega arith)
+saves-0 true false line e = (refl, refl)
+saves-0 false u line e = absurd (omega arith)
+
+-- an accepted writing gives the run's line
+pub writes-0 : (run : Run) (room : ℕ) → writeOf run room .number ≡ 0 → (validRun run ≡ true) × (writeOf run room .line ≡ lineOf run)
+writes-0 run room e =
+    let w = saves-0 (validRun run) (ltb room (length (lineOf run))) (lineOf run) (ap (λ (s : Saving). s .number) (sym (writes-as run room)) ∙ e) in
+    (w .0, ap (λ (s : Saving). s .line) (writes-as run room) ∙ w .1)
+
+loads-18 : (o : Option Run) → loaded o .number ≡ 18 → o ≡ none
+unfolding loaded
+loads-18 none e = refl
+loads-18 (some run) e = absurd (omega arith)
+
+pub reads-18 : (line : List ℕ) → (readOf line .number ≡ 18) ↔ ((run : Run) → Representable run → validRun run ≡ true → lineOf run ≡ line → ⊥)
+unfolding readOf loaded
+reads-18 line = (
+  λ e. refused-exactly line .0 (loads-18 (runOf line) e),
+  λ never. ap (λ (o : Option Run). loaded o .number) (refused-exactly line .1 never),
+)
+
+loads-run : (o : Option Run) → loaded o .run ≡ o
+unfolding loaded
+loads-run none = refl
+loads-run (some run) = refl
+
+-- an accepted reading gives the run whose line it is
+pub reads-0 : (line : List ℕ) (run : Run) → (readOf line ≡ record { number = 0; run = some run }) ↔ Restores line run
+unfolding readOf loaded
+reads-0 line run = (
+  λ e. read-write line run (sym (loads-run (runOf line)) ∙ ap (λ (l : Loading). l .run) e),
+  λ w. ap loaded (ap runOf (sym (w .line-is)) ∙ write-read run (w .fits) (w .valid)),
+)
+
+-- what was saved is restored
+pub saved-restored : (run : Run) (room : ℕ) → Representable run → writeOf run room .number ≡ 0 → readOf (writeOf run room .line) ≡ record { number = 0; run = some run }
+saved-restored run room w e =
+    let c = writes-0 run room e in
+    ap readOf (c .1) ∙ reads-0 (lineOf run) run .1 (record { line-is = refl; valid = c .0; fits = w })
+
+-- the sample line of document 01
+pub sampleRun : Run
+sampleRun =
+    record {
+      direction = Decoding;
+      page = 932;
+      policy = record { single = 5; pair = 5; invalid = 5 };
+      pending = Byte 0x83;
+      flags = 0;
+      read = 512;
+      written = 300;
+      ended = false;
+    }
+
+-- `D>932>555>83>0>512>300>on` and a line feed, tabs shown as `>`
+pub sampleLine : List ℕ
+sampleLine =
+    0x44 ∷ 9 ∷ 0x39 ∷ 0x33 ∷ 0x32 ∷ 9 ∷ 0x35 ∷ 0x35 ∷ 0x35 ∷ 9 ∷ 0x38 ∷ 0x33 ∷ 9 ∷ 0x30 ∷ 9 ∷ 0x35 ∷ 0x31 ∷ 0x32 ∷ 9 ∷ 0x33 ∷ 0x30 ∷ 0x30 ∷ 9 ∷ 0x6F ∷ 0x6E ∷ 10 ∷ []
+
+pub sample-written : lineOf sampleRun ≡ sampleLine
+unfolding lineOf fieldOf closingOf decimal decimalFrom sampleRun sampleLine
+sample-written = refl
+
+pub sample-read : runOf sampleLine ≡ some sampleRun
+unfolding runOf kept fields field letter number moreDigits threeDigits carried hexPair closing closingOf one orElse return _>>=_ sampleRun sampleLine validRun policyAllowed
+sample-read = refl

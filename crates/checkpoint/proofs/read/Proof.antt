@@ -1,0 +1,71 @@
+use mathlib.Core.Path.{_∙_, sym}
+use borrow.Author.Tests.{not-true, not-false}
+use borrow.Author.Needs.{needs}
+use Rattle.checkpoint.proofs.ReadLaws.{all-found, not-a-line, not-valid, a-line}
+use Rattle.checkpoint.proofs.read.Statement.{statement}
+use Rattle.checkpoint.proofs.read.Tie as tie
+
+letter-at-requires : tie.Need-letter-at-requires
+letter-at-requires c κs = search needs
+
+number-at-requires : tie.Need-number-at-requires
+number-at-requires c κs = search needs
+
+digits-at-requires : tie.Need-digits-at-requires
+digits-at-requires c κs = search needs
+
+carried-at-requires : tie.Need-carried-at-requires
+carried-at-requires c κs = search needs
+
+number-at-requires-2 : tie.Need-number-at-requires-2
+number-at-requires-2 c κs = search needs
+
+number-at-requires-3 : tie.Need-number-at-requires-3
+number-at-requires-3 c κs = search needs
+
+mul-number-at : tie.Need-mul-number-at
+mul-number-at c = search needs
+
+number-at-requires-4 : tie.Need-number-at-requires-4
+number-at-requires-4 c κs = search needs
+
+closing-at-requires : tie.Need-closing-at-requires
+closing-at-requires c κs = search needs
+
+returns : tie.Need-returns
+returns c = sym (not-a-line _ _ _ (all-found _ (record { direction = c .before .before .before .before .before .before .before .before .before .letter-at .result .value; page = c .before .before .before .before .before .before .before .before .number-at .result .value; policy = c .before .before .before .before .before .before .before .digits-at .result .value; pending = c .before .before .before .before .before .before .carried-at .result .value; flags = c .before .before .before .before .before .number-at2 .result .value; read = c .before .before .before .before .number-at3 .result .value; written = c .before .before .before .number-at4 .result .value; ended = c .before .before .closing-at .result .value }) _ _ _ _ _ _ _ _ (c .before .before .before .before .before .before .before .before .before .letter-at .ensures) (c .before .before .before .before .before .before .before .before .number-at .ensures .1) (c .before .before .before .before .before .before .before .digits-at .ensures) (c .before .before .before .before .before .before .carried-at .ensures) (c .before .before .before .before .before .number-at2 .ensures .1) (c .before .before .before .before .number-at3 .ensures .1) (c .before .before .before .number-at4 .ensures .1) (c .before .before .closing-at .ensures)) (c .if1 .taken))
+
+cast-t17 : tie.Need-cast-t17
+cast-t17 c = search needs
+
+cast-t18 : tie.Need-cast-t18
+cast-t18 c = search needs
+
+valid-run-requires : tie.Need-valid-run-requires
+valid-run-requires c κs = search needs
+
+returns-2 : tie.Need-returns-2
+returns-2 c = sym (not-valid _ _ _ (all-found _ _ _ _ _ _ _ _ _ _ (c .before .before .before .before .before .before .before .before .before .before .before .before .before .before .letter-at .ensures) (c .before .before .before .before .before .before .before .before .before .before .before .before .before .number-at .ensures .1) (c .before .before .before .before .before .before .before .before .before .before .before .before .digits-at .ensures) (c .before .before .before .before .before .before .before .before .before .before .before .carried-at .ensures) (c .before .before .before .before .before .before .before .before .before .before .number-at2 .ensures .1) (c .before .before .before .before .before .before .before .before .before .number-at3 .ensures .1) (c .before .before .before .before .before .before .before .before .number-at4 .ensures .1) (c .before .before .before .before .before .before .before .closing-at .ensures)) (c .before .before .before .before .before .if1 .left) (sym (c .before .valid-run .ensures) ∙ not-true _ (c .if2 .taken)))
+
+returns-3 : tie.Need-returns-3
+returns-3 c = sym (a-line _ _ _ (all-found _ _ _ _ _ _ _ _ _ _ (c .before .before .before .before .before .before .before .before .before .before .before .before .before .before .letter-at .ensures) (c .before .before .before .before .before .before .before .before .before .before .before .before .before .number-at .ensures .1) (c .before .before .before .before .before .before .before .before .before .before .before .before .digits-at .ensures) (c .before .before .before .before .before .before .before .before .before .before .before .carried-at .ensures) (c .before .before .before .before .before .before .before .before .before .before .number-at2 .ensures .1) (c .before .before .before .before .before .before .before .before .before .number-at3 .ensures .1) (c .before .before .before .before .before .before .before .before .number-at4 .ensures .1) (c .before .before .before .before .before .before .before .closing-at .ensures)) (c .before .before .before .before .before .if1 .left) (c .before .before .before .before .before .before .before .before .before .before .before .before .before .number-at .ensures .0) (sym (c .before .valid-run .ensures) ∙ not-false _ (c .if2 .left)))
+
+pub read-spec : {M : Type 1} → statement M
+read-spec =
+    tie.close
+    (tie.spec
+    letter-at-requires
+    number-at-requires
+    digits-at-requires
+    carried-at-requires
+    number-at-requires-2
+    number-at-requires-3
+    mul-number-at
+    number-at-requires-4
+    closing-at-requires
+    returns
+    cast-t17
+    cast-t18
+    valid-run-requires
+    returns-2
+    returns-3)
