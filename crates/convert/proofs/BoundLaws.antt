@@ -5,7 +5,7 @@ use mathlib.Core.Logic.{_⊎_, inl, inr}
 use mathlib.Core.Option.{Option, none, some}
 use mathlib.Core.Path.{_≡_, refl, sym, ap, _∙_}
 use Prim.Native.Nat.{ℕ, zero, suc, _+_, _-_, _*_, _/_, _%_, _^_, _<_, _≤_}
-use native.Mathlib.Nat.{mul-suc, mul-add}
+use native.Mathlib.Nat.{mul-suc, mul-add, mul-one}
 use native.Mathlib.Omega.{arith}
 use lib.ListN.{length, length-append}
 use lib.Bits.{bitOr, or-lt}
@@ -148,3 +148,38 @@ bounded-of Encoding p policy =
       one = λ a. small-effect 2 bytesOf policy (defaultOf Encoding p) a _ (omega arith) bytes-le;
       two = λ a b. small-effect 2 bytesOf policy (defaultOf Encoding p) a _ (omega arith) bytes-le;
     }
+
+-- ---- with room for m units for each unit, no answer is 2
+module _ (m : ℕ) (v : Converter) (bounded : Bounded m v) where
+  roomy-take : (n room : ℕ) (k : Effect) (f : Fed) (s : Bool) → Small m k → m ≤ room → (f .answer ≡ 2 → ⊥) → takeWhen s (leb (length (k .writes)) room) n k f .answer ≡ 2 → ⊥
+  unfolding takeWhen stopAt after
+  roomy-take n room k f true w h q e = omega arith
+  roomy-take n room k f false w h q e =
+      q (sym (ap (λ (t : Bool). takeWhen false t n k f .answer) (le-leb (length (k .writes)) room (omega (arith, w .writes)))) ∙ e)
+
+  roomy-one : (last : Bool) (room a : ℕ) (l : List ℕ) (t : Bool) → v .waits a ≡ t → m * suc (length l) ≤ room → (feedFrom v last (limit (room - length (v .one a .writes))) none l .answer ≡ 2 → ⊥)
+      → (feedFrom v last (limit room) (some a) l .answer ≡ 2 → ⊥) → feedFrom v last (limit room) none (a ∷ l) .answer ≡ 2 → ⊥
+  unfolding takeCode fits less
+  roomy-one last room a l true w h h₁ h₂ e = h₂ (sym (ap (λ (f : Fed). f .answer) (feed-wait v last (limit room) a l w)) ∙ e)
+  roomy-one last room a l false w h h₁ h₂ e =
+      roomy-take 1 room (v .one a) _ (v .one a .stops) (bounded .one a) (omega (arith, mul-suc m (length l))) h₁ (sym (ap (λ (f : Fed). f .answer) (feed-one v last (limit room) a l w)) ∙ e)
+
+  pub roomy : (last : Bool) (room : ℕ) (p : Option ℕ) (l : List ℕ) → m * (length (waitingUnits p) + length l) ≤ room → feedFrom v last (limit room) p l .answer ≡ 2 → ⊥
+  unfolding feedFrom takeCode fits less halt
+  roomy last room none [] h e = omega arith
+  roomy true room (some c) [] h e = roomy-take 1 room (v .one c) (halt 0) (v .one c .stops) (bounded .one c) (omega (arith, mul-one m)) (λ z. omega arith) e
+  roomy false room (some c) [] h e = omega arith
+  roomy last room none (a ∷ l) h e =
+      let z : 0 + suc (length l) ≡ suc (length l) = omega arith in
+      let y : 1 + length l ≡ suc (length l) = omega arith in
+      let x : 0 + length l ≡ length l = omega arith in
+      let h′ : m * suc (length l) ≤ room = rw z at h in
+      roomy-one last room a l (v .waits a) refl h′
+      (roomy last (room - length (v .one a .writes)) none l (rw x (omega (arith, mul-suc m (length l), bounded .one a .writes))))
+      (roomy last room (some a) l (rw y h′)) e
+  roomy last room (some c) (b ∷ l) h e =
+      let z : 1 + suc (length l) ≡ suc (suc (length l)) = omega arith in
+      let x : 0 + length l ≡ length l = omega arith in
+      let h′ : m * suc (suc (length l)) ≤ room = rw z at h in
+      roomy-take 2 room (v .two c b) _ (v .two c b .stops) (bounded .two c b) (omega (arith, mul-suc m (suc (length l))))
+      (roomy last (room - length (v .two c b .writes)) none l (rw x (omega (arith, mul-suc m (suc (length l)), mul-suc m (length l), bounded .two c b .writes)))) e

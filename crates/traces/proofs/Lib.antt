@@ -1,3 +1,4 @@
 pub mod StepLaws
 pub mod ModelLaws
 pub mod EveryTrace
+pub mod Witnesses
