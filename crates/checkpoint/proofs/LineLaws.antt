@@ -7,8 +7,9 @@ use mathlib.Core.Path.{_≡_, refl, sym, ap, _∙_, subst}
 use Prim.Native.Nat.{ℕ, _+_, _*_, _<_, _≤_, _^_}
 use native.Mathlib.Omega.{arith}
 use lib.Dec.{leb, ltb}
-use lib.ListN.{length, length-append}
-use borrow.Author.Tests.{le-leb, leb-true, lt-ltb, ltb-true}
+use lib.ListN.{length, take, drop, length-append}
+use lib.Seq.{take-append-seam}
+use borrow.Author.Tests.{le-leb, leb-true, lt-ltb, le-ltb, ltb-true, ltb-false}
 use Rattle.codepage.specs.CodePage.{pick}
 use Rattle.convert.specs.declared.Direction.{Direction}
 use Rattle.convert.specs.declared.Direction.the-variants.{Decoding, Encoding}
@@ -18,8 +19,11 @@ use Rattle.convert.specs.declared.Pending.the-variants.{Nothing, Byte}
 use Rattle.convert.specs.declared.Run.{Run}
 use Rattle.convert.specs.Runs.{validRun, mostWritten, isDecoding, ifPending}
 use Rattle.convert.specs.Policies.{policyAllowed, highestSingle}
+use Rattle.convert.specs.Calls.{over}
 use Rattle.convert.proofs.CallLaws.{Valid, valid-facts}
-use Rattle.checkpoint.specs.Line.{tab, lineOf, fieldOf, closingOf, decimal, decimalFrom, runOf, kept, fields, field, letter, number, moreDigits, threeDigits, carried, hexPair, closing, one, orElse, return, _>>=_, Parsed, Parser, Representable, CarriedFits, letterOf, digitsOf, carriedOf, Saving, unwritten, writeOf, Loading, loaded, readOf}
+use Rattle.checkpoint.specs.declared.Written.{Written}
+use Rattle.checkpoint.specs.Line.{tab, lineOf, fieldOf, closingOf, decimal, decimalFrom, runOf, kept, fields, field, letter, number, moreDigits, threeDigits, carried, hexPair, closing, one, orElse, return, _>>=_, Parsed, Parser, Representable, Restores, CarriedFits, letterOf, digitsOf, carriedOf, Saving, unwritten, writeOf, writtenAs, Saved, Loading, loaded, readOf}
+use Rattle.checkpoint.specs.Sample.{sampleRun, sampleLine, longestRun}
 use Rattle.checkpoint.proofs.DecimalLaws.{decimal-short}
 use Rattle.checkpoint.proofs.ParserLaws.{got, none-some, some-eq, and-left, and-right, Reads, then-some, then-back, Digits, letter-reads, number-reads, digits-read, carried-reads, field-forth, field-back, closing-forth, closing-back}
 
@@ -148,12 +152,6 @@ pub write-read : (run : Run) → Representable run → validRun run ≡ true →
 unfolding runOf
 write-read run w e = ap kept (fields-forth run (bounded run e .digits) (w .pending)) ∙ kept-some run [] (omega (arith, w .page)) e
 
--- what it means that a line is read as a run
-pub record Restores (line : List ℕ) (run : Run) : Type 0 where
-  pub line-is : lineOf run ≡ line
-  pub valid : validRun run ≡ true
-  pub fits : Representable run
-
 pub read-write : (line : List ℕ) (run : Run) → runOf line ≡ some run → Restores line run
 unfolding runOf kept
 read-write line run e = by-fields (fields line) refl
@@ -227,20 +225,7 @@ at-most-44 run w e =
       ends-length (run .pending) (run .ended) (isDecoding (run .direction)) (ltb (run .written) (run .read)) (valid-facts run e .pending),
     )
 
--- and some line has 44
-pub longestRun : Run
-longestRun =
-    record {
-      direction = Encoding;
-      page = 65535;
-      policy = record { single = 5; pair = 5; invalid = 5 };
-      pending = Nothing;
-      flags = 15;
-      read = 4294967295;
-      written = 8589934590;
-      ended = true;
-    }
-
+-- and one has 44
 pub longest-valid : validRun longestRun ≡ true
 unfolding longestRun validRun policyAllowed
 longest-valid = refl
@@ -295,17 +280,26 @@ never-19 run room w h e =
     let c = writes-19 run room .0 e in
     omega (arith, c .1, at-most-44 run w (c .0))
 
-saves-0 : (t u : Bool) (line : List ℕ) → saves t u line .number ≡ 0 → (t ≡ true) × (saves t u line .line ≡ line)
+saves-0 : (t u : Bool) (line : List ℕ) → saves t u line .number ≡ 0 → (t ≡ true) × (u ≡ false) × (saves t u line .line ≡ line)
 unfolding saves
 saves-0 true true line e = absurd (omega arith)
-saves-0 true false line e = (refl, refl)
+saves-0 true false line e = (refl, refl, refl)
 saves-0 false u line e = absurd (omega arith)
 
+pub writes-0 : (run : Run) (room : ℕ) → (writeOf run room .number ≡ 0) ↔ ((validRun run ≡ true) × (length (lineOf run) ≤ room))
+unfolding saves
+writes-0 run room = (
+  λ e.
+      let w = saves-0 (validRun run) (ltb room (length (lineOf run))) (lineOf run) (ap (λ (s : Saving). s .number) (sym (writes-as run room)) ∙ e) in
+      (w .0, ltb-false room (length (lineOf run)) (w .1)),
+  λ e. ap (λ (s : Saving). s .number) (writes-as run room) ∙ rw (e .0, le-ltb room (length (lineOf run)) (e .1)),
+)
+
 -- an accepted writing gives the run's line
-pub writes-0 : (run : Run) (room : ℕ) → writeOf run room .number ≡ 0 → (validRun run ≡ true) × (writeOf run room .line ≡ lineOf run)
-writes-0 run room e =
+pub writes-line : (run : Run) (room : ℕ) → writeOf run room .number ≡ 0 → writeOf run room .line ≡ lineOf run
+writes-line run room e =
     let w = saves-0 (validRun run) (ltb room (length (lineOf run))) (lineOf run) (ap (λ (s : Saving). s .number) (sym (writes-as run room)) ∙ e) in
-    (w .0, ap (λ (s : Saving). s .line) (writes-as run room) ∙ w .1)
+    ap (λ (s : Saving). s .line) (writes-as run room) ∙ w .2
 
 loads-18 : (o : Option Run) → loaded o .number ≡ 18 → o ≡ none
 unfolding loaded
@@ -335,28 +329,14 @@ reads-0 line run = (
 -- what was saved is restored
 pub saved-restored : (run : Run) (room : ℕ) → Representable run → writeOf run room .number ≡ 0 → readOf (writeOf run room .line) ≡ record { number = 0; run = some run }
 saved-restored run room w e =
-    let c = writes-0 run room e in
-    ap readOf (c .1) ∙ reads-0 (lineOf run) run .1 (record { line-is = refl; valid = c .0; fits = w })
+    ap readOf (writes-line run room e) ∙ reads-0 (lineOf run) run .1 (record { line-is = refl; valid = writes-0 run room .0 e .0; fits = w })
 
--- the sample line of document 01
-pub sampleRun : Run
-sampleRun =
-    record {
-      direction = Decoding;
-      page = 932;
-      policy = record { single = 5; pair = 5; invalid = 5 };
-      pending = Byte 0x83;
-      flags = 0;
-      read = 512;
-      written = 300;
-      ended = false;
-    }
+-- the line stands at the front of the output
+pub saved-front : (s : Saving) (r : Written) (before after : List ℕ) → Saved s r before after → take (writtenAs r .size) after ≡ s .line
+unfolding over
+saved-front s r before after w = rw (w .lent, w .size) (take-append-seam (s .line) (drop (length (s .line)) before))
 
--- `D>932>555>83>0>512>300>on` and a line feed, tabs shown as `>`
-pub sampleLine : List ℕ
-sampleLine =
-    0x44 ∷ 9 ∷ 0x39 ∷ 0x33 ∷ 0x32 ∷ 9 ∷ 0x35 ∷ 0x35 ∷ 0x35 ∷ 9 ∷ 0x38 ∷ 0x33 ∷ 9 ∷ 0x30 ∷ 9 ∷ 0x35 ∷ 0x31 ∷ 0x32 ∷ 9 ∷ 0x33 ∷ 0x30 ∷ 0x30 ∷ 9 ∷ 0x6F ∷ 0x6E ∷ 10 ∷ []
-
+-- ---- the sample line of document 01
 pub sample-written : lineOf sampleRun ≡ sampleLine
 unfolding lineOf fieldOf closingOf decimal decimalFrom sampleRun sampleLine
 sample-written = refl

@@ -220,6 +220,12 @@ pub record Representable (run : Run) : Type 0 where
   pub read : run .read < 2 ^ 64
   pub written : run .written < 2 ^ 64
 
+-- A line is that of a run which keeps the rules.
+pub record Restores (line : List ℕ) (run : Run) : Type 0 where
+  pub line-is : lineOf run ≡ line
+  pub valid : validRun run ≡ true
+  pub fits : Representable run
+
 -- ---- The two calls
 
 -- What line writing gives: 0 and the line, or 12, the run breaks the run rules, then 19, the line does not fit the room.

@@ -176,7 +176,7 @@ lead-pending classes Nothing e h = absurd (false≢true h)
 lead-pending classes (Byte byte) e h = e
 
 -- a run of encoding has nothing pending
-no-pending : (pending : Pending) (direction : Direction) (b : Bool) → Encoding ≡ direction → ifPending pending (isDecoding direction && b) ≡ true → pending ≡ Nothing
+pub no-pending : (pending : Pending) (direction : Direction) (b : Bool) → Encoding ≡ direction → ifPending pending (isDecoding direction && b) ≡ true → pending ≡ Nothing
 no-pending Nothing direction b e h = refl
 no-pending (Byte byte) direction b e h = absurd (false≢true (subst (λ (d : Direction). (isDecoding d && b) ≡ true) (sym e) h))
 

@@ -27,7 +27,7 @@ use Rattle.convert.proofs.CodeLaws.{whole-is-feed}
 use Rattle.convert.proofs.CallLaws.{Valid, valid-facts, Accepted, accepted-facts, refusal-named, feed-shape}
 use Rattle.convert.proofs.RunLaws.{start-kept, call-kept, refused-same}
 use Rattle.checkpoint.specs.Line.{lineOf, runOf, sameBytes, CarriedFits, writeOf, readOf, loaded}
-use Rattle.checkpoint.proofs.LineLaws.{representable, write-read}
+use Rattle.checkpoint.proofs.LineLaws.{representable, write-read, one-line-one-run}
 use Rattle.traces.specs.Model.{Setting, Call, feeding, saving, loading, Note, Model, opened, Said, saidOfCall, says, isAccepted, inHand, notedBeside, joinedBy, notedBy, setBackTo, acceptedBy, next, Allowed, wholeOf}
 use Rattle.traces.specs.Traces.{AllBelow, widthOf, Proper}
 use Rattle.traces.proofs.StepLaws.{Reads, call-reads}
@@ -314,3 +314,20 @@ module _ (s : Setting) (run : Run) (position : ℕ) (joined : List ℕ) (ended :
 
   pub fair-whole : ended ≡ true → (joined ≡ wholeOf s .output) × (run .flags ≡ wholeOf s .flags) × (run .read ≡ wholeOf s .used) × (run .written ≡ length (wholeOf s .output))
   fair-whole e = whole-by (isGood (firstFault (s .tables)) && eqb (s .page) (s .tables .page)) refl (g .doing) (g .end ∙ e)
+
+-- ---- a line that is written twice is noted alike
+front-of : (s : Setting) (run : Run) (position : ℕ) (joined : List ℕ) (ended : Bool) → Fair s run position joined ended → joined ≡ take (run .written) (wholeOf s .output)
+front-of s run position joined ended f =
+    let b = fair-begins s run position joined ended f in
+    sym (ap (take (run .written)) (b .1) ∙ take-at joined (b .0) (run .written) (sym (f .written)))
+
+-- ONE LINE, ONE NOTE: which of two writings of a line is meant makes no difference.
+pub notes-agree : (s : Setting) → Proper s → (n k : Note) → NoteFair s n → NoteFair s k → n .line ≡ k .line → (n .position ≡ k .position) × (n .joined ≡ k .joined) × (n .ended ≡ k .ended)
+notes-agree s h n k (a, la, f) (b, lb, g) e =
+    let same : a ≡ b =
+    one-line-one-run a b (representable a (f .valid) (omega (arith, h .page, f .page)) (f .carried)) (f .valid) (representable b (g .valid) (omega (arith, h .page, g .page)) (g .carried)) (g .valid)
+    (la ∙ e ∙ sym lb) in (
+      sym (f .read) ∙ ap (λ (r : Run). r .read) same ∙ g .read,
+      front-of s a _ _ _ f ∙ ap (λ (r : Run). take (r .written) (wholeOf s .output)) same ∙ sym (front-of s b _ _ _ g),
+      sym (f .end) ∙ ap (λ (r : Run). r .ended) same ∙ g .end,
+    )

@@ -9,10 +9,10 @@ use lib.ListN.{length, replicate}
 use Rattle.codepage.specs.CodePage.{CodePage}
 use Rattle.convert.specs.declared.Direction.{Direction}
 use Rattle.convert.specs.declared.Direction.the-variants.{Decoding, Encoding}
-use Rattle.convert.specs.declared.Pending.the-variants.{Nothing, Byte}
 use Rattle.convert.specs.declared.Run.{Run}
 use Rattle.convert.specs.Sample.{samplePage, digits, Row, RowHolds, rows}
 use Rattle.checkpoint.specs.Line.{lineOf, runOf}
+use Rattle.checkpoint.specs.Sample.{sampleRun, sampleLine}
 use Rattle.traces.specs.Model.{Setting, Call, feeding, saving, loading, Model, opened, says, play, AllAllowed}
 
 -- a decoding list on the sample page
@@ -41,15 +41,7 @@ pub record Meets (s : Setting) (number : ℕ) : Type 0 where
   pub allowed : AllAllowed s (opened s) (before ++ (call ∷ []))
   pub answer : says s (play s (opened s) before .run) call .number ≡ number
 
--- Row 16: the saved line of document 01, `D>932>555>83>0>512>300>on` and a line feed, read and written.
-abbrev pub row16Run : Run
-row16Run = record { direction = Decoding; page = 932; policy = digits 5 5 5; pending = Byte 0x83; flags = 0; read = 512; written = 300; ended = false }
-
-abbrev pub row16Line : List ℕ
-row16Line =
-    0x44 ∷ 9 ∷ 0x39 ∷ 0x33 ∷ 0x32 ∷ 9 ∷ 0x35 ∷ 0x35 ∷ 0x35 ∷ 9 ∷ 0x38 ∷ 0x33 ∷ 9 ∷ 0x30 ∷ 9 ∷ 0x35 ∷ 0x31 ∷ 0x32 ∷ 9 ∷ 0x33 ∷ 0x30 ∷ 0x30 ∷ 9 ∷ 0x6F ∷ 0x6E ∷ 0x0A ∷ []
-
--- The sixteen rows: run calls, and the line of a run.
+-- The sixteen rows: run calls, and (row 16) the saved line of document 01, read and written, 26 bytes.
 pub data Entry16 : Type 0 where
   calling : Row → Entry16
   line : Run → List ℕ → Entry16
@@ -63,4 +55,4 @@ AllHold [] = Unit {0}
 AllHold (e ∷ es) = Holds e × AllHold es
 
 abbrev pub sixteenRows : List Entry16
-sixteenRows = map calling rows ++ (line row16Run row16Line ∷ [])
+sixteenRows = map calling rows ++ (line sampleRun sampleLine ∷ [])

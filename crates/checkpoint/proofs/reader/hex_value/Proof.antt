@@ -1,6 +1,7 @@
 use mathlib.Core.Option.{Option, Option·getD}
 use mathlib.Core.Path.{sym, ap, _∙_}
 use Prim.Native.Nat.{ℕ}
+use native.Mathlib.Omega.{arith}
 use borrow.Author.Needs.{needs}
 use Rattle.checkpoint.proofs.ParserLaws.{hex-low, hex-high, hex-letter}
 use Rattle.checkpoint.proofs.reader.hex_value.Statement.{statement}
@@ -13,13 +14,13 @@ returns : tie.Need-returns
 returns c = c .digit-value .ensures ∙ ap (λ (o : Option ℕ). Option·getD o 16) (sym (hex-low _ (c .before .if1 .taken)))
 
 returns-2 : tie.Need-returns-2
-returns-2 c = ap (λ (o : Option ℕ). Option·getD o 16) (sym (hex-high _ (c .if2 .taken)))
+returns-2 c = ap (λ (o : Option ℕ). Option·getD o 16) (sym (hex-high (c .before .before .args .byte) (omega arith)))
 
 add-result : tie.Need-add-result
 add-result c = search needs
 
 returns-3 : tie.Need-returns-3
-returns-3 c = ap (λ (o : Option ℕ). Option·getD o 16) (sym (hex-letter _ (c .before .if1 .left) (c .if2 .left)))
+returns-3 c = ap (λ (o : Option ℕ). Option·getD o 16) (sym (hex-letter (c .before .before .args .byte) (omega arith) (omega arith)))
 
 pub hex-value-spec : {M : Type 1} → statement M
 hex-value-spec = tie.close (tie.spec digit-value-requires returns returns-2 add-result returns-3)

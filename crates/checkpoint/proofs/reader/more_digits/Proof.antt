@@ -1,5 +1,5 @@
 use mathlib.Core.Path.{_≡_, refl, sym, _∙_}
-use Prim.Native.Nat.{_≤_, _<_, _-_, _^_}
+use Prim.Native.Nat.{_≤_, _<_, _-_, _+_, _*_, _^_}
 use native.Mathlib.Omega.{arith}
 use lib.ListN.{length, getD}
 use borrow.Author.Needs.{needs}
@@ -40,7 +40,9 @@ nowhere-requires : tie.Need-nowhere-requires Inv-loop μ-loop
 nowhere-requires c κs = search needs
 
 returns-2 : tie.Need-returns-2 Inv-loop μ-loop
-returns-2 c = (omega arith, found-none _ _ _ _ _ (c .before .before .before .before .before .before .loop .inv .3 ∙ digits-turn _ _ (c .before .before .before .before .before .before .loop .value) (c .before .before .before .before .before .before .loop .i) _ (c .before .before .before .before .before .loop-test .taken) (value-some _ _ (c .before .before .before .digit-value .ensures) (omega arith)) ∙ digits-over _ _ _ _ (omega arith) (c .before .if2 .taken)) (c .nowhere .ensures))
+returns-2 c =
+    let over : c .before .before .before .before .before .before .before .before .args .limit < 10 * c .before .before .before .before .before .before .loop .value + c .before .before .before .digit-value .result = omega arith in
+    (omega arith, found-none _ _ _ _ _ (c .before .before .before .before .before .before .loop .inv .3 ∙ digits-turn _ _ (c .before .before .before .before .before .before .loop .value) (c .before .before .before .before .before .before .loop .i) _ (c .before .before .before .before .before .loop-test .taken) (value-some _ _ (c .before .before .before .digit-value .ensures) (omega arith)) ∙ digits-over _ _ _ _ (omega arith) over) (c .nowhere .ensures))
 
 add-i : tie.Need-add-i Inv-loop μ-loop
 add-i c = omega arith

@@ -1,4 +1,4 @@
-use mathlib.Core.Path.{_∙_, sym, ap}
+use mathlib.Core.Path.{_≡_, _∙_, sym, ap}
 use mathlib.Core.Option.{some}
 use native.Mathlib.Omega.{arith}
 use lib.ListN.{getD}
@@ -34,7 +34,9 @@ tab-at-requires : tie.Need-tab-at-requires
 tab-at-requires c κs = search needs
 
 returns-3 : tie.Need-returns-3
-returns-3 c = (omega arith, field-found (upTo (c .before .before .before .before .before .before .before .args .limit) number) _ _ _ _ _ (limited-zero _ _ _ (c .before .before .before .before .before .if1 .left) (value-some _ _ (c .before .before .before .digit-value .ensures) (omega arith) ∙ ap some (c .before .if3 .taken))) (c .tab-at .ensures))
+returns-3 c =
+    let zero-first : c .before .before .before .digit-value .result ≡ 0 = omega (arith, c .before .if3 .taken) in
+    (omega arith, field-found (upTo (c .before .before .before .before .before .before .before .args .limit) number) _ _ _ _ _ (limited-zero _ _ _ (c .before .before .before .before .before .if1 .left) (value-some _ _ (c .before .before .before .digit-value .ensures) (omega arith) ∙ ap some zero-first)) (c .tab-at .ensures))
 
 add-more-digits : tie.Need-add-more-digits
 add-more-digits c = search needs

@@ -1,0 +1,222 @@
+-- Every text has a list of calls that ends with the whole output, on tables of a good shape and the run's page.
+use mathlib.Core.Bool.{Bool, true, false, _&&_, true≢false, false≢true}
+use mathlib.Core.List.{List, [], _∷_, _++_, append-nil}
+use mathlib.Core.Logic.{_⊎_, inl, inr}
+use mathlib.Core.Option.{Option, none, some}
+use mathlib.Core.Path.{_≡_, refl, sym, ap, _∙_, subst}
+use Prim.Native.Nat.{ℕ, zero, suc, _+_, _-_, _*_, _<_, _≤_}
+use native.Mathlib.Omega.{arith}
+use lib.Dec.{leb, eqb}
+use lib.ListN.{length, take, drop, replicate, length-append, length-take, length-drop, length-replicate, take-append-drop}
+use borrow.Author.Tests.{eqb-true, eqb-false, eq-eqb, ne-eqb, leb-true, leb-false, lt-ltb}
+use Rattle.codepage.specs.CodePage.{CodePage, GoodShape, pick, firstFault, isGood}
+use Rattle.codepage.proofs.ShapeLaws.{shape-exact}
+use Rattle.convert.specs.declared.Direction.{Direction}
+use Rattle.convert.specs.declared.Direction.the-variants.{Decoding, Encoding}
+use Rattle.convert.specs.declared.Policy.{Policy}
+use Rattle.convert.specs.declared.Pending.{Pending}
+use Rattle.convert.specs.declared.Pending.the-variants.{Nothing, Byte}
+use Rattle.convert.specs.declared.Run.{Run}
+use Rattle.convert.specs.Engine.{Converter, converter, limit, Fed, feedFrom}
+use Rattle.convert.specs.Runs.{pieceLimit, readLimit, validRun, fresh}
+use Rattle.convert.specs.Calls.{converterOf, leadIn, refusal, Called, pendingUnit, pendingCount, readOf, endedAfter, fedBy, acceptedCall, runCall}
+use Rattle.convert.proofs.EngineLaws.{waitingUnits, Waits, Shape}
+use Rattle.convert.proofs.BoundLaws.{roomy, widest, bounded-of}
+use Rattle.convert.proofs.DecodeLaws.{decoder-lead}
+use Rattle.convert.proofs.CallLaws.{Accepted, accepted-facts, valid-facts, pending-units, encoding-pending, no-pending, feed-shape}
+use Rattle.convert.proofs.RefusalLaws.{refusals-exact}
+use Rattle.traces.specs.Model.{Setting, Call, feeding, Model, opened, says, isAccepted, inHand, joinedBy, acceptedBy, next, play, Allowed, AllAllowed, wholeOf}
+use Rattle.traces.specs.Traces.{Proper}
+use Rattle.traces.proofs.StepLaws.{Reads}
+use Rattle.traces.proofs.ModelLaws.{Doing, Fair, Kept, kept-start, kept-next, fair-whole}
+
+-- over a list of calls
+pub kept-play : (s : Setting) → Proper s → (cs : List Call) (m : Model) → Kept s m → AllAllowed s m cs → Kept s (play s m cs)
+unfolding AllAllowed play
+kept-play s h [] m g ok = g
+kept-play s h (c ∷ cs) m g ok = kept-play s h cs (next s m c) (kept-next s h m g c (ok .0)) (ok .1)
+
+-- ---- one call with room enough
+lead-of : (p : CodePage) (policy : Policy) (pending : Pending) → Waits (converterOf Decoding p policy) (pendingUnit pending) → leadIn (p .classes) pending ≡ true
+lead-of p policy Nothing w = refl
+lead-of p policy (Byte byte) w = decoder-lead (p .classes) (p .singles) (p .pairs) policy (p .defaultUnit) byte w
+
+module _ (s : Setting) (h : Proper s) (good : GoodShape (s .tables)) (own : s .page ≡ s .tables .page) (m : Model) (g : Kept s m) (going : m .ended ≡ false) (piece rest : List ℕ)
+    (begins : drop (m .position) (s .text) ≡ piece ++ rest) (last : Bool) (to-end : last ≡ true → rest ≡ []) (short : length piece ≤ pieceLimit) where
+  abbrev enough : ℕ
+  enough = widest (s .direction) * (1 + length piece)
+
+  reads-so-far : Reads (converterOf (s .direction) (s .tables) (s .policy)) (s .text) (m .run) (m .joined)
+  reads-so-far = subst (λ (t : Bool). Doing t s (m .run) (m .joined)) stepping (g .fair .doing)
+    where
+      stepping : (isGood (firstFault (s .tables)) && eqb (s .page) (s .tables .page)) ≡ true
+      stepping = rw (shape-exact (s .tables) .1 good, eq-eqb (s .page) (s .tables .page) own)
+
+  lead : (d : Direction) → s .direction ≡ d → leadIn (s .tables .classes) (m .run .pending) ≡ true
+  lead Decoding e = lead-of (s .tables) (s .policy) (m .run .pending) (subst (λ (d : Direction). Waits (converterOf d (s .tables) (s .policy)) (pendingUnit (m .run .pending))) e (reads-so-far .waits))
+  lead Encoding e = rw (no-pending (m .run .pending) (m .run .direction) _ (sym e ∙ g .fair .direction) (valid-facts (m .run) (g .fair .valid) .pending))
+
+  left-text : m .run .read + (length piece + length rest) ≡ length (s .text)
+  left-text =
+      omega (arith, reads-so-far .inside, g .fair .read, length-drop (m .position) (s .text), ap length begins, length-append piece rest)
+
+  accepted : refusal (s .direction) (m .run) (s .tables) (length piece) ≡ 0
+  accepted =
+      refusals-exact (s .direction) (m .run) (s .tables) (length piece) .accepted .1
+      (good, short, g .fair .valid, g .fair .direction, g .fair .page ∙ own, lead (s .direction) refl, g .fair .end ∙ going, omega (arith, left-text, h .within))
+
+  given : Fed
+  given = fedBy (s .direction) (m .run) (s .tables) piece last enough
+
+  formed : Shape (converterOf (s .direction) (s .tables) (m .run .policy)) last (waitingUnits (pendingUnit (m .run .pending)) ++ piece) given
+  unfolding given
+  formed = feed-shape (s .direction) (m .run) (s .tables) piece last enough (accepted-facts (s .direction) (m .run) (s .tables) (length piece) accepted)
+
+  not-full : given .answer ≡ 2 → ⊥
+  unfolding given fedBy
+  not-full =
+      roomy (widest (s .direction)) (converterOf (s .direction) (s .tables) (m .run .policy)) (bounded-of (s .direction) (s .tables) (m .run .policy)) last enough (pendingUnit (m .run .pending)) piece
+      (widen (s .direction) (length (waitingUnits (pendingUnit (m .run .pending)))) (length piece) (omega (arith, pending-units (m .run .pending), one-at-most (m .run .pending))))
+    where
+      one-at-most : (pending : Pending) → pendingCount pending ≤ 1
+      one-at-most Nothing = omega arith
+      one-at-most (Byte byte) = omega arith
+
+      widen : (d : Direction) (a n : ℕ) → a ≤ 1 → widest d * (a + n) ≤ widest d * (1 + n)
+      widen Decoding a n q = omega arith
+      widen Encoding a n q = omega arith
+
+  abbrev call : Call
+  call = feeding piece last (replicate enough 0)
+
+  call-allowed : Allowed s m call
+  unfolding Allowed
+  call-allowed = (rest, begins, to-end)
+
+  call-is : runCall (s .direction) (m .run) (s .tables) piece last (length (replicate {A = ℕ} enough 0)) ≡ acceptedCall (m .run) piece last given
+  unfolding runCall given
+  call-is =
+      let e : eqb (refusal (s .direction) (m .run) (s .tables) (length piece)) 0 ≡ true = eq-eqb _ _ accepted in
+      rw (e, length-replicate {A = ℕ} enough 0)
+
+  -- the model after it
+  next-is : next s m call ≡ joinedBy m last (record { number = given .answer; read = acceptedCall (m .run) piece last given .read; output = given .output; run = some (acceptedCall (m .run) piece last given .run) })
+  unfolding next acceptedBy says acceptedCall
+  next-is =
+      let low : isAccepted (given .answer) ≡ true = lt-ltb (given .answer) 10 (omega (arith, formed .known)) in
+      rw (call-is, low)
+
+  ended-then : next s m call .ended ≡ endedAfter last (given .answer)
+  unfolding joinedBy
+  ended-then = ap (λ (x : Model). x .ended) next-is
+
+  position-then : next s m call .position ≡ m .position + readOf (m .run .pending) (length piece) (given .answer) (given .used)
+  unfolding joinedBy acceptedCall
+  position-then = ap (λ (x : Model). x .position) next-is
+
+  -- a call marked last ends the list
+  last-ends : last ≡ true → next s m call .ended ≡ true
+  unfolding endedAfter
+  last-ends l = ended-then ∙ by-answer (eqb (given .answer) 3) (eqb (given .answer) 0) refl refl
+    where
+      by-answer : (t₁ t₂ : Bool) → eqb (given .answer) 3 ≡ t₁ → eqb (given .answer) 0 ≡ t₂ → endedAfter last (given .answer) ≡ true
+      by-answer true t₂ e₁ e₂ = rw e₁
+      by-answer false true e₁ e₂ = rw (e₁, e₂) l
+      by-answer false false e₁ e₂ = absurd (none-other (given .answer) refl)
+        where
+          none-other : (n : ℕ) → given .answer ≡ n → ⊥
+          none-other zero q = eqb-false _ _ e₂ q
+          none-other (suc zero) q = true≢false (sym l ∙ formed .holds q .2)
+          none-other (suc (suc zero)) q = not-full q
+          none-other (suc (suc (suc zero))) q = eqb-false _ _ e₁ q
+          none-other (suc (suc (suc (suc n)))) q = omega (arith, formed .known)
+
+  -- any other ends it or reads all of its piece
+  ends-or-reads : (next s m call .ended ≡ true) ⊎ ((next s m call .ended ≡ false) × (next s m call .position ≡ m .position + length piece))
+  ends-or-reads = by-end (next s m call .ended) refl
+    where
+      reads-all : next s m call .ended ≡ false → (n : ℕ) → given .answer ≡ n → readOf (m .run .pending) (length piece) (given .answer) (given .used) ≡ length piece
+      reads-all e zero q = unfold readOf in rw (ne-eqb (given .answer) 1 (λ z. omega arith)) (omega (arith, formed .all q, length-append (waitingUnits (pendingUnit (m .run .pending))) piece, pending-units (m .run .pending)))
+      reads-all e (suc zero) q = unfold readOf in rw (eq-eqb (given .answer) 1 q)
+      reads-all e (suc (suc zero)) q = absurd (not-full q)
+      reads-all e (suc (suc (suc zero))) q = absurd (true≢false (sym (ended-then ∙ unfold endedAfter in rw (eq-eqb (given .answer) 3 q)) ∙ e))
+      reads-all e (suc (suc (suc (suc n)))) q = absurd (omega (arith, formed .known))
+
+      by-end : (t : Bool) → next s m call .ended ≡ t → (next s m call .ended ≡ true) ⊎ ((next s m call .ended ≡ false) × (next s m call .position ≡ m .position + length piece))
+      by-end true e = inl e
+      by-end false e = inr (e, position-then ∙ ap (λ (n : ℕ). m .position + n) (reads-all e (given .answer) refl))
+
+-- ---- call after call
+-- a list of allowed calls that ends
+pub record Ends (s : Setting) (m : Model) : Type 0 where
+  pub calls : List Call
+  pub allowed : AllAllowed s m calls
+  pub ended : play s m calls .ended ≡ true
+
+one-call : (s : Setting) (m : Model) (c : Call) → Allowed s m c → next s m c .ended ≡ true → Ends s m
+unfolding AllAllowed play
+one-call s m c ok e = record { calls = c ∷ []; allowed = (ok, tt); ended = e }
+
+then-more : (s : Setting) (m : Model) (c : Call) → Allowed s m c → Ends s (next s m c) → Ends s m
+unfolding AllAllowed play
+then-more s m c ok e = record { calls = c ∷ e .calls; allowed = (ok, e .allowed); ended = e .ended }
+
+module _ (s : Setting) (h : Proper s) (good : GoodShape (s .tables)) (own : s .page ≡ s .tables .page) where
+  -- what is left fits one piece
+  last-piece : (m : Model) → Kept s m → m .ended ≡ false → length (drop (m .position) (s .text)) ≤ pieceLimit → Ends s m
+  last-piece m g going short =
+      one-call s m _ (call-allowed s h good own m g going (drop (m .position) (s .text)) [] (sym (append-nil _)) true (λ e. refl) short)
+      (last-ends s h good own m g going (drop (m .position) (s .text)) [] (sym (append-nil _)) true (λ e. refl) short refl)
+
+  -- a full piece, and then the rest
+  full-piece : (fuel : ℕ) → ((m : Model) → Kept s m → m .ended ≡ false → length (drop (m .position) (s .text)) ≤ fuel → Ends s m)
+      → (m : Model) → Kept s m → m .ended ≡ false → length (drop (m .position) (s .text)) ≤ suc fuel → pieceLimit < length (drop (m .position) (s .text)) → Ends s m
+  full-piece fuel rest m g going q long = by-end (ends-or-reads s h good own m g going piece others begins false (λ e. absurd (false≢true e)) short)
+    where
+      piece : List ℕ
+      piece = take pieceLimit (drop (m .position) (s .text))
+
+      others : List ℕ
+      others = drop pieceLimit (drop (m .position) (s .text))
+
+      begins : drop (m .position) (s .text) ≡ piece ++ others
+      begins = sym (take-append-drop pieceLimit (drop (m .position) (s .text)))
+
+      size : length piece ≡ pieceLimit
+      size = length-take pieceLimit (drop (m .position) (s .text)) ∙ omega arith
+
+      short : length piece ≤ pieceLimit
+      short = omega (arith, size)
+
+      ok : Allowed s m (feeding piece false (replicate (widest (s .direction) * (1 + length piece)) 0))
+      ok = call-allowed s h good own m g going piece others begins false (λ e. absurd (false≢true e)) short
+
+      by-end : (next s m (feeding piece false (replicate (widest (s .direction) * (1 + length piece)) 0)) .ended ≡ true)
+          ⊎ ((next s m (feeding piece false (replicate (widest (s .direction) * (1 + length piece)) 0)) .ended ≡ false)
+          × (next s m (feeding piece false (replicate (widest (s .direction) * (1 + length piece)) 0)) .position ≡ m .position + length piece)) → Ends s m
+      by-end (inl e) = one-call s m _ ok e
+      by-end (inr e) =
+          then-more s m _ ok
+          (rest (next s m (feeding piece false (replicate (widest (s .direction) * (1 + length piece)) 0))) (kept-next s h m g _ ok) (e .0)
+          (omega (
+            arith,
+            length-drop (next s m (feeding piece false (replicate (widest (s .direction) * (1 + length piece)) 0)) .position) (s .text),
+            length-drop (m .position) (s .text),
+            e .1,
+            size,
+          )))
+
+  ends-step : (fuel : ℕ) → ((m : Model) → Kept s m → m .ended ≡ false → length (drop (m .position) (s .text)) ≤ fuel → Ends s m) → (m : Model) → Kept s m → m .ended ≡ false
+      → length (drop (m .position) (s .text)) ≤ suc fuel → (t : Bool) → leb (length (drop (m .position) (s .text))) pieceLimit ≡ t → Ends s m
+  ends-step fuel rest m g going q true e = last-piece m g going (leb-true _ _ e)
+  ends-step fuel rest m g going q false e = full-piece fuel rest m g going q (leb-false _ _ e)
+
+  ends-from : (fuel : ℕ) (m : Model) → Kept s m → m .ended ≡ false → length (drop (m .position) (s .text)) ≤ fuel → Ends s m
+  ends-from zero m g going q = last-piece m g going (omega arith)
+  ends-from (suc fuel) m g going q = ends-step fuel (ends-from fuel) m g going q (leb (length (drop (m .position) (s .text))) pieceLimit) refl
+
+  -- EVERY TEXT has a list of allowed calls that ends, with the whole output.
+  pub every-text : (e : Ends s (opened s)) × (play s (opened s) (e .calls) .joined ≡ wholeOf s .output)
+  every-text =
+      let e = ends-from (length (drop (opened s .position) (s .text))) (opened s) (kept-start s h) (unfold opened in refl) (omega arith) in
+      (e, fair-whole s _ _ _ _ (kept-play s h (e .calls) (opened s) (kept-start s h) (e .allowed) .fair) (e .ended) .0)
