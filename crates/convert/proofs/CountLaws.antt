@@ -10,7 +10,7 @@ use lib.Dec.{eqb}
 use lib.ListN.{length, getD, drop, length-append}
 use lib.Bits.{bitOr, or-zero-r}
 use Rattle.codepage.specs.CodePage.{pick}
-use Rattle.convert.specs.declared.policies.Doing.{Doing}
+use Rattle.convert.specs.declared.policies.CodeEffect.{CodeEffect}
 use Rattle.convert.specs.declared.progress.Progress.{Progress}
 use Rattle.convert.specs.Engine.{Effect, Converter, Room, endless, fits, less, Fed, halt, after, stopAt, takeWhen, takeCode, feedFrom}
 use Rattle.convert.specs.Steps.{unitEffect, byteEffect, summary, optional, stoppedBy, takenBy}
@@ -176,7 +176,7 @@ module _ {v : Converter} {F : Fed} {text : List ℕ} {waits : Bool} {first : ℕ
       by-answer (suc n) z = count-stop c [] step (λ y. omega arith)
 
 -- ---- the program's numbers
-module _ (d : Doing) where
+module _ (d : CodeEffect) where
   units-by : (t : Bool) → eqb (d .count) 0 ≡ t → length (unitEffect d .writes) ≤ 1
   unfolding unitEffect
   units-by true e = rw e (omega arith)

@@ -14,14 +14,14 @@ use Rattle.codepage.specs.Reading.{byteAlone, bytePair, unitOf, decoder}
 use Rattle.codepage.specs.declared.Lookup.{Lookup}
 use Rattle.codepage.proofs.ShapeLaws.{block-there}
 use Rattle.convert.specs.declared.Policy.{Policy}
-use Rattle.convert.specs.declared.policies.Doing.{Doing}
+use Rattle.convert.specs.declared.policies.CodeEffect.{CodeEffect}
 use Rattle.convert.specs.declared.progress.Progress.{Progress}
 use Rattle.convert.specs.Engine.{Effect, effectOf, Converter, converter, Room, limit, less, Fed, takeCode, feedFrom}
 use Rattle.convert.specs.Steps.{unitEffect, sofar, stoppedBy, fullAt, takenBy, Took, DecodeSizes, optional, decodeFed}
 use Rattle.convert.proofs.LoopLaws.{took-stop, took-lacks, took-none, took-writes}
 
 -- ---- the four ways of a code
-module _ (d : Doing) (n : ℕ) (s : Progress) (out : List ℕ) (h : s .written ≤ length out) where
+module _ (d : CodeEffect) (n : ℕ) (s : Progress) (out : List ℕ) (h : s .written ≤ length out) where
   pub units-stop : d .stops ≡ true → Took (unitEffect d) n s out (stoppedBy (d .flag) n s) out
   unfolding unitEffect
   units-stop e = took-stop (unitEffect d) n s out h e
@@ -50,7 +50,7 @@ pub pair-room : (classes singles pairs : List ℕ) (lead : ℕ) → DecodeSizes 
 pair-room classes singles pairs lead h e = omega (arith, block-there classes lead (lead-there classes lead e) e, h .all-pairs)
 
 -- the effects of the converter
-module _ (classes singles pairs : List ℕ) (policy : Policy) (default : ℕ) (d : Doing) (found : Lookup) where
+module _ (classes singles pairs : List ℕ) (policy : Policy) (default : ℕ) (d : CodeEffect) (found : Lookup) where
   pub decoded-one : (byte : ℕ) → found ≡ byteAlone classes singles byte → unitEffect d ≡ effectOf unitOf policy default byte found
       → unitEffect d ≡ converter (decoder classes singles pairs) policy default .one byte
   unfolding converter decoder

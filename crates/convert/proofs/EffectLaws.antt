@@ -15,7 +15,7 @@ use Rattle.convert.specs.declared.Direction.the-variants.{Encoding}
 use Rattle.convert.specs.declared.Policy.{Policy}
 use Rattle.convert.specs.declared.policies.Action.{Action}
 use Rattle.convert.specs.declared.policies.Action.the-variants.{Stop, Skip, Write}
-use Rattle.convert.specs.declared.policies.Doing.{Doing}
+use Rattle.convert.specs.declared.policies.CodeEffect.{CodeEffect}
 use Rattle.convert.specs.Policies.{digitOf, flagOf, actionOf, policyAllowed}
 use Rattle.convert.specs.Engine.{Effect, acted, effectOf}
 use Rattle.convert.specs.Steps.{actedAs, unitEffect, byteEffect}
@@ -34,7 +34,7 @@ unit-acted flag Stop = refl
 unit-acted flag Skip = refl
 unit-acted flag (Write value) = refl
 
-pub unit-lacking : (policy : Policy) (default byte : ℕ) (kind : Kind) (d : Doing) → d ≡ actedAs (flagOf kind) (actionOf (digitOf policy kind) default byte)
+pub unit-lacking : (policy : Policy) (default byte : ℕ) (kind : Kind) (d : CodeEffect) → d ≡ actedAs (flagOf kind) (actionOf (digitOf policy kind) default byte)
     → unitEffect d ≡ effectOf unitOf policy default byte (Lacking kind)
 unfolding effectOf
 unit-lacking policy default byte kind d e = ap unitEffect e ∙ unit-acted (flagOf kind) (actionOf (digitOf policy kind) default byte)

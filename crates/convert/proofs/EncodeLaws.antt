@@ -10,14 +10,14 @@ use borrow.Author.Tests.{eq-eqb, ne-eqb}
 use Rattle.codepage.specs.Reading.{unitCode, bytesOf, encoder}
 use Rattle.codepage.specs.declared.Lookup.{Lookup}
 use Rattle.convert.specs.declared.Policy.{Policy}
-use Rattle.convert.specs.declared.policies.Doing.{Doing}
+use Rattle.convert.specs.declared.policies.CodeEffect.{CodeEffect}
 use Rattle.convert.specs.declared.progress.Progress.{Progress}
 use Rattle.convert.specs.Engine.{effectOf, converter}
 use Rattle.convert.specs.Steps.{byteEffect, stoppedBy, fullAt, takenBy, Took}
 use Rattle.convert.proofs.LoopLaws.{took-stop, took-lacks, took-none, took-writes}
 
 -- ---- the six ways of a unit
-module _ (d : Doing) (s : Progress) (out : List ℕ) (h : s .written ≤ length out) where
+module _ (d : CodeEffect) (s : Progress) (out : List ℕ) (h : s .written ≤ length out) where
   pub bytes-stop : d .stops ≡ true → Took (byteEffect d) 1 s out (stoppedBy (d .flag) 1 s) out
   unfolding byteEffect
   bytes-stop e = took-stop (byteEffect d) 1 s out h e
@@ -45,7 +45,7 @@ module _ (d : Doing) (s : Progress) (out : List ℕ) (h : s .written ≤ length 
     bytes-two-full c f = took-lacks (byteEffect d) 1 s out h (d .value / 256 ∷ d .value % 256 ∷ []) e (rw (ne-eqb _ _ z, ne-eqb _ _ c)) (omega arith)
 
 -- the effect of the converter
-pub encoded-one : (index blocks : List ℕ) (policy : Policy) (default unit : ℕ) (d : Doing) (found : Lookup) → found ≡ unitCode index blocks unit
+pub encoded-one : (index blocks : List ℕ) (policy : Policy) (default unit : ℕ) (d : CodeEffect) (found : Lookup) → found ≡ unitCode index blocks unit
     → byteEffect d ≡ effectOf bytesOf policy default unit found → byteEffect d ≡ converter (encoder index blocks) policy default .one unit
 unfolding converter encoder
 encoded-one index blocks policy default unit d found e q = q ∙ ap (effectOf bytesOf policy default unit) e

@@ -10,7 +10,7 @@ use lib.ListN.{length, take, drop}
 use Rattle.codepage.specs.CodePage.{pick, leads}
 use Rattle.convert.specs.declared.policies.Action.{Action}
 use Rattle.convert.specs.declared.policies.Action.the-variants.{Stop, Skip, Write}
-use Rattle.convert.specs.declared.policies.Doing.{Doing}
+use Rattle.convert.specs.declared.policies.CodeEffect.{CodeEffect}
 use Rattle.codepage.specs.Reading.{decoder, encoder}
 use Rattle.convert.specs.declared.Policy.{Policy}
 use Rattle.convert.specs.declared.Pending.{Pending}
@@ -25,16 +25,16 @@ use Rattle.convert.specs.Engine.{Effect, Fed, after, takeCode, limit, co
 use Rattle.convert.specs.Calls.{numberOf, readOf, runAfter, endedAfter}
 
 -- what an action does, in numbers
-abbrev pub actedAs : ℕ → Action → Doing
+abbrev pub actedAs : ℕ → Action → CodeEffect
 actedAs flag Stop = record { flag = flag; count = 0; value = 0; stops = true }
 actedAs flag Skip = record { flag = flag; count = 0; value = 0; stops = false }
 actedAs flag (Write value) = record { flag = flag; count = 1; value = value; stops = false }
 
 -- the effect that the numbers stand for: in units, and in bytes
-unfoldable pub unitEffect : Doing → Effect
+unfoldable pub unitEffect : CodeEffect → Effect
 unitEffect d = record { flag = d .flag; writes = pick (eqb (d .count) 0) [] (d .value ∷ []); stops = d .stops }
 
-unfoldable pub byteEffect : Doing → Effect
+unfoldable pub byteEffect : CodeEffect → Effect
 byteEffect d =
     record {
       flag = d .flag;

@@ -12,11 +12,11 @@ ghost use Rattle.convert.specs.Engine.{converter, endless, feedFrom};
 ghost use Rattle.convert.specs.Steps.{unitEffect, byteEffect, stoppedBy, takenBy, summary, DecodeSizes};
 use crate::Policy;
 use crate::policies;
-use crate::policies::Doing;
+use crate::policies::CodeEffect;
 use crate::progress;
 use crate::progress::Progress;
 
-fn units_written(d: Doing) -> usize
+fn units_written(d: CodeEffect) -> usize
     ensures { λ r. ⌜ r ≡ length (unitEffect d .writes) ⌝ }
 {
     if d.count == 0 {
@@ -25,7 +25,7 @@ fn units_written(d: Doing) -> usize
     1
 }
 
-fn bytes_written(d: Doing) -> usize
+fn bytes_written(d: CodeEffect) -> usize
     ensures { λ r. ⌜ r ≡ length (byteEffect d .writes) ⌝ }
 {
     if d.count == 0 {
@@ -38,7 +38,7 @@ fn bytes_written(d: Doing) -> usize
 }
 
 // A code of `size` units that writes `count`: it stops, or is counted.
-fn count_code(d: Doing, size: usize, count: usize, s: Progress) -> Progress
+fn count_code(d: CodeEffect, size: usize, count: usize, s: Progress) -> Progress
     requires { ⌜ (s .used + size < 2 ^ 64) × (s .written + count < 2 ^ 64) ⌝ }
     ensures { λ r. ⌜ r ≡ pick (d .stops) (stoppedBy (d .flag) size s) (takenBy (d .flag) size s count) ⌝ }
 {

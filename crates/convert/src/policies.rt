@@ -20,7 +20,7 @@ pub enum Action {
 }
 
 // What a code does: the flag that it sets, what it writes (count: how many elements, of `value`), and whether it stops.
-pub struct Doing {
+pub struct CodeEffect {
     pub flag: u8,
     pub count: u8,
     pub value: u16,
@@ -92,23 +92,23 @@ fn action_of(digit: u8, default: u16, byte: u8) -> Action
     Action::Write(0xF100 + (byte as u16))
 }
 
-fn acted(flag: u8, action: Action) -> Doing
+fn acted(flag: u8, action: Action) -> CodeEffect
     ensures { λ r. ⌜ r ≡ actedAs flag action ⌝ }
 {
     match action {
-        Action::Stop => Doing {
+        Action::Stop => CodeEffect {
             flag,
             count: 0,
             value: 0,
             stops: true,
         },
-        Action::Skip => Doing {
+        Action::Skip => CodeEffect {
             flag,
             count: 0,
             value: 0,
             stops: false,
         },
-        Action::Write(value) => Doing {
+        Action::Write(value) => CodeEffect {
             flag,
             count: 1,
             value,
@@ -118,7 +118,7 @@ fn acted(flag: u8, action: Action) -> Doing
 }
 
 // A code that has no character.
-fn lacking(policy: Policy, default: u16, byte: u8, kind: Kind) -> Doing
+fn lacking(policy: Policy, default: u16, byte: u8, kind: Kind) -> CodeEffect
     ensures { λ r. ⌜ r ≡ actedAs (flagOf kind) (actionOf (digitOf policy kind) default byte) ⌝ }
 {
     let digit = digit_of(policy, kind);
@@ -128,11 +128,11 @@ fn lacking(policy: Policy, default: u16, byte: u8, kind: Kind) -> Doing
 }
 
 // What a code of bytes does in decoding.
-pub fn decoded(policy: Policy, default: u16, byte: u8, lookup: Lookup) -> Doing
+pub fn decoded(policy: Policy, default: u16, byte: u8, lookup: Lookup) -> CodeEffect
     ensures { λ r. ⌜ unitEffect r ≡ effectOf unitOf policy default byte lookup ⌝ }
 {
     match lookup {
-        Lookup::Found(value) => Doing {
+        Lookup::Found(value) => CodeEffect {
             flag: 0,
             count: 1,
             value,
@@ -143,7 +143,7 @@ pub fn decoded(policy: Policy, default: u16, byte: u8, lookup: Lookup) -> Doing
 }
 
 // What a unit does in encoding.
-pub fn encoded(policy: Policy, default: u8, lookup: Lookup) -> Doing
+pub fn encoded(policy: Policy, default: u8, lookup: Lookup) -> CodeEffect
     requires { ⌜ policyAllowed Encoding policy ≡ true ⌝ }
     ensures { λ r. ⌜ ((unit : ℕ) → byteEffect r ≡ effectOf bytesOf policy default unit lookup) ⌝ }
 {
@@ -154,18 +154,18 @@ pub fn encoded(policy: Policy, default: u8, lookup: Lookup) -> Doing
 }
 
 // The bytes of a code.
-fn found_code(code: u16) -> Doing
+fn found_code(code: u16) -> CodeEffect
     ensures { λ r. ⌜ ((policy : Policy) (default unit : ℕ) → byteEffect r ≡ effectOf bytesOf policy default unit (Lookup.Found code)) ⌝ }
 {
     if code <= 0xFF {
-        return Doing {
+        return CodeEffect {
             flag: 0,
             count: 1,
             value: code,
             stops: false,
         };
     }
-    Doing {
+    CodeEffect {
         flag: 0,
         count: 2,
         value: code,

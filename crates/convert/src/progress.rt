@@ -3,7 +3,7 @@ ghost use mathlib.Core.Path.{_≡_};
 ghost use Prim.Native.Nat.{ℕ, _+_, _≤_, _<_, _^_};
 ghost use lib.ListN.{length};
 ghost use Rattle.convert.specs.Steps.{unitEffect, byteEffect, stoppedBy, fullAt, takenBy, Took};
-use crate::policies::Doing;
+use crate::policies::CodeEffect;
 
 // The answer so far (0: going on), the units of the codes taken, what was written, and the flags set.
 pub struct Progress {
@@ -14,7 +14,7 @@ pub struct Progress {
 }
 
 // The code stops the call.
-pub fn stopped(d: Doing, size: usize, s: Progress) -> Progress
+pub fn stopped(d: CodeEffect, size: usize, s: Progress) -> Progress
     requires { ⌜ s .used + size < 2 ^ 64 ⌝ }
     ensures { λ r. ⌜ r ≡ stoppedBy (d .flag) size s ⌝ }
 {
@@ -39,7 +39,7 @@ fn full(s: Progress) -> Progress
 }
 
 // The code was taken and wrote `count` elements.
-pub fn taken(d: Doing, size: usize, s: Progress, count: usize) -> Progress
+pub fn taken(d: CodeEffect, size: usize, s: Progress, count: usize) -> Progress
     requires { ⌜ (s .used + size < 2 ^ 64) × (s .written + count < 2 ^ 64) ⌝ }
     ensures { λ r. ⌜ r ≡ takenBy (d .flag) size s count ⌝ }
 {
@@ -52,7 +52,7 @@ pub fn taken(d: Doing, size: usize, s: Progress, count: usize) -> Progress
 }
 
 // Takes a code of `size` bytes in decoding: stops, writes its unit if it fits, or skips it.
-pub fn take_units(d: Doing, size: usize, s: Progress, out: &mut [u16]) -> Progress
+pub fn take_units(d: CodeEffect, size: usize, s: Progress, out: &mut [u16]) -> Progress
     requires { ⌜ (s .written ≤ length (now out)) × (s .used + size < 2 ^ 64) ⌝ }
     ensures { λ r. ⌜ Took (unitEffect d) size s (now (out .entry)) r (now (out .exit)) ⌝ }
 {
@@ -71,7 +71,7 @@ pub fn take_units(d: Doing, size: usize, s: Progress, out: &mut [u16]) -> Progre
 }
 
 // Takes a unit in encoding: stops, writes its bytes if all fit, or skips it.
-pub fn take_bytes(d: Doing, s: Progress, out: &mut [u8]) -> Progress
+pub fn take_bytes(d: CodeEffect, s: Progress, out: &mut [u8]) -> Progress
     requires { ⌜ (s .written ≤ length (now out)) × (s .used + 1 < 2 ^ 64) ⌝ }
     ensures { λ r. ⌜ Took (byteEffect d) 1 s (now (out .entry)) r (now (out .exit)) ⌝ }
 {

@@ -24,19 +24,19 @@ use Rattle.checkpoint.specs.Line as L
 use Rattle.checkpoint.specs.Sample.{sampleRun, sampleLine}
 use Rattle.checkpoint.proofs.LineLaws.{sample-written, sample-read}
 use Rattle.traces.specs.Model.{Setting, Call, feeding, saving, loading, Model, opened, says, joinedBy, notedBy, setBackTo, acceptedBy, next, play, Allowed, AllAllowed, wholeOf}
-use Rattle.traces.specs.Night.{onSample, room, nightText, nightLine, night, Meets, Entry16, calling, line, sixteenRows, AllHold}
+use Rattle.traces.specs.Examples.{onSample, room, interruptedText, interruptedLine, interrupted, Meets, Entry16, calling, line, sixteenRows, AllHold}
 
--- THE NIGHT: nothing is lost. The list is allowed, and at its end the model has ended with 0041 4E00 0042 and no flag.
-pub night-kept : (play (onSample nightText) (opened (onSample nightText)) night .joined ≡ 0x0041 ∷ 0x4E00 ∷ 0x0042 ∷ [])
-    × (play (onSample nightText) (opened (onSample nightText)) night .ended ≡ true)
-    × (play (onSample nightText) (opened (onSample nightText)) night .position ≡ 4)
-    × (play (onSample nightText) (opened (onSample nightText)) night .run .flags ≡ 0)
+-- THE INTERRUPTED RUN: nothing is lost. The list is allowed, and at its end the model has ended with 0041 4E00 0042 and no flag.
+pub interrupted-kept : (play (onSample interruptedText) (opened (onSample interruptedText)) interrupted .joined ≡ 0x0041 ∷ 0x4E00 ∷ 0x0042 ∷ [])
+    × (play (onSample interruptedText) (opened (onSample interruptedText)) interrupted .ended ≡ true)
+    × (play (onSample interruptedText) (opened (onSample interruptedText)) interrupted .position ≡ 4)
+    × (play (onSample interruptedText) (opened (onSample interruptedText)) interrupted .run .flags ≡ 0)
 unfolding isKnown isSingle isLead isTrail leads leadsBelow firstBad badClass badNumber classFault firstFault lookup byteAlone bytePair decoder actionOf policyAllowed effectOf converter fits less halt after stopAt takeWhen takeCode feedFrom validRun refusal readOf pendingAfter endedAfter runAfter fedBy acceptedCall refusedCall runCall decimalFrom decimal fieldOf closingOf lineOf return _>>=_ orElse one moreDigits number letter threeDigits hexPair carried field closing fields kept runOf writeOf L.readOf loaded opened says joinedBy notedBy setBackTo acceptedBy next play
-night-kept = (refl, refl, refl, refl)
+interrupted-kept = (refl, refl, refl, refl)
 
-pub night-allowed : AllAllowed (onSample nightText) (opened (onSample nightText)) night
+pub interrupted-allowed : AllAllowed (onSample interruptedText) (opened (onSample interruptedText)) interrupted
 unfolding isKnown isSingle isLead isTrail leads leadsBelow firstBad badClass badNumber classFault firstFault lookup byteAlone bytePair decoder actionOf policyAllowed effectOf converter fits less halt after stopAt takeWhen takeCode feedFrom validRun refusal readOf pendingAfter endedAfter runAfter fedBy acceptedCall refusedCall runCall decimalFrom decimal fieldOf closingOf lineOf return _>>=_ orElse one moreDigits number letter threeDigits hexPair carried field closing fields kept runOf writeOf L.readOf loaded opened says joinedBy notedBy setBackTo acceptedBy next play Allowed AllAllowed
-night-allowed = ((0x7C ∷ 0x42 ∷ [], refl, λ e. absurd (false≢true e)), (tt, (inl (_, refl), (([], refl, λ e. refl), tt))))
+interrupted-allowed = ((0x7C ∷ 0x42 ∷ [], refl, λ e. absurd (false≢true e)), (tt, (inl (_, refl), (([], refl, λ e. refl), tt))))
 
 -- THE SIXTEEN ROWS: one list, one claim.
 sixteen-from : (rs : List Row) (es : List Entry16) → RowsHold rs → AllHold es → AllHold (map calling rs ++ es)

@@ -1,3 +1,3 @@
 pub mod Model
 pub mod Traces
-pub mod Night
+pub mod Examples

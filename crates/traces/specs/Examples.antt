@@ -1,4 +1,4 @@
--- Worked lists on the sample page: the night at which the line drops inside a two-byte character, a list for each number that a
+-- Worked lists on the sample page: a run whose line drops inside a two-byte character, a list for each number that a
 -- list can meet, and the sixteen rows of document 01.
 use mathlib.Core.Bool.{Bool, true, false}
 use mathlib.Core.List.{List, [], _∷_, _++_, map}
@@ -23,16 +23,16 @@ onSample text = record { tables = samplePage; direction = Decoding; page = 7; po
 abbrev pub room : ℕ → List ℕ
 room n = replicate n 0xEE
 
--- The night: a block ends on the lead 82 of the character 827C. The run is saved, and read back in the morning; 7C is next.
-abbrev pub nightText : List ℕ
-nightText = 0x41 ∷ 0x82 ∷ 0x7C ∷ 0x42 ∷ []
+-- An interrupted run: a block ends on the lead 82 of the character 827C. The run is saved, and read back in the morning; 7C is next.
+abbrev pub interruptedText : List ℕ
+interruptedText = 0x41 ∷ 0x82 ∷ 0x7C ∷ 0x42 ∷ []
 
 -- `D>7>555>82>0>2>1>on` and a line feed
-abbrev pub nightLine : List ℕ
-nightLine = 0x44 ∷ 9 ∷ 0x37 ∷ 9 ∷ 0x35 ∷ 0x35 ∷ 0x35 ∷ 9 ∷ 0x38 ∷ 0x32 ∷ 9 ∷ 0x30 ∷ 9 ∷ 0x32 ∷ 9 ∷ 0x31 ∷ 9 ∷ 0x6F ∷ 0x6E ∷ 0x0A ∷ []
+abbrev pub interruptedLine : List ℕ
+interruptedLine = 0x44 ∷ 9 ∷ 0x37 ∷ 9 ∷ 0x35 ∷ 0x35 ∷ 0x35 ∷ 9 ∷ 0x38 ∷ 0x32 ∷ 9 ∷ 0x30 ∷ 9 ∷ 0x32 ∷ 9 ∷ 0x31 ∷ 9 ∷ 0x6F ∷ 0x6E ∷ 0x0A ∷ []
 
-abbrev pub night : List Call
-night = feeding (0x41 ∷ 0x82 ∷ []) false (room 9) ∷ saving (room 44) ∷ loading nightLine ∷ feeding (0x7C ∷ 0x42 ∷ []) true (room 9) ∷ []
+abbrev pub interrupted : List Call
+interrupted = feeding (0x41 ∷ 0x82 ∷ []) false (room 9) ∷ saving (room 44) ∷ loading interruptedLine ∷ feeding (0x7C ∷ 0x42 ∷ []) true (room 9) ∷ []
 
 -- A list that meets a number: its last call is answered with it.
 pub record Meets (s : Setting) (number : ℕ) : Type 0 where
