@@ -11,15 +11,15 @@ use lib.ListN.{length, take, drop, length-append}
 use lib.Seq.{take-append-seam}
 use borrow.Author.Tests.{le-leb, leb-true, lt-ltb, le-ltb, ltb-true, ltb-false}
 use Rattle.codepage.specs.CodePage.{pick}
-use Rattle.convert.specs.declared.Direction.{Direction}
-use Rattle.convert.specs.declared.Direction.the-variants.{Decoding, Encoding}
-use Rattle.convert.specs.declared.Policy.{Policy}
+use Rattle.engine.specs.declared.Direction.{Direction}
+use Rattle.engine.specs.declared.Direction.the-variants.{Decoding, Encoding}
+use Rattle.engine.specs.declared.Policy.{Policy}
 use Rattle.convert.specs.declared.Pending.{Pending}
 use Rattle.convert.specs.declared.Pending.the-variants.{Nothing, Byte}
 use Rattle.convert.specs.declared.Run.{Run}
 use Rattle.convert.specs.Runs.{validRun, mostWritten, isDecoding, ifPending}
-use Rattle.convert.specs.Policies.{policyAllowed, highestSingle}
-use Rattle.convert.specs.Calls.{over}
+use Rattle.engine.specs.Policies.{policyAllowed, highestSingle}
+use Rattle.engine.specs.Engine.{over}
 use Rattle.convert.proofs.CallLaws.{Valid, valid-facts}
 use Rattle.checkpoint.specs.declared.Written.{Written}
 use Rattle.checkpoint.specs.Line.{tab, lineOf, fieldOf, closingOf, decimal, decimalFrom, runOf, kept, fields, field, letter, number, moreDigits, threeDigits, carried, hexPair, closing, one, orElse, return, _>>=_, Parsed, Parser, Representable, Restores, CarriedFits, letterOf, digitsOf, carriedOf, Saving, unwritten, writeOf, writtenAs, Saved, Loading, loaded, readOf}

@@ -8,9 +8,9 @@ use native.Mathlib.Omega.{arith}
 use lib.Dec.{ltb, leb, eqb}
 use borrow.Author.Tests.{lt-ltb, le-ltb, le-leb, lt-leb, ne-eqb, ltb-true, ltb-false, leb-true, eqb-true}
 use Rattle.codepage.specs.CodePage.{pick}
-use Rattle.convert.specs.declared.Direction.{Direction}
-use Rattle.convert.specs.declared.Direction.the-variants.{Decoding, Encoding}
-use Rattle.convert.specs.declared.Policy.{Policy}
+use Rattle.engine.specs.declared.Direction.{Direction}
+use Rattle.engine.specs.declared.Direction.the-variants.{Decoding, Encoding}
+use Rattle.engine.specs.declared.Policy.{Policy}
 use Rattle.convert.specs.declared.Pending.{Pending}
 use Rattle.convert.specs.declared.Pending.the-variants.{Nothing, Byte}
 use Rattle.checkpoint.specs.Line.{tab, digitByte, hexByte, decimal, letterOf, digitsOf, carriedOf, fieldOf, closingOf, Parsed, Parser, return, _>>=_, orElse, one, isByte, digitValue, hexValue, moreDigits, number, letterValue, letter, threeDigits, hexPair, carried, field, sameBytes, closing, CarriedFits}

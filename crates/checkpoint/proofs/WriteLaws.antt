@@ -9,12 +9,12 @@ use native.Mathlib.Omega.{arith}
 use lib.ListN.{length, getD, take, drop, set, length-append}
 use lib.Seq.{sets, length-sets, sets-eq, set-comm, take-suc, length-take-le, take-length}
 use borrow.Author.Tests.{lt-ltb, le-ltb}
-use Rattle.convert.specs.declared.Direction.{Direction}
+use Rattle.engine.specs.declared.Direction.{Direction}
 use Rattle.convert.specs.declared.Pending.{Pending}
 use Rattle.convert.specs.declared.Pending.the-variants.{Nothing, Byte}
 use Rattle.convert.specs.declared.Run.{Run}
 use Rattle.convert.specs.Runs.{validRun}
-use Rattle.convert.specs.Calls.{over}
+use Rattle.engine.specs.Engine.{over}
 use Rattle.checkpoint.specs.Line.{tab, hexByte, decimal, letterOf, carriedOf, fieldOf, closingOf, lineOf, writeOf, Saved}
 use Rattle.checkpoint.specs.declared.Written.the-variants.{Line, InvalidRun, NoRoom}
 use Rattle.checkpoint.specs.Places.{startFields, totalFields, Put}

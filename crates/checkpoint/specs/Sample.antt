@@ -2,7 +2,7 @@
 use mathlib.Core.Bool.{true, false}
 use mathlib.Core.List.{List, [], _∷_}
 use Prim.Native.Nat.{ℕ}
-use Rattle.convert.specs.declared.Direction.the-variants.{Decoding, Encoding}
+use Rattle.engine.specs.declared.Direction.the-variants.{Decoding, Encoding}
 use Rattle.convert.specs.declared.Pending.the-variants.{Nothing, Byte}
 use Rattle.convert.specs.declared.Run.{Run}
 

@@ -11,23 +11,25 @@ use lib.Bits.{bitOr}
 use Rattle.codepage.specs.CodePage.{CodePage, pick, entry, isLead, GoodShape, firstFault, isGood}
 use Rattle.codepage.specs.Reading.{decoder, encoder}
 use Rattle.codepage.proofs.ShapeLaws.{shape-exact}
-use Rattle.convert.specs.declared.Direction.{Direction}
-use Rattle.convert.specs.declared.Direction.the-variants.{Decoding, Encoding}
+use Rattle.engine.specs.declared.Direction.{Direction}
+use Rattle.engine.specs.declared.Direction.the-variants.{Decoding, Encoding}
 use Rattle.convert.specs.declared.Outcome.{Outcome}
-use Rattle.convert.specs.declared.progress.Progress.{Progress}
+use Rattle.engine.specs.declared.progress.Progress.{Progress}
 use Rattle.convert.specs.declared.Pending.{Pending}
 use Rattle.convert.specs.declared.Pending.the-variants.{Nothing, Byte}
-use Rattle.convert.specs.declared.Policy.{Policy}
+use Rattle.engine.specs.declared.Policy.{Policy}
 use Rattle.convert.specs.declared.Run.{Run}
 use borrow.Author.Tests.{eqb-true, eqb-false, leb-true, ltb-true, ltb-false, eq-eqb, ne-eqb, le-leb, not-true, not-false}
-use Rattle.convert.specs.Policies.{policyAllowed}
+use Rattle.engine.specs.Policies.{policyAllowed}
 use Rattle.convert.specs.Runs.{pieceLimit, readLimit, isDecoding, mostWritten, ifPending, validRun}
-use Rattle.convert.specs.Engine.{Converter, converter, limit, Fed}
-use Rattle.convert.specs.Calls.{converterOf, sameDirection, leadIn, check, refusal, Called, pendingUnit, pendingCount, finalUnit, readOf, pendingAfter, endedAfter, runAfter, fedBy, acceptedCall, refusedCall, runCall, over, Answered}
-use Rattle.convert.specs.Steps.{summary, DecodeSizes, optional, hasPending, pendingByte, decodeFed, encodeFed, Finished, Refused}
-use Rattle.convert.proofs.EngineLaws.{waitingUnits, Waits, Shape, shape-from}
-use Rattle.convert.proofs.EncodeLaws.{encoder-waits}
-use Rattle.convert.proofs.EffectLaws.{and-left, and-right}
+use Rattle.engine.specs.Engine.{Converter, converter, limit, Fed}
+use Rattle.convert.specs.Calls.{sameDirection, leadIn, check, refusal, Called, pendingUnit, pendingCount, finalUnit, readOf, pendingAfter, endedAfter, runAfter, fedBy, acceptedCall, refusedCall, runCall, Answered}
+use Rattle.engine.specs.Engine.{converterOf, over}
+use Rattle.convert.specs.Steps.{hasPending, pendingByte, Finished, Refused}
+use Rattle.engine.specs.Steps.{summary, DecodeSizes, optional, decodeFed, encodeFed}
+use Rattle.engine.proofs.EngineLaws.{waitingUnits, Waits, Shape, shape-from}
+use Rattle.engine.proofs.EncodeLaws.{encoder-waits}
+use Rattle.engine.proofs.EffectLaws.{and-left, and-right}
 
 -- ---- the final unit
 pub final-empty : (pending : Pending) (piece : List ℕ) → length piece ≡ 0 → pending ≡ finalUnit pending piece
@@ -287,10 +289,10 @@ encode-needs run p count a = (
   (a .good .index, λ high. index-high (p .index) (length (p .blocks)) high (a .good .index) (a .good .number) (omega (arith, a .good .blocks))),
 )
 
-pub encode-fed : (run : Run) (p : CodePage) (piece : List ℕ) (last : Bool) (room : ℕ) → Accepted Encoding run p (length piece)
-    → encodeFed (p .index) (p .blocks) (run .policy) (p .defaultByte) last room piece ≡ fedBy Encoding run p piece last room
+pub encode-fed : (run : Run) (p : CodePage) (piece : List ℕ) (last : Bool) (room default : ℕ) → default ≡ p .defaultByte → Accepted Encoding run p (length piece)
+    → encodeFed (p .index) (p .blocks) (run .policy) default last room piece ≡ fedBy Encoding run p piece last room
 unfolding fedBy
-encode-fed run p piece last room a = rw (encoding-pending run p (length piece) a)
+encode-fed run p piece last room default e a = rw (e, encoding-pending run p (length piece) a)
 
 -- nothing waits in encoding
 pub encode-pending : (run : Run) (p : CodePage) (piece : List ℕ) (last : Bool) (before : List ℕ) (s : Progress) → Accepted Encoding run p (length piece)

@@ -1,17 +1,7 @@
-pub mod EffectLaws
-pub mod EngineLaws
-pub mod LoopLaws
-pub mod TurnLaws
-pub mod DecodeLaws
-pub mod EncodeLaws
 pub mod CallLaws
-pub mod CodeLaws
-pub mod BoundLaws
 pub mod RunLaws
 pub mod RefusalLaws
-pub mod AnswerLaws
 pub mod SampleRows
-pub mod CountLaws
 pub mod TextLaws
 pub mod TextTheorems
 pub mod RoundTripLaws

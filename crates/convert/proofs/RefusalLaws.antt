@@ -9,12 +9,12 @@ use lib.Dec.{leb, eqb}
 use borrow.Author.Tests.{eqb-true, leb-true, leb-false, eq-eqb, le-leb, lt-leb, not-true, not-false}
 use Rattle.codepage.specs.CodePage.{CodePage, GoodShape, firstFault, isGood}
 use Rattle.codepage.proofs.ShapeLaws.{shape-exact}
-use Rattle.convert.specs.declared.Direction.{Direction}
-use Rattle.convert.specs.declared.Direction.the-variants.{Decoding, Encoding}
+use Rattle.engine.specs.declared.Direction.{Direction}
+use Rattle.engine.specs.declared.Direction.the-variants.{Decoding, Encoding}
 use Rattle.convert.specs.declared.Run.{Run}
 use Rattle.convert.specs.Runs.{pieceLimit, readLimit, validRun}
 use Rattle.convert.specs.Calls.{sameDirection, leadIn, check, refusal}
-use Rattle.convert.proofs.EffectLaws.{and-left, and-right}
+use Rattle.engine.proofs.EffectLaws.{and-left, and-right}
 use Rattle.convert.proofs.CallLaws.{same-direction}
 
 -- ---- a chain of checks, numbered from n on

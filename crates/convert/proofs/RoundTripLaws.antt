@@ -15,12 +15,12 @@ use Rattle.codepage.specs.Reading.{lookup, byteAlone, bytesOf, unitOf, Reader, 
 use Rattle.codepage.specs.declared.Kind.the-variants.{Invalid}
 use Rattle.codepage.specs.declared.Lookup.{Lookup}
 use Rattle.codepage.specs.declared.Lookup.the-variants.{Found, Lacking}
-use Rattle.convert.specs.declared.Direction.the-variants.{Decoding, Encoding}
-use Rattle.convert.specs.declared.Policy.{Policy}
-use Rattle.convert.specs.Engine.{effectOf, endless, fits, Fed, halt, after, takeWhen, takeCode, takeAll, whole}
-use Rattle.convert.specs.Calls.{readerOf}
+use Rattle.engine.specs.declared.Direction.the-variants.{Decoding, Encoding}
+use Rattle.engine.specs.declared.Policy.{Policy}
+use Rattle.engine.specs.Engine.{effectOf, endless, fits, Fed, halt, after, takeWhen, takeCode, takeAll, whole}
+use Rattle.engine.specs.Engine.{readerOf}
 use Rattle.convert.specs.RoundTrips.{RoundTrips, UnitsReturn, CodeReturns, CodesReturn, BytesReturn}
-use Rattle.convert.proofs.CodeLaws.{codes-wait, codes-one}
+use Rattle.engine.proofs.CodeLaws.{codes-wait, codes-one}
 
 -- ---- a code that has a character is read the same before any other bytes
 -- a lead alone has no character

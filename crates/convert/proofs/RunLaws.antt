@@ -12,20 +12,21 @@ use lib.ListN.{length, length-append}
 use lib.Bits.{bitOr, or-lt}
 use borrow.Author.Tests.{eqb-true, eqb-false, ltb-true, ltb-false, leb-true, eq-eqb, ne-eqb, lt-ltb, le-ltb, not-true}
 use Rattle.codepage.specs.CodePage.{CodePage, pick}
-use Rattle.convert.specs.declared.Direction.{Direction}
-use Rattle.convert.specs.declared.Direction.the-variants.{Decoding, Encoding}
-use Rattle.convert.specs.declared.Policy.{Policy}
+use Rattle.engine.specs.declared.Direction.{Direction}
+use Rattle.engine.specs.declared.Direction.the-variants.{Decoding, Encoding}
+use Rattle.engine.specs.declared.Policy.{Policy}
 use Rattle.convert.specs.declared.Pending.{Pending}
 use Rattle.convert.specs.declared.Pending.the-variants.{Nothing, Byte}
 use Rattle.convert.specs.declared.Run.{Run}
-use Rattle.convert.specs.Policies.{policyAllowed}
-use Rattle.convert.specs.Engine.{Fed, limit, feedFrom}
+use Rattle.engine.specs.Policies.{policyAllowed}
+use Rattle.engine.specs.Engine.{Fed, limit, feedFrom}
 use Rattle.convert.specs.Runs.{readLimit, isDecoding, mostWritten, ifPending, validRun, fresh, startOf}
-use Rattle.convert.specs.Calls.{converterOf, refusal, pendingUnit, pendingCount, finalUnit, readOf, pendingAfter, endedAfter, runAfter, fedBy, acceptedCall, refusedCall, runCall}
-use Rattle.convert.proofs.EffectLaws.{and-left, and-right}
-use Rattle.convert.proofs.EngineLaws.{waitingUnits, Shape}
-use Rattle.convert.proofs.EncodeLaws.{encoder-waits}
-use Rattle.convert.proofs.BoundLaws.{Kept, kept-from, reads, widest, bounded-of}
+use Rattle.convert.specs.Calls.{refusal, pendingUnit, pendingCount, finalUnit, readOf, pendingAfter, endedAfter, runAfter, fedBy, acceptedCall, refusedCall, runCall}
+use Rattle.engine.specs.Engine.{converterOf}
+use Rattle.engine.proofs.EffectLaws.{and-left, and-right}
+use Rattle.engine.proofs.EngineLaws.{waitingUnits, Shape}
+use Rattle.engine.proofs.EncodeLaws.{encoder-waits}
+use Rattle.engine.proofs.BoundLaws.{Kept, kept-from, reads, widest, bounded-of}
 use Rattle.convert.proofs.CallLaws.{Valid, valid-facts, valid-of, Accepted, accepted-facts, pending-units, encoding-pending, feed-shape, read-le}
 
 -- ---- a start

@@ -4,8 +4,8 @@ use mathlib.Core.Path.{_≡_, refl}
 use Rattle.codepage.specs.CodePage.{GoodShape, isKnown, isSingle, isLead, isTrail, leads, leadsBelow, firstBad, badClass, badNumber, classFault, firstFault, isGood}
 use Rattle.codepage.specs.Reading.{lookup, byteAlone, bytePair, unitCode, bytesOf, decoder, encoder}
 use Rattle.codepage.proofs.ShapeLaws.{shape-exact}
-use Rattle.convert.specs.Policies.{actionOf, policyAllowed}
-use Rattle.convert.specs.Engine.{effectOf, converter, fits, less, halt, after, stopAt, takeWhen, takeCode, feedFrom}
+use Rattle.engine.specs.Policies.{actionOf, policyAllowed}
+use Rattle.engine.specs.Engine.{effectOf, converter, fits, less, halt, after, stopAt, takeWhen, takeCode, feedFrom}
 use Rattle.convert.specs.Runs.{validRun}
 use Rattle.convert.specs.Calls.{refusal, readOf, pendingAfter, endedAfter, runAfter, fedBy, acceptedCall, refusedCall, runCall}
 use Rattle.convert.specs.Sample.{samplePage, rows, AllHold}

@@ -13,20 +13,22 @@ use borrow.Author.Tests.{leb-true, eqb-true, eqb-false, eq-eqb, ne-eqb}
 use Rattle.codepage.specs.CodePage.{CodePage, pick, entry, GoodShape, firstFault, isGood}
 use Rattle.codepage.specs.Reading.{decoder, encoder}
 use Rattle.codepage.proofs.ShapeLaws.{shape-exact}
-use Rattle.convert.specs.declared.Direction.{Direction}
-use Rattle.convert.specs.declared.Direction.the-variants.{Decoding, Encoding}
-use Rattle.convert.specs.declared.Policy.{Policy}
+use Rattle.engine.specs.declared.Direction.{Direction}
+use Rattle.engine.specs.declared.Direction.the-variants.{Decoding, Encoding}
+use Rattle.engine.specs.declared.Policy.{Policy}
 use Rattle.convert.specs.declared.Totals.{Totals}
 use Rattle.convert.specs.declared.Counted.{Counted}
 use Rattle.convert.specs.declared.Converted.{Converted}
-use Rattle.convert.specs.declared.progress.Progress.{Progress}
-use Rattle.convert.specs.Policies.{policyAllowed}
-use Rattle.convert.specs.Engine.{Effect, Converter, Room, limit, endless, fits, less, Fed, halt, after, stopAt, takeWhen, takeCode, feedFrom}
+use Rattle.engine.specs.declared.progress.Progress.{Progress}
+use Rattle.engine.specs.Policies.{policyAllowed}
+use Rattle.engine.specs.Engine.{Effect, Converter, Room, limit, endless, fits, less, Fed, halt, after, stopAt, takeWhen, takeCode, feedFrom}
 use Rattle.convert.specs.Runs.{pieceLimit}
-use Rattle.convert.specs.Calls.{converterOf, check, over}
+use Rattle.convert.specs.Calls.{check}
+use Rattle.engine.specs.Engine.{converterOf, over}
 use Rattle.convert.specs.Texts.{textRefusal, Text, acceptedText, refusedText, textFed, textOf, countedNumber, countedTotals, convertedNumber, convertedTotals, totalsOrNone, CountedAs, ConvertedAs}
-use Rattle.convert.specs.Steps.{summary, totalsBy, DecodeSizes}
-use Rattle.convert.proofs.EngineLaws.{Shape, shape-from, feed-wait, feed-one}
+use Rattle.convert.specs.Steps.{totalsBy}
+use Rattle.engine.specs.Steps.{summary, DecodeSizes}
+use Rattle.engine.proofs.EngineLaws.{Shape, shape-from, feed-wait, feed-one}
 use Rattle.convert.proofs.CallLaws.{index-high}
 
 -- ---- one of a few numbers

@@ -10,15 +10,16 @@ use lib.ListN.{length, length-append}
 use lib.Bits.{bitOr, or-zero-l}
 use borrow.Author.Tests.{eq-eqb, ne-eqb, le-leb}
 use Rattle.codepage.specs.CodePage.{CodePage, pick}
-use Rattle.convert.specs.declared.Direction.{Direction}
-use Rattle.convert.specs.declared.Policy.{Policy}
-use Rattle.convert.specs.Policies.{policyAllowed}
-use Rattle.convert.specs.Engine.{Effect, Converter, converter, Room, limit, endless, fits, less, Fed, halt, after, stopAt, takeWhen, takeCode, feedFrom, feed, whole}
+use Rattle.engine.specs.declared.Direction.{Direction}
+use Rattle.engine.specs.declared.Policy.{Policy}
+use Rattle.engine.specs.Policies.{policyAllowed}
+use Rattle.engine.specs.Engine.{Effect, Converter, converter, Room, limit, endless, fits, less, Fed, halt, after, stopAt, takeWhen, takeCode, feedFrom, feed, whole}
 use Rattle.convert.specs.Runs.{readLimit, fresh, startOf, validRun}
-use Rattle.convert.specs.Calls.{converterOf, readerOf, defaultOf, refusal, Called, readOf, pendingAfter, endedAfter, runAfter, fedBy, acceptedCall, runCall}
+use Rattle.convert.specs.Calls.{refusal, Called, readOf, pendingAfter, endedAfter, runAfter, fedBy, acceptedCall, runCall}
+use Rattle.engine.specs.Engine.{converterOf, readerOf, defaultOf}
 use Rattle.convert.specs.Texts.{textRefusal, Text, acceptedText, textFed, textOf, convertOf, countOf}
-use Rattle.convert.proofs.EngineLaws.{uncut, Shape, shape-from, feed-wait, feed-one}
-use Rattle.convert.proofs.CodeLaws.{whole-is-feed}
+use Rattle.engine.proofs.EngineLaws.{uncut, Shape, shape-from, feed-wait, feed-one}
+use Rattle.engine.proofs.CodeLaws.{whole-is-feed}
 use Rattle.convert.proofs.RefusalLaws.{refusals-exact}
 use Rattle.convert.proofs.RunLaws.{start-kept}
 use Rattle.convert.proofs.TextLaws.{TextAccepted, text-accepted}

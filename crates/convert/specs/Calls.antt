@@ -5,20 +5,19 @@ use mathlib.Core.Option.{Option, none, some}
 use mathlib.Core.Path.{_≡_}
 use Prim.Native.Nat.{ℕ, _+_, _-_}
 use lib.Dec.{leb, eqb}
-use lib.ListN.{length, drop}
+use lib.ListN.{length}
 use lib.Bits.{bitOr}
 use Rattle.codepage.specs.CodePage.{CodePage, pick, entry, isLead, firstFault, isGood}
-use Rattle.codepage.specs.Reading.{Reader, decoder, encoder}
-use Rattle.convert.specs.declared.Direction.{Direction}
-use Rattle.convert.specs.declared.Direction.the-variants.{Decoding, Encoding}
-use Rattle.convert.specs.declared.Policy.{Policy}
+use Rattle.engine.specs.declared.Direction.{Direction}
+use Rattle.engine.specs.declared.Direction.the-variants.{Decoding, Encoding}
+use Rattle.engine.specs.declared.Policy.{Policy}
 use Rattle.convert.specs.declared.Pending.{Pending}
 use Rattle.convert.specs.declared.Pending.the-variants.{Nothing, Byte}
 use Rattle.convert.specs.declared.Run.{Run}
 use Rattle.convert.specs.declared.Answer.{Answer}
 use Rattle.convert.specs.declared.Answer.the-variants.{AllRead, LeadPending, OutputFull, Stopped, BadShape, PieceTooLong, InvalidRun, OtherRun, PendingNotLead, RunEnded, ReadLimit}
 use Rattle.convert.specs.declared.Outcome.{Outcome}
-use Rattle.convert.specs.Engine.{Converter, converter, limit, Fed, feedFrom, whole}
+use Rattle.engine.specs.Engine.{converterOf, limit, Fed, feedFrom, over}
 use Rattle.convert.specs.Runs.{pieceLimit, readLimit, validRun, isDecoding}
 
 -- The number of each answer.
@@ -34,18 +33,6 @@ numberOf OtherRun = 13
 numberOf PendingNotLead = 14
 numberOf RunEnded = 15
 numberOf ReadLimit = 16
-
-abbrev pub readerOf : Direction → CodePage → Reader
-readerOf Decoding p = decoder (p .classes) (p .singles) (p .pairs)
-readerOf Encoding p = encoder (p .index) (p .blocks)
-
--- the default: a unit in decoding, a byte in encoding
-abbrev pub defaultOf : Direction → CodePage → ℕ
-defaultOf Decoding p = p .defaultUnit
-defaultOf Encoding p = p .defaultByte
-
-abbrev pub converterOf : Direction → CodePage → Policy → Converter
-converterOf direction p policy = converter (readerOf direction p) policy (defaultOf direction p)
 
 abbrev pub sameDirection : Direction → Direction → Bool
 sameDirection Decoding Decoding = true
@@ -142,10 +129,6 @@ unfoldable pub runCall : Direction → Run → CodePage → (piece : List ℕ) �
 runCall direction run p piece last room =
     pick (eqb (refusal direction run p (length piece)) 0) (acceptedCall run piece last (fedBy direction run p piece last room))
     (refusedCall (refusal direction run p (length piece)) run)
-
--- Output beyond what was written is as before.
-unfoldable pub over : (before written : List ℕ) → List ℕ
-over before written = written ++ drop (length written) before
 
 -- The promise of a run call: c is what the rules give, r what it returns, and the lent output before and after.
 pub record Answered (c : Called) (r : Outcome) (before after : List ℕ) : Type 0 where

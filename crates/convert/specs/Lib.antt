@@ -1,5 +1,3 @@
-pub mod Policies
-pub mod Engine
 pub mod Runs
 pub mod Calls
 pub mod Texts

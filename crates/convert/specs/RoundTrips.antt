@@ -5,8 +5,8 @@ use Prim.Native.Nat.{ℕ}
 use Rattle.codepage.specs.CodePage.{CodePage}
 use Rattle.codepage.specs.Reading.{bytesOf, Code, unitsOf, codes}
 use Rattle.codepage.specs.declared.Lookup.the-variants.{Found}
-use Rattle.convert.specs.declared.Direction.the-variants.{Decoding, Encoding}
-use Rattle.convert.specs.Calls.{readerOf}
+use Rattle.engine.specs.declared.Direction.the-variants.{Decoding, Encoding}
+use Rattle.engine.specs.Engine.{readerOf}
 
 -- A unit and a code belong together if the code is the unit's own and, written as bytes, is read by the rules as one code with
 -- that unit as its character.

@@ -5,9 +5,9 @@ use mathlib.Core.Path.{_≡_}
 use Prim.Native.Nat.{ℕ, zero, suc, _+_}
 use lib.ListN.{length, set, replicate}
 use Rattle.codepage.specs.CodePage.{CodePage}
-use Rattle.convert.specs.declared.Direction.{Direction}
-use Rattle.convert.specs.declared.Direction.the-variants.{Decoding, Encoding}
-use Rattle.convert.specs.declared.Policy.{Policy}
+use Rattle.engine.specs.declared.Direction.{Direction}
+use Rattle.engine.specs.declared.Direction.the-variants.{Decoding, Encoding}
+use Rattle.engine.specs.declared.Policy.{Policy}
 use Rattle.convert.specs.declared.Pending.{Pending}
 use Rattle.convert.specs.declared.Pending.the-variants.{Nothing, Byte}
 use Rattle.convert.specs.declared.Run.{Run}

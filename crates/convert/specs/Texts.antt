@@ -7,17 +7,18 @@ use Prim.Native.Nat.{ℕ}
 use lib.Dec.{leb, eqb}
 use lib.ListN.{length}
 use Rattle.codepage.specs.CodePage.{CodePage, pick, firstFault, isGood}
-use Rattle.convert.specs.declared.Direction.{Direction}
-use Rattle.convert.specs.declared.Policy.{Policy}
+use Rattle.engine.specs.declared.Direction.{Direction}
+use Rattle.engine.specs.declared.Policy.{Policy}
 use Rattle.convert.specs.declared.Totals.{Totals}
 use Rattle.convert.specs.declared.Counted.{Counted}
 use Rattle.convert.specs.declared.Counted.the-variants as counted
 use Rattle.convert.specs.declared.Converted.{Converted}
 use Rattle.convert.specs.declared.Converted.the-variants as converted
-use Rattle.convert.specs.Policies.{policyAllowed}
-use Rattle.convert.specs.Engine.{Room, limit, endless, Fed, feedFrom}
+use Rattle.engine.specs.Policies.{policyAllowed}
+use Rattle.engine.specs.Engine.{Room, limit, endless, Fed, feedFrom}
 use Rattle.convert.specs.Runs.{pieceLimit}
-use Rattle.convert.specs.Calls.{converterOf, check, over}
+use Rattle.convert.specs.Calls.{check}
+use Rattle.engine.specs.Engine.{converterOf, over}
 
 -- Counting and the one-go call check 17 (policy), 10, 11. 0: the call is accepted.
 unfoldable pub textRefusal : Direction → Policy → CodePage → (count : ℕ) → ℕ

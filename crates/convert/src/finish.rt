@@ -9,7 +9,7 @@ use crate::Answer;
 use crate::Outcome;
 use crate::Pending;
 use crate::Run;
-use crate::progress::Progress;
+use engine::progress::Progress;
 
 pub fn has_pending(pending: Pending) -> bool
     ensures { λ r. ⌜ r ≡ hasPending pending ⌝ }

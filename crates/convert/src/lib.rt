@@ -1,10 +1,5 @@
 // A conversion between code page bytes and UTF-16 units as a run that is fed in pieces. (Document 01.)
-mod counter;
-mod decoder;
-mod encoder;
 mod finish;
-mod policies;
-mod progress;
 pub mod rules;
 pub mod text;
 
@@ -12,25 +7,17 @@ ghost use mathlib.Core.Path.{_≡_};
 ghost use mathlib.Core.Bool.{true};
 ghost use Prim.Native.Nat.{ℕ};
 ghost use lib.ListN.{length};
+pub use engine::Direction;
+pub use engine::Policy;
 ghost use Rattle.codepage.specs.CodePage.{codePage};
-ghost use Rattle.convert.specs.declared.Direction.the-variants.{Decoding, Encoding};
-ghost use Rattle.convert.specs.Policies.{policyAllowed};
+ghost use Rattle.engine.specs.declared.Direction.the-variants.{Decoding, Encoding};
+ghost use Rattle.engine.specs.Policies.{policyAllowed};
 ghost use Rattle.convert.specs.Runs.{startOf, startedAs};
 ghost use Rattle.convert.specs.Calls.{runCall, Answered};
 use codepage::Numbers;
-
-// Decoding turns bytes into units, encoding units into bytes.
-pub enum Direction {
-    Decoding,
-    Encoding,
-}
-
-// What is done about a code without a character: a digit for an undefined single, an undefined pair, an invalid code.
-pub struct Policy {
-    pub single: u8,
-    pub pair: u8,
-    pub invalid: u8,
-}
+use engine::decoder;
+use engine::encoder;
+use engine::policies;
 
 // The lead byte that was read at the end of a piece (document 01: the carried byte), or none.
 pub enum Pending {
@@ -205,6 +192,13 @@ pub fn decode(
     finish::accepted(run, progress, next, piece.len(), last)
 }
 
+// The default of encoding: a number of its own, not the default unit's low half.
+fn default_of_bytes(numbers: Numbers) -> u8
+    ensures { λ r. ⌜ r ≡ numbers .«default_byte» ⌝ }
+{
+    numbers.default_byte
+}
+
 // One call of an encoding run.
 pub fn encode(
     run: Run,
@@ -235,14 +229,7 @@ pub fn encode(
         return finish::refused(number, run);
     }
     let policy = run.policy;
-    let progress = encoder::encode_loop(
-        policy,
-        numbers.default_byte,
-        index,
-        blocks,
-        piece,
-        last,
-        out,
-    );
+    let default = default_of_bytes(numbers);
+    let progress = encoder::encode_loop(policy, default, index, blocks, piece, last, out);
     finish::accepted(run, progress, Pending::Nothing, piece.len(), last)
 }

@@ -7,10 +7,10 @@ ghost use lib.ListN.{length};
 ghost use Rattle.codepage.specs.CodePage.{codePage, entry, isLead};
 ghost use Rattle.convert.specs.Runs.{isDecoding, mostWritten, ifPending, validRun};
 ghost use Rattle.convert.specs.Calls.{sameDirection, leadIn, refusal};
-use crate::Direction;
 use crate::Pending;
 use crate::Run;
 use codepage::Numbers;
+use engine::Direction;
 
 fn is_decoding(direction: Direction) -> bool
     ensures { λ r. ⌜ r ≡ isDecoding direction ⌝ }
@@ -95,7 +95,7 @@ pub fn valid_run(run: Run) -> bool
     if run.page == 0 {
         return false;
     }
-    if !crate::policies::allowed(direction, policy) {
+    if !engine::policies::allowed(direction, policy) {
         return false;
     }
     if 15 < run.flags {

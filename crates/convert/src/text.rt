@@ -5,21 +5,21 @@ ghost use mathlib.Core.Logic.{_⊎_};
 ghost use Prim.Native.Nat.{ℕ, _≤_};
 ghost use lib.ListN.{length};
 ghost use Rattle.codepage.specs.CodePage.{codePage};
-ghost use Rattle.convert.specs.declared.Direction.the-variants.{Decoding, Encoding};
+ghost use Rattle.engine.specs.declared.Direction.the-variants.{Decoding, Encoding};
 ghost use Rattle.convert.specs.Texts.{textRefusal, countOf, convertOf, countedNumber, countedTotals, convertedNumber, convertedTotals, totalsOrNone, CountedAs, ConvertedAs};
 ghost use Rattle.convert.specs.Steps.{totalsBy};
 use crate::Converted;
 use crate::Counted;
-use crate::Direction;
-use crate::Policy;
 use crate::Run;
 use crate::Totals;
-use crate::counter;
-use crate::decoder;
-use crate::encoder;
-use crate::policies;
-use crate::progress::Progress;
 use codepage::Numbers;
+use engine::Direction;
+use engine::Policy;
+use engine::counter;
+use engine::decoder;
+use engine::encoder;
+use engine::policies;
+use engine::progress::Progress;
 
 // The number of the first check that a text of `count` units fails, or 0.
 fn text_refusal(

@@ -11,18 +11,19 @@ use lib.ListN.{length, take, drop, replicate, length-append, length-take, length
 use borrow.Author.Tests.{eqb-true, eqb-false, eq-eqb, ne-eqb, leb-true, leb-false, lt-ltb}
 use Rattle.codepage.specs.CodePage.{CodePage, GoodShape, pick, firstFault, isGood}
 use Rattle.codepage.proofs.ShapeLaws.{shape-exact}
-use Rattle.convert.specs.declared.Direction.{Direction}
-use Rattle.convert.specs.declared.Direction.the-variants.{Decoding, Encoding}
-use Rattle.convert.specs.declared.Policy.{Policy}
+use Rattle.engine.specs.declared.Direction.{Direction}
+use Rattle.engine.specs.declared.Direction.the-variants.{Decoding, Encoding}
+use Rattle.engine.specs.declared.Policy.{Policy}
 use Rattle.convert.specs.declared.Pending.{Pending}
 use Rattle.convert.specs.declared.Pending.the-variants.{Nothing, Byte}
 use Rattle.convert.specs.declared.Run.{Run}
-use Rattle.convert.specs.Engine.{Converter, converter, limit, Fed, feedFrom}
+use Rattle.engine.specs.Engine.{Converter, converter, limit, Fed, feedFrom}
 use Rattle.convert.specs.Runs.{pieceLimit, readLimit, validRun, fresh}
-use Rattle.convert.specs.Calls.{converterOf, leadIn, refusal, Called, pendingUnit, pendingCount, readOf, endedAfter, fedBy, acceptedCall, runCall}
-use Rattle.convert.proofs.EngineLaws.{waitingUnits, Waits, Shape}
-use Rattle.convert.proofs.BoundLaws.{roomy, widest, bounded-of}
-use Rattle.convert.proofs.DecodeLaws.{decoder-lead}
+use Rattle.convert.specs.Calls.{leadIn, refusal, Called, pendingUnit, pendingCount, readOf, endedAfter, fedBy, acceptedCall, runCall}
+use Rattle.engine.specs.Engine.{converterOf}
+use Rattle.engine.proofs.EngineLaws.{waitingUnits, Waits, Shape}
+use Rattle.engine.proofs.BoundLaws.{roomy, widest, bounded-of}
+use Rattle.engine.proofs.DecodeLaws.{decoder-lead}
 use Rattle.convert.proofs.CallLaws.{Accepted, accepted-facts, valid-facts, pending-units, encoding-pending, no-pending, feed-shape}
 use Rattle.convert.proofs.RefusalLaws.{refusals-exact}
 use Rattle.traces.specs.Model.{Setting, Call, feeding, Model, opened, says, isAccepted, inHand, joinedBy, acceptedBy, next, play, Allowed, AllAllowed, wholeOf}

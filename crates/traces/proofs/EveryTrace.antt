@@ -13,7 +13,8 @@ use Rattle.codepage.specs.CodePage.{pick}
 use Rattle.convert.specs.declared.Run.{Run}
 use Rattle.convert.specs.declared.Outcome.{Outcome}
 use Rattle.convert.specs.Runs.{fresh}
-use Rattle.convert.specs.Calls.{Called, numberOf, runCall, over, Answered}
+use Rattle.convert.specs.Calls.{Called, numberOf, runCall, Answered}
+use Rattle.engine.specs.Engine.{over}
 use Rattle.checkpoint.specs.declared.Written.{Written}
 use Rattle.checkpoint.specs.declared.Restored.{Restored}
 use Rattle.checkpoint.specs.Line.{Saving, writeOf, Loading, readOf, writtenAs, Saved, restoredAs, loaded, runOf}

@@ -12,18 +12,19 @@ use lib.Seq.{take-at}
 use borrow.Author.Tests.{eqb-true, leb-true, ltb-true, ltb-false, eq-eqb, ne-eqb, lt-ltb, le-ltb}
 use Rattle.codepage.specs.CodePage.{CodePage, pick, firstFault, isGood}
 use Rattle.codepage.proofs.ShapeLaws.{shape-exact}
-use Rattle.convert.specs.declared.Direction.{Direction}
-use Rattle.convert.specs.declared.Direction.the-variants.{Decoding, Encoding}
-use Rattle.convert.specs.declared.Policy.{Policy}
+use Rattle.engine.specs.declared.Direction.{Direction}
+use Rattle.engine.specs.declared.Direction.the-variants.{Decoding, Encoding}
+use Rattle.engine.specs.declared.Policy.{Policy}
 use Rattle.convert.specs.declared.Pending.{Pending}
 use Rattle.convert.specs.declared.Pending.the-variants.{Nothing, Byte}
 use Rattle.convert.specs.declared.Run.{Run}
-use Rattle.convert.specs.Engine.{Converter, limit, Fed, halt, after, feedFrom, feed, whole}
+use Rattle.engine.specs.Engine.{Converter, limit, Fed, halt, after, feedFrom, feed, whole}
 use Rattle.convert.specs.Runs.{readLimit, isDecoding, mostWritten, ifPending, validRun, fresh, startOf}
-use Rattle.convert.specs.Calls.{converterOf, refusal, Called, pendingUnit, pendingCount, finalUnit, pendingAfter, endedAfter, runAfter, fedBy, acceptedCall, refusedCall, runCall, over}
-use Rattle.convert.proofs.EffectLaws.{and-left, and-right}
-use Rattle.convert.proofs.EngineLaws.{uncut, after-none, Shape}
-use Rattle.convert.proofs.CodeLaws.{whole-is-feed}
+use Rattle.convert.specs.Calls.{refusal, Called, pendingUnit, pendingCount, finalUnit, pendingAfter, endedAfter, runAfter, fedBy, acceptedCall, refusedCall, runCall}
+use Rattle.engine.specs.Engine.{converterOf, over}
+use Rattle.engine.proofs.EffectLaws.{and-left, and-right}
+use Rattle.engine.proofs.EngineLaws.{uncut, after-none, Shape}
+use Rattle.engine.proofs.CodeLaws.{whole-is-feed}
 use Rattle.convert.proofs.CallLaws.{Valid, valid-facts, Accepted, accepted-facts, refusal-named, feed-shape}
 use Rattle.convert.proofs.RunLaws.{start-kept, call-kept, refused-same}
 use Rattle.checkpoint.specs.Line.{lineOf, runOf, sameBytes, CarriedFits, writeOf, readOf, loaded}

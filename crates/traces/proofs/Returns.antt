@@ -7,12 +7,12 @@ use lib.Dec.{eqb}
 use borrow.Author.Tests.{eq-eqb}
 use Rattle.codepage.specs.CodePage.{CodePage, GoodShape, firstFault, isGood}
 use Rattle.codepage.proofs.ShapeLaws.{shape-exact}
-use Rattle.convert.specs.declared.Direction.{Direction}
-use Rattle.convert.specs.declared.Direction.the-variants.{Decoding, Encoding}
-use Rattle.convert.specs.declared.Policy.{Policy}
-use Rattle.convert.specs.Engine.{Fed, whole}
+use Rattle.engine.specs.declared.Direction.{Direction}
+use Rattle.engine.specs.declared.Direction.the-variants.{Decoding, Encoding}
+use Rattle.engine.specs.declared.Policy.{Policy}
+use Rattle.engine.specs.Engine.{Fed, whole}
 use Rattle.convert.specs.Runs.{fresh}
-use Rattle.convert.specs.Calls.{readerOf, defaultOf}
+use Rattle.engine.specs.Engine.{readerOf, defaultOf}
 use Rattle.convert.specs.RoundTrips.{UnitsReturn, BytesReturn}
 use Rattle.convert.proofs.RoundTripLaws.{returns-units, returns-bytes}
 use Rattle.traces.specs.Model.{Setting, opened, play, wholeOf}

@@ -14,9 +14,9 @@ use Rattle.codepage.specs.CodePage.{pick}
 use Rattle.convert.specs.declared.Pending.{Pending}
 use Rattle.convert.specs.declared.Pending.the-variants.{Nothing, Byte}
 use Rattle.convert.specs.declared.Run.{Run}
-use Rattle.convert.specs.Engine.{Converter, limit, Fed, halt, after, feedFrom, feed}
+use Rattle.engine.specs.Engine.{Converter, limit, Fed, halt, after, feedFrom, feed}
 use Rattle.convert.specs.Calls.{pendingUnit, pendingCount, finalUnit, readOf, pendingAfter, endedAfter, runAfter, acceptedCall}
-use Rattle.convert.proofs.EngineLaws.{waitingUnits, uncut, after-none, after-after, Cut, cut, Shape, shape-from, Waits, feed-wait}
+use Rattle.engine.proofs.EngineLaws.{waitingUnits, uncut, after-none, after-after, Cut, cut, Shape, shape-from, Waits, feed-wait}
 use Rattle.convert.proofs.CallLaws.{pending-units}
 
 -- a waiting unit or none, as a list

@@ -9,10 +9,10 @@ use native.Mathlib.Omega.{arith}
 use lib.ListN.{length, replicate, length-replicate}
 use Rattle.codepage.specs.CodePage.{CodePage, isKnown, isSingle, isLead, isTrail, leads, leadsBelow, firstBad, badClass, badNumber, classFault, firstFault, isGood}
 use Rattle.codepage.specs.Reading.{lookup, byteAlone, bytePair, unitCode, bytesOf, decoder, encoder}
-use Rattle.convert.specs.Policies.{actionOf, policyAllowed}
-use Rattle.convert.specs.Engine.{effectOf, converter, fits, less, halt, after, stopAt, takeWhen, takeCode, feedFrom}
-use Rattle.convert.specs.declared.Direction.the-variants.{Decoding}
-use Rattle.convert.specs.declared.Policy.{Policy}
+use Rattle.engine.specs.Policies.{actionOf, policyAllowed}
+use Rattle.engine.specs.Engine.{effectOf, converter, fits, less, halt, after, stopAt, takeWhen, takeCode, feedFrom}
+use Rattle.engine.specs.declared.Direction.the-variants.{Decoding}
+use Rattle.engine.specs.declared.Policy.{Policy}
 use Rattle.convert.specs.Runs.{validRun, fresh}
 use Rattle.convert.specs.Calls.{Called, refusal, readOf, pendingAfter, endedAfter, runAfter, fedBy, acceptedCall, refusedCall, runCall}
 use Rattle.convert.specs.Sample.{samplePage, digits, Row, rows, AllHold as RowsHold}

@@ -7,8 +7,8 @@ use mathlib.Core.Path.{_≡_}
 use Prim.Native.Nat.{ℕ}
 use lib.ListN.{length, replicate}
 use Rattle.codepage.specs.CodePage.{CodePage}
-use Rattle.convert.specs.declared.Direction.{Direction}
-use Rattle.convert.specs.declared.Direction.the-variants.{Decoding, Encoding}
+use Rattle.engine.specs.declared.Direction.{Direction}
+use Rattle.engine.specs.declared.Direction.the-variants.{Decoding, Encoding}
 use Rattle.convert.specs.declared.Run.{Run}
 use Rattle.convert.specs.Sample.{samplePage, digits, Row, RowHolds, rows}
 use Rattle.checkpoint.specs.Line.{lineOf, runOf}

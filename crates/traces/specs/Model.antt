@@ -9,12 +9,13 @@ use Prim.Native.Nat.{ℕ, _+_, _≤_}
 use lib.Dec.{ltb, eqb}
 use lib.ListN.{length, drop}
 use Rattle.codepage.specs.CodePage.{CodePage, pick, firstFault, isGood}
-use Rattle.convert.specs.declared.Direction.{Direction}
-use Rattle.convert.specs.declared.Policy.{Policy}
+use Rattle.engine.specs.declared.Direction.{Direction}
+use Rattle.engine.specs.declared.Policy.{Policy}
 use Rattle.convert.specs.declared.Run.{Run}
-use Rattle.convert.specs.Engine.{Fed, halt, whole}
+use Rattle.engine.specs.Engine.{Fed, halt, whole}
 use Rattle.convert.specs.Runs.{fresh}
-use Rattle.convert.specs.Calls.{Called, readerOf, defaultOf, endedAfter, runCall}
+use Rattle.convert.specs.Calls.{Called, endedAfter, runCall}
+use Rattle.engine.specs.Engine.{readerOf, defaultOf}
 use Rattle.checkpoint.specs.Line.{sameBytes, Saving, writeOf, Loading, readOf}
 
 -- What a list keeps throughout: the table set, the run of an accepted start, and a text in its direction.

@@ -6,12 +6,13 @@ use mathlib.Core.Path.{_≡_}
 use Prim.Native.Nat.{ℕ, zero, suc, _<_, _≤_, _^_}
 use lib.ListN.{length, take, drop}
 use Rattle.codepage.specs.CodePage.{pick}
-use Rattle.convert.specs.declared.Direction.{Direction}
-use Rattle.convert.specs.declared.Direction.the-variants.{Decoding, Encoding}
+use Rattle.engine.specs.declared.Direction.{Direction}
+use Rattle.engine.specs.declared.Direction.the-variants.{Decoding, Encoding}
 use Rattle.convert.specs.declared.Run.{Run}
 use Rattle.convert.specs.declared.Outcome.{Outcome}
 use Rattle.convert.specs.Runs.{readLimit, fresh, startOf}
-use Rattle.convert.specs.Calls.{numberOf, runCall, over, Answered}
+use Rattle.convert.specs.Calls.{numberOf, runCall, Answered}
+use Rattle.engine.specs.Engine.{over}
 use Rattle.checkpoint.specs.declared.Written.{Written}
 use Rattle.checkpoint.specs.declared.Restored.{Restored}
 use Rattle.checkpoint.specs.Line.{writeOf, readOf, writtenAs, Saved, restoredAs}

@@ -5,17 +5,18 @@ use Prim.Native.Nat.{ℕ}
 use native.Mathlib.Omega.{arith}
 use lib.ListN.{length}
 use Rattle.codepage.specs.CodePage.{CodePage, codePage}
-use Rattle.convert.specs.declared.Direction.the-variants.{Decoding}
-use Rattle.convert.specs.Calls.{over, refusal, fedBy}
-use Rattle.convert.specs.Engine.{Fed}
-use Rattle.convert.specs.Steps.{decodeFed, summary, optional}
+use Rattle.engine.specs.declared.Direction.the-variants.{Decoding}
+use Rattle.convert.specs.Calls.{refusal, fedBy}
+use Rattle.engine.specs.Engine.{over}
+use Rattle.engine.specs.Engine.{Fed}
+use Rattle.engine.specs.Steps.{decodeFed, summary, optional}
 use Rattle.convert.proofs.CallLaws.{Accepted, accepted-facts, refusal-named, answered-refused, answered-accepted, finish-needs, decode-needs, decode-fed}
 use borrow.Author.Needs.{needs}
 use Rattle.convert.proofs.decode.Statement.{statement}
 use Rattle.convert.proofs.decode.Tie as tie
 use Rattle.convert.proofs.decode.Reads as reads
 use Rattle.convert.proofs.decode.Lts as lts
-use Rattle.convert.proofs.decoder.decode_loop.Reads as decode-loop-reads
+use Rattle.engine.proofs.decoder.decode_loop.Reads as decode-loop-reads
 use Rattle.convert.proofs.finish.accepted.Reads as accepted-reads
 use Rattle.convert.proofs.finish.has_pending.Reads as has-pending-reads
 use Rattle.convert.proofs.finish.pending_after.Reads as pending-after-reads

@@ -1,7 +1,7 @@
 use mathlib.Core.Path.{ap}
 use borrow.Author.Tests.{ne-eqb}
 use borrow.Author.Needs.{needs}
-use Rattle.convert.specs.declared.Direction.the-variants.{Decoding, Encoding}
+use Rattle.engine.specs.declared.Direction.the-variants.{Decoding, Encoding}
 use Rattle.checkpoint.specs.Line.{letterValue, letter, field}
 use Rattle.checkpoint.proofs.PlaceLaws.{found-none, field-found, field-none, byte-end, byte-none, byte-some}
 use Rattle.checkpoint.proofs.reader.letter_at.Statement.{statement}

@@ -6,7 +6,7 @@ use Rattle.convert.proofs.Run.start.Statement.{statement}
 use Rattle.convert.proofs.Run.start.Tie as tie
 use Rattle.convert.proofs.Run.start.Reads as reads
 use Rattle.convert.proofs.Run.start.Lts as lts
-use Rattle.convert.proofs.policies.allowed.Reads as allowed-reads
+use Rattle.engine.proofs.policies.allowed.Reads as allowed-reads
 
 -- src/lib.rt:102:13
 returns : tie.Need-returns

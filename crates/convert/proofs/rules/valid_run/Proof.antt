@@ -8,7 +8,7 @@ use Rattle.convert.proofs.rules.valid_run.Statement.{statement}
 use Rattle.convert.proofs.rules.valid_run.Tie as tie
 use Rattle.convert.proofs.rules.valid_run.Reads as reads
 use Rattle.convert.proofs.rules.valid_run.Lts as lts
-use Rattle.convert.proofs.policies.allowed.Reads as allowed-reads
+use Rattle.engine.proofs.policies.allowed.Reads as allowed-reads
 use Rattle.convert.proofs.rules.end_agrees.Reads as end-agrees-reads
 use Rattle.convert.proofs.rules.most_written.Reads as most-written-reads
 use Rattle.convert.proofs.rules.pending_agrees.Reads as pending-agrees-reads

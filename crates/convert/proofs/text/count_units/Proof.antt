@@ -2,8 +2,8 @@ use mathlib.Core.Path.{_≡_, _∙_, sym, ap, refl}
 use native.Mathlib.Omega.{arith}
 use lib.ListN.{length}
 use Rattle.codepage.specs.CodePage.{CodePage, codePage}
-use Rattle.convert.specs.declared.Direction.the-variants.{Decoding}
-use Rattle.convert.specs.Engine.{limit, endless}
+use Rattle.engine.specs.declared.Direction.the-variants.{Decoding}
+use Rattle.engine.specs.Engine.{limit, endless}
 use Rattle.convert.specs.Texts.{textFed}
 use Rattle.convert.proofs.TextLaws.{text-named, text-accepted, decode-text-needs, count-answer, counted-refused, counted-accepted}
 use borrow.Author.Needs.{needs}
@@ -11,7 +11,7 @@ use Rattle.convert.proofs.text.count_units.Statement.{statement}
 use Rattle.convert.proofs.text.count_units.Tie as tie
 use Rattle.convert.proofs.text.count_units.Reads as reads
 use Rattle.convert.proofs.text.count_units.Lts as lts
-use Rattle.convert.proofs.counter.count_decoded.Reads as count-decoded-reads
+use Rattle.engine.proofs.counter.count_decoded.Reads as count-decoded-reads
 use Rattle.convert.proofs.text.counted.Reads as counted-reads
 use Rattle.convert.proofs.text.refused_count.Reads as refused-count-reads
 use Rattle.convert.proofs.text.text_refusal.Reads as text-refusal-reads

@@ -1,9 +1,9 @@
 use mathlib.Core.Path.{_≡_, _∙_, sym, ap, refl}
 use lib.ListN.{length}
 use Rattle.codepage.specs.CodePage.{codePage}
-use Rattle.convert.specs.declared.Direction.the-variants.{Decoding}
+use Rattle.engine.specs.declared.Direction.the-variants.{Decoding}
 use Rattle.convert.specs.declared.Totals.{Totals}
-use Rattle.convert.specs.Engine.{limit}
+use Rattle.engine.specs.Engine.{limit}
 use Rattle.convert.specs.Texts.{convertOf, totalsOrNone}
 use Rattle.convert.proofs.TextLaws.{written-is, filled-is, filled-count}
 use borrow.Author.Needs.{needs}

@@ -2,8 +2,8 @@ use mathlib.Core.Path.{_≡_, _∙_, sym, ap, refl}
 use native.Mathlib.Omega.{arith}
 use lib.ListN.{length}
 use Rattle.codepage.specs.CodePage.{CodePage, codePage}
-use Rattle.convert.specs.declared.Direction.the-variants.{Decoding}
-use Rattle.convert.specs.Engine.{limit, endless}
+use Rattle.engine.specs.declared.Direction.the-variants.{Decoding}
+use Rattle.engine.specs.Engine.{limit, endless}
 use Rattle.convert.specs.Texts.{textFed}
 use Rattle.convert.proofs.TextLaws.{text-named, text-accepted, decode-text-needs, text-answer, converted-refused, converted-accepted}
 use mathlib.Core.Bool.{false≢true}
@@ -12,7 +12,7 @@ use Rattle.convert.proofs.text.decode_text.Statement.{statement}
 use Rattle.convert.proofs.text.decode_text.Tie as tie
 use Rattle.convert.proofs.text.decode_text.Reads as reads
 use Rattle.convert.proofs.text.decode_text.Lts as lts
-use Rattle.convert.proofs.decoder.decode_loop.Reads as decode-loop-reads
+use Rattle.engine.proofs.decoder.decode_loop.Reads as decode-loop-reads
 use Rattle.convert.proofs.text.converted.Reads as converted-reads
 use Rattle.convert.proofs.text.refused_conversion.Reads as refused-conversion-reads
 use Rattle.convert.proofs.text.text_refusal.Reads as text-refusal-reads

@@ -7,7 +7,7 @@ use Rattle.convert.proofs.text.text_refusal.Tie as tie
 use Rattle.convert.proofs.text.text_refusal.Reads as reads
 use Rattle.convert.proofs.text.text_refusal.Lts as lts
 use Rattle.codepage.proofs.inner.good_shape.Reads as good-shape-reads
-use Rattle.convert.proofs.policies.allowed.Reads as allowed-reads
+use Rattle.engine.proofs.policies.allowed.Reads as allowed-reads
 
 -- src/text.rt:38:9
 allowed-requires : tie.Need-allowed-requires

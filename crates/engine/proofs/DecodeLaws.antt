@@ -1,0 +1,72 @@
+-- A code of decoding, as the loop meets it.
+use mathlib.Core.Bool.{Bool, true, false, false≢true}
+use mathlib.Core.List.{List, [], _∷_, _++_}
+use mathlib.Core.Option.{Option, none, some}
+use mathlib.Core.Path.{_≡_, refl, sym, ap, _∙_, subst}
+use Prim.Native.Nat.{ℕ, zero, suc, _+_, _-_, _*_, _^_, _<_, _≤_}
+use native.Mathlib.Numerals.{add-one}
+use native.Mathlib.Omega.{arith}
+use lib.ListN.{length, getD, drop, set, drop-of-length-le}
+use lib.Seq.{drop-cons}
+use borrow.Author.Tests.{eq-eqb, ne-eqb}
+use Rattle.codepage.specs.CodePage.{entry, isLead, leads, leadsBelow}
+use Rattle.codepage.specs.Reading.{byteAlone, bytePair, unitOf, decoder}
+use Rattle.codepage.specs.declared.Lookup.{Lookup}
+use Rattle.codepage.proofs.ShapeLaws.{block-there}
+use Rattle.engine.specs.declared.Policy.{Policy}
+use Rattle.engine.specs.declared.policies.CodeEffect.{CodeEffect}
+use Rattle.engine.specs.declared.progress.Progress.{Progress}
+use Rattle.engine.specs.Engine.{Effect, effectOf, Converter, converter, Room, limit, less, Fed, takeCode, feedFrom}
+use Rattle.engine.specs.Steps.{unitEffect, sofar, stoppedBy, fullAt, takenBy, Took, DecodeSizes, optional, decodeFed}
+use Rattle.engine.proofs.LoopLaws.{took-stop, took-lacks, took-none, took-writes}
+
+-- ---- the four ways of a code
+module _ (d : CodeEffect) (n : ℕ) (s : Progress) (out : List ℕ) (h : s .written ≤ length out) where
+  pub units-stop : d .stops ≡ true → Took (unitEffect d) n s out (stoppedBy (d .flag) n s) out
+  unfolding unitEffect
+  units-stop e = took-stop (unitEffect d) n s out h e
+
+  pub units-none : d .stops ≡ false → d .count ≡ 0 → Took (unitEffect d) n s out (takenBy (d .flag) n s 0) out
+  unfolding unitEffect
+  units-none e c = took-none (unitEffect d) n s out h e (rw (eq-eqb _ _ c))
+
+  pub units-one : d .stops ≡ false → (d .count ≡ 0 → ⊥) → s .written < length out → Took (unitEffect d) n s out (takenBy (d .flag) n s 1) (set out (s .written) (d .value))
+  unfolding unitEffect
+  units-one e c f = took-writes (unitEffect d) n s out h (d .value ∷ []) e (rw (ne-eqb _ _ c)) (omega arith)
+
+  pub units-full : d .stops ≡ false → (d .count ≡ 0 → ⊥) → length out ≤ s .written → Took (unitEffect d) n s out (fullAt s) out
+  unfolding unitEffect
+  units-full e c f = took-lacks (unitEffect d) n s out h (d .value ∷ []) e (rw (ne-eqb _ _ c)) (omega arith)
+
+-- only a class that is there is a lead's
+lead-there : (classes : List ℕ) (byte : ℕ) → isLead (entry classes byte) ≡ true → byte < length classes
+unfolding isLead
+lead-there [] byte e = let z : _≡_ {A = ℕ} 0 1 = cc in omega arith
+lead-there (c ∷ classes) zero e = omega arith
+lead-there (c ∷ classes) (suc byte) e = omega (arith, lead-there classes byte e)
+
+-- a lead's block is there
+pub pair-room : (classes singles pairs : List ℕ) (lead : ℕ) → DecodeSizes classes singles pairs → isLead (entry classes lead) ≡ true → 256 * leadsBelow classes lead + 256 ≤ length pairs
+pair-room classes singles pairs lead h e = omega (arith, block-there classes lead (lead-there classes lead e) e, h .all-pairs)
+
+-- the effects of the converter
+module _ (classes singles pairs : List ℕ) (policy : Policy) (default : ℕ) (d : CodeEffect) (found : Lookup) where
+  pub decoded-one : (byte : ℕ) → found ≡ byteAlone classes singles byte → unitEffect d ≡ effectOf unitOf policy default byte found
+      → unitEffect d ≡ converter (decoder classes singles pairs) policy default .one byte
+  unfolding converter decoder
+  decoded-one byte e q = q ∙ ap (effectOf unitOf policy default byte) e
+
+  pub decoded-two : (lead byte : ℕ) → found ≡ bytePair classes pairs lead byte → unitEffect d ≡ effectOf unitOf policy default lead found
+      → unitEffect d ≡ converter (decoder classes singles pairs) policy default .two lead byte
+  unfolding converter decoder
+  decoded-two lead byte e q = q ∙ ap (effectOf unitOf policy default lead) e
+
+pub decoder-waits : (classes singles pairs : List ℕ) (policy : Policy) (default byte : ℕ) (t : Bool) → isLead (entry classes byte) ≡ t
+    → converter (decoder classes singles pairs) policy default .waits byte ≡ t
+unfolding converter decoder
+decoder-waits classes singles pairs policy default byte t e = e
+
+pub decoder-lead : (classes singles pairs : List ℕ) (policy : Policy) (default byte : ℕ) → converter (decoder classes singles pairs) policy default .waits byte ≡ true
+    → isLead (entry classes byte) ≡ true
+unfolding converter decoder
+decoder-lead classes singles pairs policy default byte e = e

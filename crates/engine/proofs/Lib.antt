@@ -1,0 +1,10 @@
+pub mod EffectLaws
+pub mod EngineLaws
+pub mod LoopLaws
+pub mod TurnLaws
+pub mod DecodeLaws
+pub mod EncodeLaws
+pub mod CountLaws
+pub mod CodeLaws
+pub mod AnswerLaws
+pub mod BoundLaws

@@ -1,0 +1,132 @@
+-- Taking code after code: one engine for both directions, for a run call and for the whole reading.
+-- (Document 01, "Policies and flags", "One call of a run" and, for the whole reading, "The lists of demand 3".)
+use mathlib.Core.Bool.{Bool, true, false}
+use mathlib.Core.List.{List, [], _∷_, _++_}
+use mathlib.Core.Option.{Option, none, some}
+use Prim.Native.Nat.{ℕ, zero, suc, _+_, _-_}
+use lib.Dec.{leb}
+use lib.ListN.{length, drop}
+use lib.Bits.{bitOr}
+use Rattle.codepage.specs.CodePage.{CodePage}
+use Rattle.codepage.specs.Reading.{Reader, decoder, encoder, Code, sizeOf, codes}
+use Rattle.codepage.specs.declared.Lookup.{Lookup}
+use Rattle.codepage.specs.declared.Lookup.the-variants.{Found, Lacking}
+use Rattle.engine.specs.declared.Direction.{Direction}
+use Rattle.engine.specs.declared.Direction.the-variants.{Decoding, Encoding}
+use Rattle.engine.specs.declared.Policy.{Policy}
+use Rattle.engine.specs.declared.policies.Action.{Action}
+use Rattle.engine.specs.declared.policies.Action.the-variants.{Stop, Skip, Write}
+use Rattle.engine.specs.Policies.{digitOf, flagOf, stoppedFlag, actionOf}
+
+-- What a code does: the flag it sets, what it writes, and whether it stops the run.
+pub record Effect : Type 0 where
+  pub flag : ℕ
+  pub writes : List ℕ
+  pub stops : Bool
+
+abbrev pub acted : ℕ → Action → Effect
+acted flag Stop = record { flag = flag; writes = []; stops = true }
+acted flag Skip = record { flag = flag; writes = []; stops = false }
+acted flag (Write value) = record { flag = flag; writes = value ∷ []; stops = false }
+
+-- what was found is written; else the policy's digit for its kind decides
+unfoldable pub effectOf : (writes : ℕ → List ℕ) → Policy → (default first : ℕ) → Lookup → Effect
+effectOf writes policy default first (Found value) = record { flag = 0; writes = writes value; stops = false }
+effectOf writes policy default first (Lacking kind) = acted (flagOf kind) (actionOf (digitOf policy kind) default first)
+
+-- A reader under a policy.
+pub record Converter : Type 0 where
+  pub waits : ℕ → Bool
+  pub one : ℕ → Effect
+  pub two : ℕ → ℕ → Effect
+
+unfoldable pub converter : Reader → Policy → ℕ → Converter
+converter r policy default =
+    record {
+      waits = r .waits;
+      one = λ a. effectOf (r .writes) policy default a (r .one a);
+      two = λ a b. effectOf (r .writes) policy default a (r .two a b);
+    }
+
+-- The room for output: a number of units, or no limit.
+pub data Room : Type 0 where
+  limit : ℕ → Room
+  endless : Room
+
+unfoldable pub fits : Room → ℕ → Bool
+fits (limit n) k = leb k n
+fits endless k = true
+
+unfoldable pub less : Room → ℕ → Room
+less (limit n) k = limit (n - k)
+less endless k = endless
+
+-- What feeding units gives. answer: 0 all read, 1 a unit waits, 2 the next code does not fit, 3 stopped.
+-- used: the units of the codes that were taken; a unit that waits, and what was not read, is not among them.
+pub record Fed : Type 0 where
+  pub answer : ℕ
+  pub used : ℕ
+  pub output : List ℕ
+  pub flags : ℕ
+
+unfoldable pub halt : ℕ → Fed
+halt answer = record { answer = answer; used = 0; output = []; flags = 0 }
+
+-- codes of n units that wrote ys and set the flags f, and then what `rest` is
+unfoldable pub after : ℕ → List ℕ → ℕ → Fed → Fed
+after n ys f rest = record { answer = rest .answer; used = n + rest .used; output = ys ++ rest .output; flags = bitOr f (rest .flags) }
+
+-- Stopping reads past the code, sets its flag and 8, and writes nothing.
+unfoldable pub stopAt : ℕ → Effect → Fed
+stopAt n k = record { answer = 3; used = n; output = []; flags = bitOr (k .flag) stoppedFlag }
+
+-- A code of n units is taken only if everything it writes fits; otherwise none of it is written and its input stays unread.
+-- A stopping code needs no room. `rest` is what follows a code that was taken.
+unfoldable pub takeWhen : (stops fits : Bool) → ℕ → Effect → Fed → Fed
+takeWhen true fitting n k rest = stopAt n k
+takeWhen false true n k rest = after n (k .writes) (k .flag) rest
+takeWhen false false n k rest = halt 2
+
+unfoldable pub takeCode : Room → ℕ → Effect → Fed → Fed
+takeCode room n k rest = takeWhen (k .stops) (fits room (length (k .writes))) n k rest
+
+-- One call: a waiting unit or none, then units. A waiting unit that is the final one is left waiting in a call not marked
+-- last, even with no room; at the end of the whole text it is a code of its own.
+unfoldable pub feedFrom : Converter → (last : Bool) → Room → Option ℕ → List ℕ → Fed
+feedFrom v last room none [] = halt 0
+feedFrom v last room (some c) [] = elim last [ true ↦ takeCode room 1 (v .one c) (halt 0) | false ↦ halt 1 ]
+feedFrom v last room none (a ∷ units) =
+    elim (v .waits a) [
+      | true ↦ feedFrom v last room (some a) units
+      | false ↦ takeCode room 1 (v .one a) (feedFrom v last (less room (length (v .one a .writes))) none units)
+    ]
+feedFrom v last room (some c) (b ∷ units) = takeCode room 2 (v .two c b) (feedFrom v last (less room (length (v .two c b .writes))) none units)
+
+unfoldable pub feed : Converter → (last : Bool) → Room → List ℕ → Fed
+feed v last room units = feedFrom v last room none units
+
+-- The whole reading: code after code of the text, with room for all, to the text's end or the first stop.
+unfoldable pub takeAll : Reader → Policy → ℕ → List Code → Fed
+takeAll r policy default [] = halt 0
+takeAll r policy default (k ∷ ks) = takeCode endless (sizeOf k) (effectOf (r .writes) policy default (k .first) (k .means)) (takeAll r policy default ks)
+
+unfoldable pub whole : Reader → Policy → ℕ → List ℕ → Fed
+whole r policy default text = takeAll r policy default (codes r text)
+
+-- ---- The two directions
+
+abbrev pub readerOf : Direction → CodePage → Reader
+readerOf Decoding p = decoder (p .classes) (p .singles) (p .pairs)
+readerOf Encoding p = encoder (p .index) (p .blocks)
+
+-- the default: a unit in decoding, a byte in encoding
+abbrev pub defaultOf : Direction → CodePage → ℕ
+defaultOf Decoding p = p .defaultUnit
+defaultOf Encoding p = p .defaultByte
+
+abbrev pub converterOf : Direction → CodePage → Policy → Converter
+converterOf direction p policy = converter (readerOf direction p) policy (defaultOf direction p)
+
+-- Output beyond what was written is as before.
+unfoldable pub over : (before written : List ℕ) → List ℕ
+over before written = written ++ drop (length written) before

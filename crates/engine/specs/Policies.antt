@@ -1,0 +1,52 @@
+-- Document 01, "Policies and flags".
+use mathlib.Core.Bool.{Bool, true, false, _&&_}
+use mathlib.Core.List.{List, [], _∷_}
+use Prim.Native.Nat.{ℕ, _+_}
+use lib.Dec.{leb, eqb}
+use Rattle.codepage.specs.CodePage.{pick}
+use Rattle.codepage.specs.declared.Kind.{Kind}
+use Rattle.codepage.specs.declared.Kind.the-variants.{UndefinedSingle, UndefinedPair, Invalid}
+use Rattle.engine.specs.declared.Direction.{Direction}
+use Rattle.engine.specs.declared.Direction.the-variants.{Decoding, Encoding}
+use Rattle.engine.specs.declared.Policy.{Policy}
+use Rattle.engine.specs.declared.policies.Action.{Action}
+use Rattle.engine.specs.declared.policies.Action.the-variants.{Stop, Skip, Write}
+
+-- the three digits: undefined single, undefined pair, invalid
+abbrev pub digitOf : Policy → Kind → ℕ
+digitOf policy UndefinedSingle = policy .single
+digitOf policy UndefinedPair = policy .pair
+digitOf policy Invalid = policy .invalid
+
+-- the flags: 1 undefined single, 2 undefined pair, 4 invalid
+abbrev pub flagOf : Kind → ℕ
+flagOf UndefinedSingle = 1
+flagOf UndefinedPair = 2
+flagOf Invalid = 4
+
+-- and 8 stopped
+abbrev pub stoppedFlag : ℕ
+stoppedFlag = 8
+
+-- 0 stop with error, 1 skip, 2 write NUL, 3 write 3F, 4 write 5F, 5 write the default, 6 write F100 plus the byte
+unfoldable pub actionOf : (digit default byte : ℕ) → Action
+actionOf digit default byte =
+    pick (eqb digit 0) Stop
+    (pick (eqb digit 1) Skip
+    (pick (eqb digit 2) (Write 0x00)
+    (pick (eqb digit 3) (Write 0x3F)
+    (pick (eqb digit 4) (Write 0x5F)
+    (pick (eqb digit 5) (Write default)
+    (Write (0xF100 + byte)))))))
+
+-- 6 is allowed only in the first digit of a decoding run
+abbrev pub highestSingle : Direction → ℕ
+highestSingle Decoding = 6
+highestSingle Encoding = 5
+
+unfoldable pub policyAllowed : Direction → Policy → Bool
+policyAllowed direction policy = leb (policy .single) (highestSingle direction) && (leb (policy .pair) 5 && leb (policy .invalid) 5)
+
+-- the standard policy is 555
+abbrev pub standard : Policy
+standard = record { single = 5; pair = 5; invalid = 5 }

@@ -1,0 +1,21 @@
+// Taking code after code: policies and the loops of decoding, encoding and counting. (Document 01, "Policies and flags" and the
+// first paragraph of "One call of a run".) The functions here are inner: the run calls above call them on tables whose shape was
+// found good. They are no public calls.
+pub mod counter;
+pub mod decoder;
+pub mod encoder;
+pub mod policies;
+pub mod progress;
+
+// Decoding turns bytes into units, encoding units into bytes.
+pub enum Direction {
+    Decoding,
+    Encoding,
+}
+
+// What is done about a code without a character: a digit for an undefined single, an undefined pair, an invalid code.
+pub struct Policy {
+    pub single: u8,
+    pub pair: u8,
+    pub invalid: u8,
+}
