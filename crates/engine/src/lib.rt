@@ -1,6 +1,9 @@
 // Taking code after code: policies and the loops of decoding, encoding and counting. (Document 01, "Policies and flags" and the
-// first paragraph of "One call of a run".) The functions here are inner: the run calls above call them on tables whose shape was
-// found good. They are no public calls.
+// first paragraph of "One call of a run".) The functions of the modules are inner: the run calls above call them on tables whose
+// shape was found good. They are no public calls.
+ghost use mathlib.Core.Path.{_≡_};
+ghost use Rattle.engine.specs.Policies.{standard};
+
 pub mod counter;
 pub mod decoder;
 pub mod encoder;
@@ -18,4 +21,17 @@ pub struct Policy {
     pub single: u8,
     pub pair: u8,
     pub invalid: u8,
+}
+
+impl Policy {
+    // The standard policy, 555.
+    pub fn standard() -> Policy
+        ensures { λ r. ⌜ r ≡ standard ⌝ }
+    {
+        Policy {
+            single: 5,
+            pair: 5,
+            invalid: 5,
+        }
+    }
 }
