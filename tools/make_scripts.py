@@ -1,0 +1,122 @@
+#!/usr/bin/env python3
+"""Makes the console scripts that are not about real pages: scripts/NAME.in, NAME.out and scripts/data/*.tbl.
+
+    make_scripts.py                                       writes the stored scripts
+    make_scripts.py --check                               makes them in memory and compares them with the stored files
+    make_scripts.py --seed N --lists M --out FOLDER       writes M further lists of each random kind, from seed N, into FOLDER
+
+NAME.out has the answers of second_converter.py. In the fixed scripts (fixed_scripts.py) an expected answer is written by
+hand, from document 01 and the readings of it, beside every command, and making the scripts fails where
+second_converter.py answers otherwise. The random scripts (random_scripts.py) are the same for the same seed.
+"""
+
+import argparse
+import os
+import sys
+import tempfile
+
+import fixed_scripts
+import random_scripts
+import second_converter
+
+ROOT = os.path.dirname(os.path.dirname(os.path.abspath(__file__)))
+SCRIPTS = os.path.join(ROOT, "scripts")
+DATA = os.path.join(SCRIPTS, "data")
+
+SEED = 7
+LISTS = {"lists_sample": 500, "lists_small": 800, "lists_damaged": 150, "lists_long": 20, "runs": 120}
+
+
+def write_images(images, folder):
+    os.makedirs(folder, exist_ok=True)
+    for name, image in images.items():
+        with open(os.path.join(folder, name), "wb") as file:
+            file.write(image)
+
+
+def stored_scripts():
+    """All stored scripts by name as (commands, answers), their images by file name, and the complaints."""
+    images = dict(fixed_scripts.images())
+    tables = random_scripts.random_tables(SEED)
+    images.update({name: table.image() for name, table in tables.items()})
+    scripts = {}
+    complaints = []
+    with tempfile.TemporaryDirectory() as folder:
+        write_images(images, folder)
+        for name, script in fixed_scripts.scripts().items():
+            commands = script.commands_file()
+            answers = second_converter.play(commands, [folder])
+            complaints += [f"{name}: {complaint}" for complaint in script.complaints(answers)]
+            scripts[name] = (commands, answers)
+        for kind, count in LISTS.items():
+            scripts[kind] = random_scripts.random_script(kind, SEED, count, tables, folder)
+    return scripts, images, complaints
+
+
+def write_stored(scripts, images):
+    write_images(images, DATA)
+    for name, contents in scripts.items():
+        for ending, content in zip((".in", ".out"), contents):
+            with open(os.path.join(SCRIPTS, name + ending), "wb") as file:
+                file.write(content)
+
+
+def compare_stored(scripts, images):
+    """Answers what is missing, different or left over in the stored files."""
+    complaints = []
+    wanted = {os.path.join(DATA, name): image for name, image in images.items()}
+    for name, contents in scripts.items():
+        for ending, content in zip((".in", ".out"), contents):
+            wanted[os.path.join(SCRIPTS, name + ending)] = content
+    for path, content in wanted.items():
+        if not os.path.exists(path):
+            complaints.append(f"{os.path.relpath(path, ROOT)} is missing")
+            continue
+        with open(path, "rb") as file:
+            if file.read() != content:
+                complaints.append(f"{os.path.relpath(path, ROOT)} is not what make_scripts.py makes")
+    for name in os.listdir(DATA):
+        if name not in images:
+            complaints.append(f"scripts/data/{name} is left over")
+    return complaints
+
+
+def write_more(seed, lists, folder):
+    """Further random lists, and the script long_lines, which is too long to be stored."""
+    tables = random_scripts.random_tables(seed)
+    write_images({name: table.image() for name, table in tables.items()}, folder)
+    scripts = {kind: random_scripts.random_script(kind, seed, lists, tables, folder) for kind in LISTS}
+    long_lines = fixed_scripts.long_lines_script().commands_file()
+    scripts["long_lines"] = (long_lines, second_converter.play(long_lines, [folder]))
+    for name, contents in scripts.items():
+        for ending, content in zip((".in", ".out"), contents):
+            with open(os.path.join(folder, name + ending), "wb") as file:
+                file.write(content)
+
+
+def main():
+    parser = argparse.ArgumentParser(description="Makes the console scripts that are not about real pages.")
+    parser.add_argument("--check", action="store_true", help="compare with the stored files and write nothing")
+    parser.add_argument("--seed", type=int, help="seed of further random lists")
+    parser.add_argument("--lists", type=int, default=100, help="how many further lists of each kind (100)")
+    parser.add_argument("--out", metavar="FOLDER", help="where the further lists and their images go")
+    options = parser.parse_args()
+    if (options.seed is None) != (options.out is None):
+        parser.error("--seed and --out go together")
+    if options.seed is not None:
+        write_more(options.seed, options.lists, options.out)
+        return
+    scripts, images, complaints = stored_scripts()
+    if options.check:
+        complaints += compare_stored(scripts, images)
+    elif not complaints:
+        write_stored(scripts, images)
+    for complaint in complaints:
+        print(complaint)
+    if complaints:
+        sys.exit(1)
+    print(f"{len(scripts)} scripts, {len(images)} images: every expected answer is given")
+
+
+if __name__ == "__main__":
+    main()

@@ -1,0 +1,457 @@
+"""Random console scripts, the same for the same seed (a module of make_scripts.py).
+
+Kinds of script:
+
+    lists_sample     lists of calls on the sample page: pieces cut anywhere, rooms of all sizes, lines saved and read back
+    lists_small      the same on random small tables
+    lists_damaged    the same on damaged tables, changing between them and good ones
+    lists_long       lists on texts of up to 66,000 elements, with pieces over the limit
+    runs             runs of random numbers, most of which break the rules, and the calls on them
+
+The generator plays each command on second_converter.py as it goes, only to know where the run stands, so that the next
+piece begins there; the answers stored are those of that play.
+"""
+
+import random
+
+import second_converter
+from make_sample import sample_tables
+from table_image import LEAD, NEVER, NONE, SECOND, SINGLE, Tables
+
+LIMIT = 4294967295
+
+
+# ---------------------------------------------------------------------------------------------------------------
+# Tables
+# ---------------------------------------------------------------------------------------------------------------
+
+
+def random_good_tables(chance, page):
+    """A small table set of good shape: few leads, holes everywhere."""
+    tables = Tables(page, chance.choice((0x3F, 0x00, 0x5F, 0x81, 0xFF)), chance.choice((0x30FB, 0xFFFD, 0xFFFF, 0xD800, 0x003F)))
+    lead_count = chance.choice((0, 1, 1, 2, 3, 4))
+    leads = chance.sample(range(0x80, 0x100), lead_count)
+    for byte in range(256):
+        if byte in leads:
+            tables.classes[byte] = LEAD
+        else:
+            tables.classes[byte] = chance.choice((NEVER, SINGLE, SINGLE))
+        if chance.random() < 0.4:
+            tables.classes[byte] += SECOND
+        # characters stand at bytes of any class: the class decides
+        tables.singles[byte] = chance.choice((NONE, chance.randrange(0x10000), byte))
+    tables.make_pair_blocks()
+    for place in range(len(tables.pairs)):
+        if chance.random() < 0.5:
+            tables.pairs[place] = chance.choice((chance.randrange(0x10000), 0x4E00 + place % 256, tables.default_unit))
+    block_count = chance.choice((1, 2, 3, 4))
+    tables.blocks = []
+    for _ in range(256 * block_count):
+        tables.blocks.append(
+            chance.choice((NONE, chance.randrange(0x100), chance.randrange(0x10000), chance.choice((0xFF, 0x100, 0x81))))
+        )
+    tables.index = [chance.randrange(block_count) for _ in range(256)]
+    return tables
+
+
+def damage(chance, tables):
+    """Makes one thing of the shape wrong."""
+    part = chance.choice(("classes", "singles", "pairs", "index", "blocks"))
+    elements = getattr(tables, part)
+    kind = chance.choice(("short", "long", "page", "class", "low lead", "number", "pair block"))
+    if kind == "short" and elements:
+        elements.pop()
+    elif kind == "page":
+        tables.page = 0
+    elif kind == "class":
+        tables.classes[chance.randrange(256)] = chance.choice((3, 7, 8, 9, 10, 128, 255))
+    elif kind == "low lead":
+        place = chance.randrange(0x80)
+        tables.classes[place] = chance.choice((LEAD, LEAD + SECOND))
+        if chance.random() < 0.5:
+            tables.pairs += [NONE] * 256
+    elif kind == "number":
+        tables.index[chance.randrange(256)] = chance.choice((len(tables.blocks) // 256, 255))
+    elif kind == "pair block":
+        tables.pairs = tables.pairs[256:] if tables.pairs and chance.random() < 0.5 else tables.pairs + [NONE] * 256
+    else:
+        elements.append(0)
+
+
+def random_tables(seed):
+    """The tables of a seed by file name: the sample page, good random ones and damaged ones."""
+    chance = random.Random(f"tables {seed}")
+    tables = {"sample.tbl": sample_tables()}
+    for number in range(10):
+        page = chance.choice((7, 1, 65535, chance.randrange(2, 65535)))
+        tables[f"random_{number}.tbl"] = random_good_tables(chance, page)
+    for number in range(14):
+        base = chance.choice([sample_tables(), random_good_tables(chance, 7)])
+        damage(chance, base)
+        tables[f"damaged_{number}.tbl"] = base
+    return tables
+
+
+# ---------------------------------------------------------------------------------------------------------------
+# Words
+# ---------------------------------------------------------------------------------------------------------------
+
+
+def byte_kinds(tables):
+    """The bytes of each kind that a table set of good shape has."""
+    kinds = {"lead": [], "second": [], "character": [], "none": [], "never": []}
+    for byte, byte_class in enumerate(tables.classes[:256]):
+        if byte_class in (LEAD, LEAD + SECOND):
+            kinds["lead"].append(byte)
+        elif byte_class in (SINGLE, SINGLE + SECOND) and byte < len(tables.singles):
+            kinds["none" if tables.singles[byte] == NONE else "character"].append(byte)
+        else:
+            kinds["never"].append(byte)
+        if byte_class in (SECOND, SINGLE + SECOND, LEAD + SECOND):
+            kinds["second"].append(byte)
+    return {kind: members for kind, members in kinds.items() if members}
+
+
+def pair_characters(tables):
+    """The pairs that have a character."""
+    found = []
+    for block, lead in enumerate(tables.leads()):
+        for second, unit in enumerate(tables.pairs[256 * block : 256 * block + 256]):
+            if unit != NONE and tables.classes[second] & SECOND:
+                found.append((lead, second))
+    return found
+
+
+def random_bytes(chance, tables, count):
+    """A byte text: whole pairs, and bytes of every kind in any order."""
+    kinds = byte_kinds(tables)
+    pairs = pair_characters(tables) if len(tables.classes) == 256 else []
+    text = []
+    while len(text) < count:
+        if pairs and chance.random() < 0.35:
+            text += chance.choice(pairs)
+        elif "lead" in kinds and chance.random() < 0.2:
+            text.append(chance.choice(kinds["lead"]))
+        else:
+            text.append(chance.choice(kinds[chance.choice(sorted(kinds))]))
+    return text[:count]
+
+
+def random_units(chance, tables, count):
+    """A unit text: units with codes of one and two bytes, units without, surrogates."""
+    known = []
+    for high, block in enumerate(tables.index):
+        codes = tables.blocks[256 * block : 256 * block + 256]
+        known += [256 * high + low for low, code in enumerate(codes) if code != NONE]
+    long_ones = []
+    for unit in known:
+        code = tables.blocks[256 * tables.index[unit >> 8] + (unit & 0xFF)]
+        if code > 0xFF:
+            long_ones.append(unit)
+    text = []
+    for _ in range(count):
+        turn = chance.random()
+        if known and turn < 0.45:
+            text.append(chance.choice(known))
+        elif long_ones and turn < 0.75:
+            text.append(chance.choice(long_ones))
+        elif turn < 0.8:
+            text.append(chance.randrange(0xD800, 0xE000))
+        elif turn < 0.85:
+            text.append(0xFFFF)
+        else:
+            text.append(chance.randrange(0x10000))
+    return text
+
+
+def random_policy(chance, direction):
+    """Mostly allowed digits; the digit 0 often enough."""
+    digits = [chance.choice("1234555550") for _ in range(3)]
+    if direction == "D" and chance.random() < 0.2:
+        digits[0] = "6"
+    if chance.random() < 0.02:
+        digits[chance.randrange(3)] = chance.choice("6789")
+    return "".join(digits)
+
+
+def random_room(chance, left):
+    """Rooms 0, 1, 2, few and many."""
+    return chance.choice((0, 1, 2, 3, chance.randrange(8), chance.randrange(8), left, 2 * left, 2 * left + 3))
+
+
+def damaged_line(chance, line):
+    """A saved line made wrong in one of the forms of the readings; some forms need other fields to be so too."""
+    fields = line[:-1].split(b"\t")
+    direction, page, digits, carried, flags, read, written, word = fields
+
+    def joined(*parts):
+        return b"\t".join(parts) + b"\n"
+
+    forms = (
+        b"",
+        line[:-1],
+        line[:-1] + b"\r\n",
+        line + b"\n",
+        line + line,
+        line[:-1] + b"\t\n",
+        line.replace(b"\t", b" "),
+        joined(direction, b"0" + page, digits, carried, flags, read, written, word),
+        joined(direction, page, digits, carried, b"0" + flags, read, written, word),
+        joined(direction, page, digits, carried, flags, b"0" + read, written, word),
+        joined(direction, page, digits, carried, flags, read, b"0" + written, word),
+        joined(direction, b"0", digits, carried, flags, read, written, word),
+        joined(direction, b"65536", digits, carried, flags, read, written, word),
+        joined(direction, page, digits[:2], carried, flags, read, written, word),
+        joined(direction, page, digits + b"5", carried, flags, read, written, word),
+        joined(direction, page, b"575", carried, flags, read, written, word),
+        joined(direction, page, digits, b"8a", b"0", b"1", b"0", b"on"),
+        joined(b"D", page, b"555", b"82", b"0", b"0", b"0", b"on"),
+        joined(b"D", page, b"555", b"82", b"0", b"5", b"5", b"on"),
+        joined(b"D", page, b"555", b"82", b"0", b"5", b"4", b"over"),
+        joined(b"E", page, b"555", b"82", b"0", b"5", b"4", b"on"),
+        joined(direction, page, digits, b"-", b"8", read, written, b"on"),
+        joined(direction, page, digits, b"-", b"16", read, written, b"over"),
+        joined(direction, page, digits, b"-", flags, b"4294967296", b"0", b"over"),
+        joined(direction, page, digits, b"-", b"0", b"18446744073709551617", b"0", b"on"),
+        joined(b"D", page, b"555", b"-", b"0", read, str(int(read) + 1).encode("ascii"), b"on"),
+        joined(b"E", page, b"555", b"-", b"0", read, str(2 * int(read) + 1).encode("ascii"), b"on"),
+        joined(direction, page, digits, carried, flags, b"+" + read, written, word),
+        joined(direction, page, digits, carried, flags, read, b"", word),
+        joined(direction, page, b"", carried, flags, read, written, word),
+        joined(direction, page, digits, carried, flags, read, written, word.upper()),
+        joined(direction.lower(), page, digits, carried, flags, read, written, word),
+        joined(direction, page, digits, carried, flags, read, written, word, b""),
+        joined(direction, page, digits, carried, flags, read, written),
+    )
+    if chance.random() < 0.15:
+        # one byte changed somewhere: most often no line, now and then another good one
+        place = chance.randrange(len(line))
+        return line[:place] + bytes([chance.randrange(256)]) + line[place + 1 :]
+    return chance.choice(forms)
+
+
+def hex_text(elements, digits):
+    return "".join(f"{element:0{digits}X}" for element in elements) or "-"
+
+
+# ---------------------------------------------------------------------------------------------------------------
+# Lists of calls
+# ---------------------------------------------------------------------------------------------------------------
+
+
+class Player:
+    """Plays each command as it is made and keeps the lines of both files."""
+
+    def __init__(self, folder):
+        self.console = second_converter.Console([folder])
+        self.commands = []
+        self.answers = []
+
+    def note(self, text):
+        self.commands.append(f"# {text}")
+
+    def do(self, command):
+        answer = self.console.answer(command.encode("ascii"))
+        self.commands.append(command)
+        self.answers.append(answer)
+        return answer
+
+    @property
+    def run(self):
+        return self.console.run
+
+    def files(self):
+        return tuple(("\n".join(lines) + "\n").encode("ascii") for lines in (self.commands, self.answers))
+
+
+def set_text(player, chance, tables, direction, count):
+    if direction == "D":
+        player.do(f"bytes {hex_text(random_bytes(chance, tables, count), 2)}")
+    else:
+        player.do(f"units {hex_text(random_units(chance, tables, count), 4)}")
+
+
+def play_list(player, chance, names, tables, text_size, call_count):
+    """One list: a start, then calls that go on from the run's own position, lines saved and read back."""
+    direction = chance.choice("DDE")
+    name = chance.choice(names)
+    player.do(f"table {name}")
+    set_text(player, chance, tables[name], direction, text_size)
+    page = tables[name].page or 7
+    if chance.random() < 0.03:
+        page = chance.choice((1, 7, 9, 65535))
+    started = player.do(f"start {direction} {page} {random_policy(chance, direction)}")
+    if started == "start 17":
+        player.do(f"start {direction} {page} 555")
+    saved = []
+    for _ in range(call_count):
+        turn = chance.random()
+        if player.run.ended and turn < 0.8:
+            # an ended run: read an earlier line back, or leave it at one refused call
+            if not saved or chance.random() < 0.3:
+                play_run_call(player, chance, direction, text_size)
+                return
+            player.do(f"load {hex_text(chance.choice(saved), 2)}")
+        elif turn < 0.68:
+            play_run_call(player, chance, direction, text_size)
+        elif turn < 0.82:
+            answer = player.do(f"save {chance.choice((44, 44, 44, 44, 60, 18, 19, 20, 26, chance.randrange(50)))}")
+            words = answer.split(" ")
+            if words[1] == "0":
+                saved.append(bytes.fromhex(words[3]))
+        elif turn < 0.89:
+            if saved:
+                player.do(f"load {hex_text(chance.choice(saved), 2)}")
+        elif turn < 0.95:
+            line = chance.choice(saved) if saved else second_converter.line_of(player.run)
+            player.do(f"load {hex_text(damaged_line(chance, line), 2)}")
+        else:
+            play_one_go(player, chance, direction, text_size)
+        if len(names) > 1 and chance.random() < 0.15:
+            player.do(f"table {chance.choice(names)}")
+            player.do("shape")
+
+
+def play_run_call(player, chance, direction, text_size):
+    """A run call from the run's position on; now and then from anywhere, or of the other direction."""
+    position = player.run.read if player.run.read <= text_size else text_size
+    if chance.random() < 0.03:
+        position = chance.randrange(text_size + 1)
+    left = text_size - position
+    small = (0, 1, 1, 2, 3, chance.randrange(7))
+    count = chance.choice((left, chance.randrange(left + 1), *(min(left, number) for number in small)))
+    reaches_end = count == left
+    mark = "last" if reaches_end and chance.random() < 0.5 else "more"
+    if chance.random() < 0.01:
+        mark = "last"
+    name = {"D": "decode", "E": "encode"}[direction]
+    if chance.random() < 0.015:
+        # of the other direction, on an empty piece
+        player.do(f"{'encode' if name == 'decode' else 'decode'} 0 0 {mark} 2")
+        return
+    player.do(f"{name} {position} {count} {mark} {random_room(chance, count)}")
+
+
+def play_one_go(player, chance, direction, text_size):
+    start = chance.randrange(text_size + 1)
+    count = chance.randrange(text_size - start + 1)
+    policy = random_policy(chance, direction)
+    player.do(f"count {direction} {policy} {start} {count}")
+    player.do(f"convert {direction} {policy} {start} {count} {random_room(chance, count)}")
+
+
+def sparse_text(chance, tables, direction):
+    """A pattern that writes little when codes without a character are skipped: one character among many others."""
+    count = chance.randrange(300, 900)
+    if direction == "D":
+        kinds = byte_kinds(tables)
+        others = kinds.get("never", []) + kinds.get("none", [])
+        text = [chance.choice(others) for _ in range(count)] + [chance.choice(kinds["character"])]
+        if "lead" in kinds:
+            text += [chance.choice(kinds["lead"]) for _ in range(chance.randrange(4))]
+        return hex_text(text, 2)
+    unknown = [unit for unit in range(0x10000)
+               if tables.blocks[256 * tables.index[unit >> 8] + (unit & 0xFF)] == NONE]
+    return hex_text([chance.choice(unknown) for _ in range(count)] + random_units(chance, tables, 2), 4)
+
+
+def play_long_list(player, chance, names, tables):
+    """A text of up to 66,000 elements that writes little, cut into large pieces; some pieces are over the limit."""
+    direction = chance.choice("DE")
+    name = chance.choice(names)
+    player.do(f"table {name}")
+    size = chance.choice((66000, 65536, 65537, 65538, chance.randrange(30000, 66000)))
+    player.do(f"{'fillbytes' if direction == 'D' else 'fillunits'} {size} {sparse_text(chance, tables[name], direction)}")
+    player.do(f"start {direction} {tables[name].page} 111")
+    call = {"D": "decode", "E": "encode"}[direction]
+    for _ in range(8):
+        position = min(player.run.read, size)
+        left = size - position
+        count = chance.choice((left, left, min(left, 65536), min(left, 65537), chance.randrange(left + 1)))
+        mark = "last" if count == left and chance.random() < 0.5 else "more"
+        room = chance.choice((0, 1, 2, 40, 200, 1000))
+        player.do(f"{call} {position} {count} {mark} {room}")
+        if chance.random() < 0.3:
+            player.do(f"count {direction} 111 {position} {count}")
+        if chance.random() < 0.2:
+            player.do("save 44")
+        if player.run.ended:
+            return
+
+
+def random_total(chance):
+    return chance.choice(
+        (0, 1, 2, 3, chance.randrange(100), LIMIT - 1, LIMIT, LIMIT + 1, 2 * LIMIT, 2 * LIMIT + 1, 2**32 + 1, 2**63,
+         2**64 - 1, chance.randrange(LIMIT), chance.randrange(2**64))
+    )
+
+
+def random_run(chance):
+    """The ten words of a run: one that keeps the rules, then at most two fields changed to anything."""
+    direction = chance.choice("DE")
+    read = chance.choice((0, 1, 2, 9, chance.randrange(1000), LIMIT - 2, LIMIT - 1, LIMIT, chance.randrange(LIMIT)))
+    most = read if direction == "D" else 2 * read
+    carried = chance.choice(("-", "81", "82", "41")) if direction == "D" and most > 0 else "-"
+    word = chance.choice(("on", "on", "over")) if carried == "-" else "on"
+    written = chance.choice((0, most, most // 2)) if carried == "-" else chance.choice((0, most - 1))
+    digits = [chance.choice("1234505") for _ in range(3)]
+    flags = chance.choice((0, 1, 4, 7)) if word == "on" else chance.choice((0, 7, 9, 15))
+    words = [direction, "7", *digits, carried, str(flags), str(read), str(written), word]
+    changes = (
+        (0, chance.choice("DE")),
+        (1, chance.choice(("0", "9", "65535"))),
+        (2 + chance.randrange(3), chance.choice(("6", "7", "255"))),
+        (5, chance.choice(("-", "81", "82", "41", "83", "00", "FF"))),
+        (6, chance.choice(("8", "12", "15", "16", "255"))),
+        (7, str(random_total(chance))),
+        (8, str(min(chance.choice((read + 1, 2 * read + 1, max(read - 1, 0), random_total(chance))), 2**64 - 1))),
+        (9, chance.choice(("on", "over"))),
+    )
+    for _ in range(chance.choice((0, 0, 1, 1, 1, 2))):
+        place, word = chance.choice(changes)
+        words[place] = word
+    return " ".join(words)
+
+
+def play_runs(player, chance):
+    """Runs of random numbers, and what each call says to them."""
+    player.do("table sample.tbl")
+    player.do("bytes 4182807C81408341815A")
+    player.do("units 004130001234D83D4E00")
+    for _ in range(6):
+        player.do(f"run {random_run(chance)}")
+        before = player.do("save 44")
+        name, size = {"D": ("decode", 10), "E": ("encode", 5)}[player.run.direction]
+        for _ in range(2):
+            start = chance.randrange(size + 1)
+            count = chance.choice((0, 1, 2, chance.randrange(size + 1)))
+            count = min(count, size - start)
+            player.do(f"{name} {start} {count} {chance.choice(('more', 'last'))} {chance.randrange(6)}")
+        words = before.split(" ")
+        if words[1] == "0":
+            player.do(f"load {words[3]}")
+
+
+def random_script(kind, seed, count, tables, folder):
+    """The two files of a random script; folder has the images of the tables."""
+    chance = random.Random(f"{kind} {seed}")
+    player = Player(folder)
+    player.note(f"Random: {kind}, seed {seed}")
+    random_names = [name for name in tables if name.startswith("random")]
+    damaged_names = [name for name in tables if name.startswith("damaged")]
+    for number in range(count):
+        player.note(f"list {number}")
+        size = chance.choice((0, 1, 2, chance.randrange(10), chance.randrange(30), chance.randrange(30)))
+        calls = chance.randrange(4, 20)
+        if kind == "lists_sample":
+            play_list(player, chance, ["sample.tbl"], tables, size, calls)
+        elif kind == "lists_small":
+            play_list(player, chance, [chance.choice(random_names)], tables, size, calls)
+        elif kind == "lists_damaged":
+            names = [chance.choice(damaged_names), chance.choice(damaged_names), chance.choice(random_names), "sample.tbl"]
+            play_list(player, chance, names, tables, size, calls)
+        elif kind == "lists_long":
+            play_long_list(player, chance, random_names + ["sample.tbl"], tables)
+        else:
+            play_runs(player, chance)
+    return player.files()

@@ -1,0 +1,805 @@
+#!/usr/bin/env python3
+"""The second converter: plays a console script by the rules of document 01.
+
+    second_converter.py [--folder FOLDER]... [SCRIPT]
+
+Reads the script from the file SCRIPT, or from standard input, and writes one answer line for each command to
+standard output. A FILE in the script is looked for in the folders given, in their order, or in the current
+folder if none is given.
+
+It is written from document 01 alone and shares no code with the converter that it checks. Its sections follow
+that document, and the comments name the paragraph. It is meant to be plain, not fast.
+"""
+
+import argparse
+import os
+import re
+import struct
+import sys
+from dataclasses import dataclass, replace
+from typing import Optional
+
+# ---------------------------------------------------------------------------------------------------------------
+# The table set
+# ---------------------------------------------------------------------------------------------------------------
+
+NONE = 0xFFFF  # "FFFF means none": in singles, pairs and blocks
+
+
+@dataclass
+class TableSet:
+    """Three numbers and five lent tables, in the order of document 01."""
+
+    page: int
+    default_byte: int
+    default_unit: int
+    classes: list
+    singles: list
+    pairs: list
+    index: list
+    blocks: list
+
+
+# "0 never, 1 single, 2 lead; plus 4 if the byte may be a second byte"
+GOOD_CLASSES = (0, 1, 2, 4, 5, 6)
+SINGLES = (1, 5)
+LEADS = (2, 6)
+SECONDS = (4, 5, 6)
+
+
+def shape_report(table):
+    """'good', or the first bad place, in the words of the console."""
+    # "page, then table sizes in the order above"
+    if table.page == 0:
+        return "page"
+    if len(table.classes) != 256:
+        return "classes"
+    if len(table.singles) != 256:
+        return "singles"
+    # "(leads are the classes 2 and 6)": a low lead counts too
+    leads = sum(1 for byte_class in table.classes if byte_class in LEADS)
+    if len(table.pairs) != 256 * leads:
+        return "pairs"
+    if len(table.index) != 256:
+        return "index"
+    # "1 to 256 blocks of 256"
+    if len(table.blocks) not in range(256, 65536 + 1, 256):
+        return "blocks"
+    # "then the first bad class or low lead"
+    for place, byte_class in enumerate(table.classes):
+        if byte_class not in GOOD_CLASSES:
+            return f"class {place}"
+        if byte_class in LEADS and place < 0x80:
+            return f"lead {place}"
+    # "then the first bad index number": it names a block that is not there
+    for place, number in enumerate(table.index):
+        if number >= len(table.blocks) // 256:
+            return f"number {place}"
+    return "good"
+
+
+def shape_is_good(table):
+    return shape_report(table) == "good"
+
+
+# ---------------------------------------------------------------------------------------------------------------
+# Reading one code from bytes
+# ---------------------------------------------------------------------------------------------------------------
+
+# The three kinds of code without a character, each named by its flag ("Flags gather over the run").
+UNDEFINED_SINGLE = 1
+UNDEFINED_PAIR = 2
+INVALID = 4
+STOPPED = 8
+
+
+@dataclass
+class Code:
+    """One code as read: how many units of input it takes, its kind, what it means."""
+
+    size: int
+    kind: int  # 0: it has a character; else one of the three kinds above
+    meaning: list  # decoding: the unit of its character; encoding: the bytes of its code; else empty
+
+
+def read_code(table, first, second):
+    """The code that begins with the byte first; second is the byte after it, None at the end of the whole text."""
+    byte_class = table.classes[first]
+    # "Class single: one byte. Its character, or undefined single if none."
+    if byte_class in SINGLES:
+        unit = table.singles[first]
+        if unit == NONE:
+            return Code(1, UNDEFINED_SINGLE, [])
+        return Code(1, 0, [unit])
+    # "Class never: invalid, one byte."
+    if byte_class not in LEADS:
+        return Code(1, INVALID, [])
+    # "Lead at the end of the whole text: invalid, one byte."
+    if second is None:
+        return Code(1, INVALID, [])
+    # "Lead followed by any other byte: invalid, two bytes"
+    if table.classes[second] not in SECONDS:
+        return Code(2, INVALID, [])
+    # "Lead followed by a byte that may be second: two bytes. Its character, or undefined pair."
+    # "the lead with j leads below it uses block j, at the second byte"
+    leads_below = sum(1 for lower in table.classes[:first] if lower in LEADS)
+    unit = table.pairs[256 * leads_below + second]
+    if unit == NONE:
+        return Code(2, UNDEFINED_PAIR, [])
+    return Code(2, 0, [unit])
+
+
+# ---------------------------------------------------------------------------------------------------------------
+# Reading one unit for bytes
+# ---------------------------------------------------------------------------------------------------------------
+
+
+def read_unit(table, unit):
+    """The code of one unit: "Each unit alone is looked up; surrogates are ordinary units"."""
+    block = table.index[unit // 256]
+    code = table.blocks[256 * block + unit % 256]
+    # "No code: undefined single."
+    if code == NONE:
+        return Code(1, UNDEFINED_SINGLE, [])
+    # "A code up to 00FF is one byte; a larger one is its high half, then its low half."
+    if code <= 0x00FF:
+        return Code(1, 0, [code])
+    return Code(1, 0, [code // 256, code % 256])
+
+
+# ---------------------------------------------------------------------------------------------------------------
+# Policies and flags
+# ---------------------------------------------------------------------------------------------------------------
+
+DECODING = "D"
+ENCODING = "E"
+
+
+def digits_allowed(direction, digits):
+    """ "6 is allowed only in the first digit of a decoding run"; the others are 0 to 5."""
+    first_limit = 6 if direction == DECODING else 5
+    return digits[0] <= first_limit and digits[1] <= 5 and digits[2] <= 5
+
+
+def digit_for(digits, kind):
+    """ "A run has three digits: undefined single, undefined pair, invalid." """
+    return {UNDEFINED_SINGLE: digits[0], UNDEFINED_PAIR: digits[1], INVALID: digits[2]}[kind]
+
+
+STOP = None  # what policy_output answers for the digit 0
+
+
+def policy_output(direction, table, digit, first_byte):
+    """What a digit has written in place of a code without a character, or STOP."""
+    if digit == 0:  # stop with error
+        return STOP
+    if digit == 1:  # skip
+        return []
+    if digit == 2:  # write NUL
+        return [0x00]
+    if digit == 3:  # write 3F
+        return [0x3F]
+    if digit == 4:  # write 5F
+        return [0x5F]
+    if digit == 5:  # write the default: the table set's own unit or byte
+        return [table.default_unit if direction == DECODING else table.default_byte]
+    return [0xF100 + first_byte]  # 6: only an undefined single of a decoding run comes here
+
+
+# ---------------------------------------------------------------------------------------------------------------
+# One call of a run
+# ---------------------------------------------------------------------------------------------------------------
+
+PIECE_LIMIT = 65536  # 11: "input over 65,536 units"
+READ_LIMIT = 4294967295  # 16: "read total plus this input exceeds 4,294,967,295"
+
+ALL_READ = 0
+LEAD_CARRIED = 1
+DOES_NOT_FIT = 2
+STOPPED_BY_POLICY = 3
+
+NO_END_OF_ROOM = float("inf")
+
+
+@dataclass
+class Taken:
+    """What a call takes from its input: the answer 0 to 3 and all that the codes taken read, write and set."""
+
+    number: int
+    read: int
+    output: list
+    flags: int
+    carried: Optional[int]
+
+
+def take_bytes(table, digits, carried, piece, last, room):
+    """Takes code after code from the carried byte and the piece."""
+    read, output, flags = 0, [], 0
+    while carried is not None or read < len(piece):
+        if carried is not None:
+            before = 1  # the first byte of the code was read by an earlier call
+            first = carried
+        else:
+            before = 0
+            first = piece[read]
+        next_place = read + 1 - before
+        second = piece[next_place] if next_place < len(piece) else None
+        # "In a call not marked last, a lead that is the final byte is read and carried, even with no room."
+        if not last and second is None and table.classes[first] in LEADS:
+            return Taken(LEAD_CARRIED, len(piece), output, flags, first)
+        code = read_code(table, first, second)
+        if code.kind == 0:
+            writes = code.meaning
+        else:
+            writes = policy_output(DECODING, table, digit_for(digits, code.kind), first)
+        # "Stopping reads past the code, sets its flag and 8, writes nothing and ends the run."
+        if writes is STOP:
+            return Taken(STOPPED_BY_POLICY, read + code.size - before, output, flags | code.kind | STOPPED, None)
+        # "A code is taken only if everything it writes fits; otherwise none of it is written and its unread input
+        # stays unread."
+        if len(output) + len(writes) > room:
+            return Taken(DOES_NOT_FIT, read, output, flags, carried)
+        read += code.size - before
+        output += writes
+        flags |= code.kind
+        carried = None
+    return Taken(ALL_READ, read, output, flags, None)
+
+
+def take_units(table, digits, piece, room):
+    """Takes unit after unit. "Encoding uses the first digit only." """
+    read, output, flags = 0, [], 0
+    while read < len(piece):
+        code = read_unit(table, piece[read])
+        if code.kind == 0:
+            writes = code.meaning
+        else:
+            writes = policy_output(ENCODING, table, digits[0], None)
+        if writes is STOP:
+            return Taken(STOPPED_BY_POLICY, read + 1, output, flags | code.kind | STOPPED, None)
+        if len(output) + len(writes) > room:
+            return Taken(DOES_NOT_FIT, read, output, flags, None)
+        read += 1
+        output += writes
+        flags |= code.kind
+    return Taken(ALL_READ, read, output, flags, None)
+
+
+def run_call_refusal(run, direction, table, piece):
+    """ "A run call checks 10 to 16 in that order": the first that holds, or None."""
+    if not shape_is_good(table):
+        return 10
+    if len(piece) > PIECE_LIMIT:
+        return 11
+    if not keeps_run_rules(run):
+        return 12
+    if run.direction != direction or run.page != table.page:
+        return 13
+    if run.carried is not None and table.classes[run.carried] not in LEADS:
+        return 14
+    if run.ended:
+        return 15
+    if run.read + len(piece) > READ_LIMIT:
+        return 16
+    return None
+
+
+@dataclass
+class Outcome:
+    number: int
+    read: int
+    written: int
+    run: "Run"
+
+
+def run_call(direction, run, table, piece, last, out):
+    """One call of a run. Writes to the front of out and leaves the rest as it was."""
+    refusal = run_call_refusal(run, direction, table, piece)
+    # "A refused run call returns the run it was handed, read 0, written 0."
+    if refusal is not None:
+        return Outcome(refusal, 0, 0, run)
+    if direction == DECODING:
+        taken = take_bytes(table, run.digits, run.carried, piece, last, len(out))
+    else:
+        taken = take_units(table, run.digits, piece, len(out))
+    for place, element in enumerate(taken.output):
+        out[place] = element
+    # "In a call marked last the run ends when all is read and no byte is carried"; stopping ends it too
+    ended = taken.number == STOPPED_BY_POLICY or (last and taken.number == ALL_READ)
+    after = replace(
+        run,
+        carried=taken.carried,
+        flags=run.flags | taken.flags,
+        read=run.read + taken.read,
+        written=run.written + len(taken.output),
+        ended=ended,
+    )
+    return Outcome(taken.number, taken.read, len(taken.output), after)
+
+
+def one_go_refusal(direction, digits, table, text):
+    """ "counting and the one-go call check 17 (policy), 10, 11" """
+    if not digits_allowed(direction, digits):
+        return 17
+    if not shape_is_good(table):
+        return 10
+    if len(text) > PIECE_LIMIT:
+        return 11
+    return None
+
+
+def take_whole_text(direction, digits, table, text, room):
+    """ "as one call marked last on a fresh run of the set's page" """
+    if direction == DECODING:
+        return take_bytes(table, digits, None, text, True, room)
+    return take_units(table, digits, text, room)
+
+
+@dataclass
+class OneGo:
+    number: int
+    flags: int
+    read: int
+    written: int
+
+
+def count_call(direction, digits, table, text):
+    """ "Counting gives the same as if room never ended, and writes nothing." A refusal is the number alone."""
+    refusal = one_go_refusal(direction, digits, table, text)
+    if refusal is not None:
+        return refusal
+    taken = take_whole_text(direction, digits, table, text, NO_END_OF_ROOM)
+    return OneGo(taken.number, taken.flags, taken.read, len(taken.output))
+
+
+def convert_call(direction, digits, table, text, out):
+    """ "number (0, 2 or 3), flags, read, written". A refusal is the number alone, with the output untouched."""
+    refusal = one_go_refusal(direction, digits, table, text)
+    if refusal is not None:
+        return refusal
+    taken = take_whole_text(direction, digits, table, text, len(out))
+    for place, element in enumerate(taken.output):
+        out[place] = element
+    return OneGo(taken.number, taken.flags, taken.read, len(taken.output))
+
+
+# ---------------------------------------------------------------------------------------------------------------
+# The run and its saved line
+# ---------------------------------------------------------------------------------------------------------------
+
+
+@dataclass(frozen=True)
+class Run:
+    direction: str
+    page: int
+    digits: tuple
+    carried: Optional[int]
+    flags: int
+    read: int
+    written: int
+    ended: bool
+
+
+def start_call(direction, page, digits):
+    """ "An accepted start gives a fresh one"; 17: "start numbers not allowed (page 0, a policy digit)". """
+    if page == 0 or not digits_allowed(direction, digits):
+        return 17
+    return Run(direction, page, digits, None, 0, 0, 0, False)
+
+
+def keeps_run_rules(run):
+    # "page not 0; digits allowed; flags at most 15; read within the limit"
+    if run.page == 0:
+        return False
+    if not digits_allowed(run.direction, run.digits):
+        return False
+    if run.flags > 15:
+        return False
+    if run.read > READ_LIMIT:
+        return False
+    # "written at most read (decoding) or twice read (encoding)"
+    most_written = run.read if run.direction == DECODING else 2 * run.read
+    if run.written > most_written:
+        return False
+    # "flag 8 only if ended"
+    if run.flags & STOPPED and not run.ended:
+        return False
+    # "a carried byte only if decoding, not ended, written below read"
+    if run.carried is not None:
+        return run.direction == DECODING and not run.ended and run.written < run.read
+    return True
+
+
+def line_of(run):
+    """The saved line of a run that keeps the rules."""
+    fields = [
+        run.direction,
+        str(run.page),
+        "".join(str(digit) for digit in run.digits),
+        "-" if run.carried is None else f"{run.carried:02X}",
+        str(run.flags),
+        str(run.read),
+        str(run.written),
+        "over" if run.ended else "on",
+    ]
+    return ("\t".join(fields) + "\n").encode("ascii")
+
+
+def plain_number(field):
+    """A decimal number with no spare zeros, or None. Every number of a line has at most 20 digits."""
+    if len(field) > 20 or not re.fullmatch(rb"0|[1-9][0-9]*", field):
+        return None
+    return int(field)
+
+
+def load_call(line):
+    """The run of a saved line; "nothing else is read (18)"."""
+    if not line.endswith(b"\n"):
+        return 18
+    fields = line[:-1].split(b"\t")
+    if len(fields) != 8:
+        return 18
+    direction, page, digits, carried, flags, read, written, word = fields
+    if direction not in (b"D", b"E") or word not in (b"on", b"over"):
+        return 18
+    if not re.fullmatch(rb"[0-9]{3}", digits):
+        return 18
+    if not re.fullmatch(rb"-|[0-9A-F]{2}", carried):
+        return 18
+    numbers = [plain_number(field) for field in (page, flags, read, written)]
+    if None in numbers:
+        return 18
+    page, flags, read, written = numbers
+    if page > 65535:  # "page (1 to 65,535)"
+        return 18
+    run = Run(
+        direction.decode("ascii"),
+        page,
+        tuple(int(digit) for digit in digits.decode("ascii")),
+        None if carried == b"-" else int(carried, 16),
+        flags,
+        read,
+        written,
+        word == b"over",
+    )
+    # "Each run that keeps the rules has one line and each line one run"
+    return run if keeps_run_rules(run) else 18
+
+
+def save_call(run, out):
+    """Writes the line to the front of out and answers its length as ('length', n), or refuses: "12, then 19"."""
+    if not keeps_run_rules(run):
+        return 12
+    line = line_of(run)
+    if len(line) > len(out):
+        return 19
+    for place, byte in enumerate(line):
+        out[place] = byte
+    return ("length", len(line))
+
+
+# ---------------------------------------------------------------------------------------------------------------
+# The console: the command language of docs/CONSOLE.md, and the decisions of docs/CONSOLE-NOTES.md
+# ---------------------------------------------------------------------------------------------------------------
+
+LINE_LIMIT = 400000
+TEXT_LIMIT = 66000
+UNITS_ROOM_LIMIT = 66000
+BYTES_ROOM_LIMIT = 140000
+FILE_NAME_LIMIT = 4000
+
+BYTE_FILL = 0xEE
+UNIT_FILL = 0xEEEE
+
+
+class NotACommand(Exception):
+    """The line is answered '?' and changes nothing."""
+
+
+def number_word(word, most):
+    """A count: decimal, no spare zeros, at most `most`."""
+    value = plain_number(word)
+    if value is None or value > most:
+        raise NotACommand
+    return value
+
+
+def hex_word(word, digits):
+    """A run of hex with `digits` capital digits an element; '-' is the empty one."""
+    if word == b"-":
+        return []
+    if not re.fullmatch(rb"[0-9A-F]+", word) or len(word) % digits != 0:
+        raise NotACommand
+    if len(word) // digits > TEXT_LIMIT:
+        raise NotACommand
+    return [int(word[place : place + digits], 16) for place in range(0, len(word), digits)]
+
+
+def choice_word(word, choices):
+    if word not in choices:
+        raise NotACommand
+    return choices[word]
+
+
+def direction_word(word):
+    return choice_word(word, {b"D": DECODING, b"E": ENCODING})
+
+
+def policy_word(word):
+    if not re.fullmatch(rb"[0-9]{3}", word):
+        raise NotACommand
+    return tuple(int(digit) for digit in word.decode("ascii"))
+
+
+def carried_word(word):
+    if word == b"-":
+        return None
+    if not re.fullmatch(rb"[0-9A-F]{2}", word):
+        raise NotACommand
+    return int(word, 16)
+
+
+def hex_text(elements, digits):
+    if len(elements) == 0:
+        return "-"
+    return "".join(f"{element:0{digits}X}" for element in elements)
+
+
+def run_text(run):
+    """RUN: ten words."""
+    carried = "-" if run.carried is None else f"{run.carried:02X}"
+    digits = " ".join(str(digit) for digit in run.digits)
+    word = "over" if run.ended else "on"
+    return f"{run.direction} {run.page} {digits} {carried} {run.flags} {run.read} {run.written} {word}"
+
+
+def kept_text(out, written, fill):
+    """'kept' if every element of the room beyond the first `written` is still the fill."""
+    return "kept" if all(element == fill for element in out[written:]) else "changed"
+
+
+# A table image: room of the console for each of the five tables, and bytes an element
+IMAGE_ROOM = (300, 300, 33024, 300, 66048)
+IMAGE_WIDTH = (1, 2, 2, 1, 2)
+IMAGE_HEAD = 28
+
+
+def read_image(image):
+    """The table set of an image, or None if the bytes are no image."""
+    if len(image) < IMAGE_HEAD:
+        return None
+    page, default_byte, zero1, default_unit, zero2 = struct.unpack("<HBBHH", image[:8])
+    sizes = struct.unpack("<5I", image[8:IMAGE_HEAD])
+    if zero1 != 0 or zero2 != 0:
+        return None
+    if any(size > room for size, room in zip(sizes, IMAGE_ROOM)):
+        return None
+    if len(image) != IMAGE_HEAD + sum(size * width for size, width in zip(sizes, IMAGE_WIDTH)):
+        return None
+    tables = []
+    place = IMAGE_HEAD
+    for size, width in zip(sizes, IMAGE_WIDTH):
+        part = image[place : place + size * width]
+        tables.append(list(part) if width == 1 else list(struct.unpack(f"<{size}H", part)))
+        place += size * width
+    return TableSet(page, default_byte, default_unit, *tables)
+
+
+def read_image_file(name, folders):
+    for folder in folders:
+        path = os.path.join(folder, name)
+        if not os.path.exists(path):
+            continue
+        try:
+            with open(path, "rb") as file:
+                return read_image(file.read())
+        except OSError:
+            return None
+    return None
+
+
+class Console:
+    """Holds a table set, a byte text, a unit text and the run in hand; answers one line at a time."""
+
+    def __init__(self, folders=(".",)):
+        self.folders = list(folders)
+        self.table = TableSet(0, 0, 0, [], [], [], [], [])
+        self.byte_text = []
+        self.unit_text = []
+        self.run = Run(DECODING, 0, (0, 0, 0), None, 0, 0, 0, False)
+        # each command with the number of words after its name
+        self.commands = {
+            b"table": (1, self.do_table),
+            b"shape": (0, self.do_shape),
+            b"bytes": (1, self.do_bytes),
+            b"units": (1, self.do_units),
+            b"fillbytes": (2, self.do_fillbytes),
+            b"fillunits": (2, self.do_fillunits),
+            b"start": (3, self.do_start),
+            b"run": (10, self.do_run),
+            b"decode": (4, self.do_decode),
+            b"encode": (4, self.do_encode),
+            b"save": (1, self.do_save),
+            b"load": (1, self.do_load),
+            b"count": (4, self.do_count),
+            b"convert": (5, self.do_convert),
+        }
+
+    def answer(self, line):
+        """The answer to one line without its line feed; None for a line that is passed over."""
+        if len(line) > LINE_LIMIT:
+            return "?"
+        if line == b"" or line.startswith(b"#"):
+            return None
+        words = line.split(b" ")
+        try:
+            if words[0] not in self.commands or b"" in words:
+                raise NotACommand
+            count, command = self.commands[words[0]]
+            if len(words) != 1 + count:
+                raise NotACommand
+            return command(*words[1:])
+        except NotACommand:
+            return "?"
+
+    def do_table(self, file):
+        if len(file) > FILE_NAME_LIMIT or not re.fullmatch(rb"[\x21-\x7E]+", file):
+            raise NotACommand
+        table = read_image_file(file.decode("ascii"), self.folders)
+        if table is None:
+            return "table -"
+        self.table = table
+        tables = (table.classes, table.singles, table.pairs, table.index, table.blocks)
+        sizes = " ".join(str(len(elements)) for elements in tables)
+        return f"table {table.page} {table.default_byte:02X} {table.default_unit:04X} {sizes}"
+
+    def do_shape(self):
+        return f"shape {shape_report(self.table)}"
+
+    def do_bytes(self, text):
+        self.byte_text = hex_word(text, 2)
+        return f"bytes {len(self.byte_text)}"
+
+    def do_units(self, text):
+        self.unit_text = hex_word(text, 4)
+        return f"units {len(self.unit_text)}"
+
+    def fill(self, count, pattern, digits):
+        count = number_word(count, TEXT_LIMIT)
+        pattern = hex_word(pattern, digits)
+        if not pattern:
+            raise NotACommand
+        return [pattern[place % len(pattern)] for place in range(count)]
+
+    def do_fillbytes(self, count, pattern):
+        self.byte_text = self.fill(count, pattern, 2)
+        return f"bytes {len(self.byte_text)}"
+
+    def do_fillunits(self, count, pattern):
+        self.unit_text = self.fill(count, pattern, 4)
+        return f"units {len(self.unit_text)}"
+
+    def do_start(self, direction, page, policy):
+        direction = direction_word(direction)
+        page = number_word(page, 65535)
+        digits = policy_word(policy)
+        started = start_call(direction, page, digits)
+        if started == 17:
+            return "start 17"
+        self.run = started
+        return f"start 0 {run_text(self.run)}"
+
+    def do_run(self, direction, page, single, pair, invalid, carried, flags, read, written, word):
+        self.run = Run(
+            direction_word(direction),
+            number_word(page, 65535),
+            (number_word(single, 255), number_word(pair, 255), number_word(invalid, 255)),
+            carried_word(carried),
+            number_word(flags, 255),
+            number_word(read, 2**64 - 1),
+            number_word(written, 2**64 - 1),
+            choice_word(word, {b"on": False, b"over": True}),
+        )
+        return f"run {run_text(self.run)}"
+
+    def part_of(self, text, start, count):
+        start = number_word(start, TEXT_LIMIT)
+        count = number_word(count, TEXT_LIMIT)
+        if start + count > len(text):
+            raise NotACommand
+        return text[start : start + count]
+
+    def do_decode(self, start, count, mark, room):
+        piece = self.part_of(self.byte_text, start, count)
+        last = choice_word(mark, {b"more": False, b"last": True})
+        out = [UNIT_FILL] * number_word(room, UNITS_ROOM_LIMIT)
+        outcome = run_call(DECODING, self.run, self.table, piece, last, out)
+        return "decode " + self.outcome_text(outcome, out, 4, UNIT_FILL)
+
+    def do_encode(self, start, count, mark, room):
+        piece = self.part_of(self.unit_text, start, count)
+        last = choice_word(mark, {b"more": False, b"last": True})
+        out = [BYTE_FILL] * number_word(room, BYTES_ROOM_LIMIT)
+        outcome = run_call(ENCODING, self.run, self.table, piece, last, out)
+        return "encode " + self.outcome_text(outcome, out, 2, BYTE_FILL)
+
+    def outcome_text(self, outcome, out, digits, fill):
+        self.run = outcome.run
+        written = hex_text(out[: outcome.written], digits)
+        kept = kept_text(out, outcome.written, fill)
+        return f"{outcome.number} {outcome.read} {outcome.written} {written} {kept} {run_text(self.run)}"
+
+    def do_save(self, room):
+        out = [BYTE_FILL] * number_word(room, BYTES_ROOM_LIMIT)
+        saved = save_call(self.run, out)
+        if saved in (12, 19):
+            return f"save {saved} {kept_text(out, 0, BYTE_FILL)}"
+        length = saved[1]
+        return f"save 0 {length} {hex_text(out[:length], 2)} {kept_text(out, length, BYTE_FILL)}"
+
+    def do_load(self, line):
+        loaded = load_call(bytes(hex_word(line, 2)))
+        if loaded == 18:
+            return "load 18"
+        self.run = loaded
+        return f"load 0 {run_text(self.run)}"
+
+    def do_count(self, direction, policy, start, count):
+        direction = direction_word(direction)
+        digits = policy_word(policy)
+        text = self.part_of(self.byte_text if direction == DECODING else self.unit_text, start, count)
+        counted = count_call(direction, digits, self.table, text)
+        if counted in (17, 10, 11):
+            return f"count {counted}"
+        return f"count {counted.number} {counted.flags} {counted.read} {counted.written}"
+
+    def do_convert(self, direction, policy, start, count, room):
+        direction = direction_word(direction)
+        digits = policy_word(policy)
+        if direction == DECODING:
+            text, width, fill, most = self.byte_text, 4, UNIT_FILL, UNITS_ROOM_LIMIT
+        else:
+            text, width, fill, most = self.unit_text, 2, BYTE_FILL, BYTES_ROOM_LIMIT
+        text = self.part_of(text, start, count)
+        out = [fill] * number_word(room, most)
+        converted = convert_call(direction, digits, self.table, text, out)
+        if converted in (17, 10, 11):
+            return f"convert {converted} {kept_text(out, 0, fill)}"
+        written = hex_text(out[: converted.written], width)
+        kept = kept_text(out, converted.written, fill)
+        return f"convert {converted.number} {converted.flags} {converted.read} {converted.written} {written} {kept}"
+
+
+def script_lines(script):
+    """The lines of a script: each ends at a line feed; what follows the last one, if anything, is a line too."""
+    lines = script.split(b"\n")
+    if lines[-1] == b"":
+        lines.pop()
+    return lines
+
+
+def play(script, folders=(".",)):
+    """The answers to a whole script (bytes in, bytes out)."""
+    console = Console(folders)
+    answers = (console.answer(line) for line in script_lines(script))
+    return "".join(answer + "\n" for answer in answers if answer is not None).encode("ascii")
+
+
+def main():
+    parser = argparse.ArgumentParser(description="Plays a console script by the rules of document 01.")
+    parser.add_argument("--folder", action="append", help="where the script's table images are (may be repeated)")
+    parser.add_argument("script", nargs="?", help="the script; standard input if not given")
+    options = parser.parse_args()
+    if options.script is None:
+        script = sys.stdin.buffer.read()
+    else:
+        try:
+            with open(options.script, "rb") as file:
+                script = file.read()
+        except OSError as error:
+            sys.exit(f"second_converter: can't read the script {options.script}: {error.strerror}")
+    sys.stdout.buffer.write(play(script, options.folder or ["."]))
+
+
+if __name__ == "__main__":
+    main()

@@ -1,0 +1,580 @@
+#!/usr/bin/env python3
+"""Checks the tools, the tables and the stored scripts.
+
+    python3 tools/test_tools.py [--source FOLDER]
+
+FOLDER has the sources of the tables (c_932.nls and the others); with it the images are made anew too. The page scripts are
+made anew if java is on the machine; else only the stored ones are played. Prints 'N passed, M failed'.
+"""
+
+import argparse
+import glob
+import os
+import random
+import re
+import shutil
+import struct
+import sys
+import tempfile
+
+import fixed_scripts
+import independent_converters
+import make_sample
+import make_scripts
+import make_tables
+import page_scripts
+import random_scripts
+import second_converter as converter
+
+ROOT = os.path.dirname(os.path.dirname(os.path.abspath(__file__)))
+SCRIPTS = os.path.join(ROOT, "scripts")
+DATA = os.path.join(SCRIPTS, "data")
+TABLES = os.path.join(ROOT, "tables")
+FOLDERS = [DATA, TABLES]
+
+
+def read(path):
+    with open(path, "rb") as file:
+        return file.read()
+
+
+def script_names():
+    """The stored scripts, `initial` first."""
+    names = sorted(os.path.basename(path)[:-3] for path in glob.glob(os.path.join(SCRIPTS, "*.in")))
+    names.remove("initial")
+    return ["initial"] + names
+
+
+def load_table(name):
+    table = converter.read_image_file(name, FOLDERS)
+    if table is None:
+        raise AssertionError(f"{name} is no table image")
+    return table
+
+
+def expect(condition, text):
+    if not condition:
+        raise AssertionError(text)
+
+
+# ---------------------------------------------------------------------------------------------------------------
+# Tables and stored files
+# ---------------------------------------------------------------------------------------------------------------
+
+
+def check_images(options):
+    complaints = make_tables.check(options.source)
+    expect(not complaints, "; ".join(complaints))
+
+
+def check_sample(options):
+    image = make_sample.sample_tables().image()
+    for path in (os.path.join(TABLES, "sample.tbl"), os.path.join(DATA, "sample.tbl")):
+        expect(read(path) == image, f"{path} is not what make_sample.py makes")
+
+
+def check_differences(options):
+    """Every listed difference is a row that can be read, and the number of rows is the one in the text."""
+    text = read(independent_converters.DIFFERENCES).decode("utf-8")
+    listed = int(re.search(r"It differs in (\d+) entries", text).group(1))
+    expect(len(independent_converters.read_exceptions()) == listed, "rows and their number differ")
+
+
+def check_stored_scripts(options):
+    scripts, images, complaints = make_scripts.stored_scripts()
+    complaints += make_scripts.compare_stored(scripts, images)
+    expect(not complaints, "; ".join(complaints[:5]))
+
+
+def check_page_scripts(options):
+    complaints = page_scripts.check_scripts(page_scripts.all_scripts(), True)
+    expect(not complaints, "; ".join(complaints[:5]))
+
+
+def check_play(options):
+    """Every stored script gives its stored answers."""
+    for name in script_names():
+        got = converter.play(read(os.path.join(SCRIPTS, name + ".in")), FOLDERS)
+        expected = read(os.path.join(SCRIPTS, name + ".out"))
+        expect(got == expected, f"{name}: {page_scripts.first_difference(got, expected)}")
+
+
+def check_joined(options):
+    """All scripts joined, in two orders, give their answers joined: none rests on what another left behind."""
+    names = script_names()
+    for order in (names, names[:1] + names[:0:-1]):
+        script = b"".join(read(os.path.join(SCRIPTS, name + ".in")) for name in order)
+        expected = b"".join(read(os.path.join(SCRIPTS, name + ".out")) for name in order)
+        expect(converter.play(script, FOLDERS) == expected, "the joined scripts answer otherwise")
+
+
+def check_long_lines(options):
+    script = fixed_scripts.long_lines_script()
+    complaints = script.complaints(converter.play(script.commands_file(), FOLDERS))
+    expect(not complaints, "; ".join(complaints))
+
+
+def check_last_line(options):
+    """A last line without a line feed is a line; nothing after the last line feed is none."""
+    expect(converter.play(b"shape", FOLDERS) == b"shape page\n", "a last line without a line feed")
+    expect(converter.play(b"shape\nshape", FOLDERS) == b"shape page\nshape page\n", "a last line after another")
+    expect(converter.play(b"", FOLDERS) == b"" and converter.play(b"\n\n#", FOLDERS) == b"", "a script with no command")
+
+
+def check_coverage(options):
+    """The stored answers have every number in every command that can give it."""
+    wanted = {
+        "decode": (0, 1, 2, 3, 10, 11, 12, 13, 14, 15, 16),
+        "encode": (0, 2, 3, 10, 11, 12, 13, 15, 16),
+        "start": (0, 17),
+        "count": (0, 3, 10, 11, 17),
+        "convert": (0, 2, 3, 10, 11, 17),
+        "save": (0, 12, 19),
+        "load": (0, 18),
+    }
+    seen = {command: set() for command in wanted}
+    for name in script_names():
+        for line in read(os.path.join(SCRIPTS, name + ".out")).decode("ascii").splitlines():
+            words = line.split(" ", 2)
+            if words[0] in seen:
+                seen[words[0]].add(int(words[1]))
+            expect("changed" not in line, f"{name}: an answer says 'changed'")
+    for command, numbers in wanted.items():
+        expect(seen[command] == set(numbers), f"{command}: the numbers seen are {sorted(seen[command])}")
+
+
+def check_further_lists(options):
+    """Other seeds give scripts too, the same each time."""
+    with tempfile.TemporaryDirectory() as folder:
+        tables = random_scripts.random_tables(99)
+        make_scripts.write_images({name: table.image() for name, table in tables.items()}, folder)
+        for kind in make_scripts.LISTS:
+            first = random_scripts.random_script(kind, 99, 3, tables, folder)
+            second = random_scripts.random_script(kind, 99, 3, random_scripts.random_tables(99), folder)
+            expect(first == second, f"{kind}: not the same for the same seed")
+            expect(converter.play(first[0], [folder]) == first[1], f"{kind}: answers differ when played again")
+            expect(b"?\n" not in first[1], f"{kind}: a line is no command")
+
+
+# ---------------------------------------------------------------------------------------------------------------
+# The second converter against another way to put document 01's rules
+# ---------------------------------------------------------------------------------------------------------------
+
+
+def byte_reader(table):
+    """The codes of a byte text as one regular expression: another way to say 'Reading one code from bytes'."""
+
+    def one_of(classes):
+        members = [byte for byte in range(256) if table.classes[byte] in classes]
+        return b"[" + b"".join(b"\\x%02x" % byte for byte in members) + b"]" if members else b"(?!)"
+
+    lead, single, second = one_of((2, 6)), one_of((1, 5)), one_of((4, 5, 6))
+    return re.compile(
+        b"(?P<single>%s)|(?P<pair>%s%s)|(?P<broken>%s.)|(?P<loose>%s\\Z)|(?P<never>.)" % (single, lead, second, lead, lead),
+        re.DOTALL,
+    )
+
+
+def whole_reading(table, direction, digits, text):
+    """Document 01's uncut reading: output, flags, read."""
+    steps = []  # (size, flag, unit or bytes or None, first byte)
+    if direction == "D":
+        leads = [byte for byte in range(256) if table.classes[byte] in (2, 6)]
+        for match in byte_reader(table).finditer(bytes(text)):
+            code = match.group()
+            if match.lastgroup == "single":
+                steps.append((1, 1, table.singles[code[0]], code[0]))
+            elif match.lastgroup == "pair":
+                steps.append((2, 2, table.pairs[256 * leads.index(code[0]) + code[1]], code[0]))
+            else:
+                steps.append((len(code), 4, 0xFFFF, code[0]))
+    else:
+        for unit in text:
+            steps.append((1, 1, table.blocks[256 * table.index[unit >> 8] + (unit & 0xFF)], None))
+    output, flags, total = [], 0, 0
+    default = table.default_unit if direction == "D" else table.default_byte
+    for size, flag, value, first in steps:
+        total += size
+        if value != 0xFFFF:
+            output += [value] if direction == "D" or value < 0x100 else [value >> 8, value & 0xFF]
+            continue
+        flags |= flag
+        digit = digits[{1: 0, 2: 1, 4: 2}[flag]]
+        if digit == 0:
+            return output, flags | 8, total
+        output += [[], [0], [0x3F], [0x5F], [default], [0xF100 + (first or 0)]][digit - 1]
+    return output, flags, total
+
+
+def check_lists(options):
+    """Demand 3 on random lists: joined output, totals, flags and end against the uncut reading; second readings."""
+    chance = random.Random(3)
+    all_tables = random_scripts.random_tables(1)
+    good = [name for name in all_tables if not name.startswith("damaged")]
+    for number in range(1500):
+        tables = all_tables[chance.choice(good)]
+        table = converter.read_image(tables.image())
+        direction = chance.choice("DE")
+        digits = tuple(chance.choice((0, 1, 2, 3, 4, 5, 5)) for _ in range(3))
+        size = chance.randrange(25)
+        make = random_scripts.random_bytes if direction == "D" else random_scripts.random_units
+        text = make(chance, tables, size)
+        whole = whole_reading(table, direction, digits, text)
+        run = converter.start_call(direction, table.page, digits)
+        position, joined, ended = 0, [], False
+        notes = []
+        for _ in range(40):
+            if chance.random() < 0.2:
+                line = [0] * 44
+                length = converter.save_call(run, line)[1]
+                notes.append((bytes(line[:length]), position, list(joined), ended))
+            if notes and chance.random() < 0.15:
+                line, position, joined, ended = chance.choice(notes)
+                joined = list(joined)
+                run = converter.load_call(line)
+            count = chance.randrange(size - position + 1)
+            last = position + count == size and chance.random() < 0.5
+            room = chance.choice((0, 1, 2, 3, 9))
+            out = [-1] * room
+            outcome = converter.run_call(direction, run, table, text[position : position + count], last, out)
+            expect((outcome.number == 15) == ended, f"list {number}: answer 15 exactly if ended")
+            if ended:
+                expect(outcome.run == run and out == [-1] * room, f"list {number}: a refused call changed something")
+                continue
+            expect(out[outcome.written :] == [-1] * (room - outcome.written), f"list {number}: beyond what was written")
+            if count > 0 and room >= (1 if direction == "D" else 2):
+                expect(outcome.read >= 1, f"list {number}: room for one, and nothing is read")
+            position += outcome.read
+            joined += out[: outcome.written]
+            ended = outcome.number == 3 or (outcome.number == 0 and last)
+            run = outcome.run
+            expect(run.read == position and run.written == len(joined), f"list {number}: totals")
+            expect(run.ended == ended, f"list {number}: ended")
+            expect(joined == whole[0][: len(joined)], f"list {number}: output is no beginning of the uncut one")
+            expect(converter.keeps_run_rules(run), f"list {number}: the run breaks the rules")
+            if ended:
+                expect((joined, run.flags, run.read) == whole, f"list {number}: ended otherwise than the uncut reading")
+        # to the end, one element at a time, with just enough room
+        run = converter.start_call(direction, table.page, digits)
+        joined = []
+        for place in range(size + 1):
+            out = [-1] * 2
+            outcome = converter.run_call(direction, run, table, text[place : place + 1], place == size, out)
+            if outcome.number == 15:
+                break
+            run, joined = outcome.run, joined + out[: outcome.written]
+        expect((joined, run.flags, run.read) == whole, f"list {number}: element by element")
+        counted = converter.count_call(direction, digits, table, text)
+        expect((counted.flags, counted.read, counted.written) == (whole[1], whole[2], len(whole[0])), "counting")
+
+
+def check_return(options):
+    """Texts of units and codes that belong together come back, on every page."""
+    for page in (7,) + make_tables.PAGES:
+        table = load_table("sample.tbl" if page == 7 else f"cp{page}.tbl")
+        units, codes = [], []
+        for unit in range(0x10000):
+            encoded = converter.read_unit(table, unit)
+            if encoded.kind != 0:
+                continue
+            decoded = converter.read_code(table, encoded.meaning[0], (encoded.meaning + [None])[1])
+            if decoded.kind == 0 and decoded.meaning == [unit] and decoded.size == len(encoded.meaning):
+                units.append(unit)
+                codes += encoded.meaning
+        expect(len(units) > 100, f"page {page}: too few units")
+        if page != 7:
+            known = sum(1 for unit in range(0x10000) if converter.read_unit(table, unit).kind == 0)
+            expect(known == len(units), f"page {page}: a code does not come back")
+        out = [0] * len(codes)
+        expect(converter.convert_call("E", (0, 0, 0), table, units, out).number == 0 and out == codes, f"page {page}")
+        out = [0] * len(units)
+        expect(converter.convert_call("D", (0, 0, 0), table, codes, out).number == 0 and out == units, f"page {page}")
+
+
+def check_lines(options):
+    """Each run that keeps the rules has one line, each line one run; nothing else is read."""
+    chance = random.Random(5)
+    letters = b"0123456789DE-onver\tABCF\n"
+    for _ in range(20000):
+        words = random_scripts.random_run(chance).encode("ascii")
+        console = converter.Console()
+        console.answer(b"run " + words)
+        run = console.run
+        out = [0] * 44
+        saved = converter.save_call(run, out)
+        if saved == 12:
+            continue
+        line = bytes(out[: saved[1]])
+        expect(converter.load_call(line) == run, f"{line!r} is read as another run")
+        changed = bytearray(line)
+        kind = chance.randrange(3)
+        place = chance.randrange(len(line))
+        if kind == 0:
+            changed[place] = chance.choice(letters)
+        elif kind == 1:
+            del changed[place]
+        else:
+            changed.insert(place, chance.choice(letters))
+        other = converter.load_call(bytes(changed))
+        if other != 18:
+            expect(converter.line_of(other) == bytes(changed), f"{bytes(changed)!r} is read but not written")
+
+
+# ---------------------------------------------------------------------------------------------------------------
+# The scripts against wrong converters
+# ---------------------------------------------------------------------------------------------------------------
+
+
+def wrong_converters():
+    """Name, the function that is replaced, its wrong body. Document 01's 'Errors that look right' come first."""
+    right = {name: getattr(converter, name) for name in dir(converter)}
+
+    def line_without_carried(run):
+        return right["line_of"](converter.replace(run, carried=None))
+
+    def drop_on_empty_piece(table, digits, carried, piece, last, room):
+        taken = right["take_bytes"](table, digits, carried, piece, last, room)
+        return converter.replace(taken, carried=None) if not piece else taken
+
+    def flag_for_carried(table, digits, carried, piece, last, room):
+        taken = right["take_bytes"](table, digits, carried, piece, last, room)
+        return converter.replace(taken, flags=taken.flags | 4) if taken.number == 1 else taken
+
+    def high_byte_in_last_place(direction, run, table, piece, last, out):
+        outcome = right["run_call"](direction, run, table, piece, last, out)
+        if outcome.number == 2 and direction == "E" and outcome.written == len(out) - 1:
+            code = right["read_unit"](table, piece[outcome.read]).meaning
+            if len(code) == 2:
+                out[-1] = code[0]
+        return outcome
+
+    def low_half_of_default_unit(direction, table, digit, first_byte):
+        if direction == "E" and digit == 5:
+            return [table.default_unit % 256]
+        return right["policy_output"](direction, table, digit, first_byte)
+
+    def blocks_by_distance(table, first, second):
+        code = right["read_code"](table, first, second)
+        if code.size == 2 and code.kind != 4:
+            place = 256 * (first - 0x80) + second
+            unit = table.pairs[place] if place < len(table.pairs) else 0xFFFF
+            return converter.Code(2, 2, []) if unit == 0xFFFF else converter.Code(2, 0, [unit])
+        return code
+
+    def entry_before_class(table, first, second):
+        if second is not None and table.classes[first] in (2, 6):
+            below = sum(1 for lower in table.classes[:first] if lower in (2, 6))
+            unit = table.pairs[256 * below + second]
+            if unit != 0xFFFF:
+                return converter.Code(2, 0, [unit])
+        return right["read_code"](table, first, second)
+
+    def default_is_undefined(table, first, second):
+        code = right["read_code"](table, first, second)
+        if code.kind == 0 and code.meaning == [table.default_unit]:
+            return converter.Code(code.size, code.size, [])
+        return code
+
+    def never_takes_two(table, first, second):
+        code = right["read_code"](table, first, second)
+        if table.classes[first] in (0, 4) and second is not None:
+            return converter.Code(2, 4, [])
+        return code
+
+    def lead_then_other_takes_one(table, first, second):
+        code = right["read_code"](table, first, second)
+        return converter.Code(1, 4, []) if code.kind == 4 and code.size == 2 else code
+
+    def surrogates_undefined(table, unit):
+        return converter.Code(1, 1, []) if 0xD800 <= unit <= 0xDFFF else right["read_unit"](table, unit)
+
+    def carry_with_room_only(table, digits, carried, piece, last, room):
+        taken = right["take_bytes"](table, digits, carried, piece, last, room)
+        if taken.number == 1 and room == len(taken.output) and carried is None:
+            return converter.replace(taken, number=2, read=taken.read - 1, carried=None)
+        return taken
+
+    def carry_in_last_call(table, digits, carried, piece, last, room):
+        taken = right["take_bytes"](table, digits, carried, piece, last, room)
+        if last and taken.number == 2 and piece and taken.read == len(piece) - 1 and table.classes[piece[-1]] in (2, 6):
+            return converter.replace(taken, read=len(piece), carried=piece[-1])
+        return taken
+
+    def stop_needs_room(table, digits, carried, piece, last, room):
+        taken = right["take_bytes"](table, digits, carried, piece, last, room)
+        if taken.number == 3 and room == len(taken.output):
+            return right["take_bytes"](table, tuple(digit or 5 for digit in digits), carried, piece, last, room)
+        return taken
+
+    def weigh_what_is_read(run, direction, table, piece):
+        refusal = right["run_call_refusal"](run, direction, table, piece)
+        return None if refusal == 16 and run.digits[0] == 0 else refusal
+
+    def ended_before_rules(run, direction, table, piece):
+        refusal = right["run_call_refusal"](run, direction, table, piece)
+        return 15 if refusal in (12, 13) and run.ended else refusal
+
+    def limit_before_end(run, direction, table, piece):
+        refusal = right["run_call_refusal"](run, direction, table, piece)
+        return 16 if refusal == 15 and run.read + len(piece) > 4294967295 else refusal
+
+    def shape_after_policy_last(direction, digits, table, text):
+        refusal = right["one_go_refusal"](direction, digits, table, text)
+        return 10 if refusal == 17 and right["shape_report"](table) != "good" else refusal
+
+    def high_leads_only(table):
+        changed = converter.replace(table, classes=[
+            0 if place < 0x80 and byte_class in (2, 6) else byte_class
+            for place, byte_class in enumerate(table.classes)])
+        return right["shape_report"](changed) if len(table.classes) == 256 else right["shape_report"](table)
+
+    def more_blocks(table):
+        report = right["shape_report"](table)
+        return "good" if report == "blocks" and len(table.blocks) > 65536 else report
+
+    def written_below_limit(run):
+        return right["keeps_run_rules"](run) and run.written <= 4294967295
+
+    def carried_at_written(run):
+        return right["keeps_run_rules"](converter.replace(run, written=max(run.written - 1, 0)))
+
+    def wrapping_number(field):
+        value = right["plain_number"](field)
+        if value is None and re.fullmatch(rb"[1-9][0-9]*", field):
+            value = int(field[:4000])
+        return None if value is None else value % 2**64
+
+    def spare_zeros(field):
+        return int(field) if re.fullmatch(rb"[0-9]{1,20}", field) else None
+
+    def page_one_refused(direction, page, digits):
+        return 17 if page == 1 else right["start_call"](direction, page, digits)
+
+    def six_for_encoding(direction, digits):
+        return right["digits_allowed"]("D", digits)
+
+    def first_digit_only(direction, digits):
+        return right["digits_allowed"](direction, (digits[0], 5 if direction == "E" else digits[1], digits[2]))
+
+    return (
+        ("the carried byte is dropped when saved", "line_of", line_without_carried),
+        ("the carried byte is dropped at an empty piece", "take_bytes", drop_on_empty_piece),
+        ("a carried lead sets the invalid flag", "take_bytes", flag_for_carried),
+        ("the high byte goes into the last free place", "run_call", high_byte_in_last_place),
+        ("the default unit's low half is the default byte", "policy_output", low_half_of_default_unit),
+        ("pair blocks by the distance to 80", "read_code", blocks_by_distance),
+        ("a table entry before the class", "read_code", entry_before_class),
+        ("a character equal to the default unit is undefined", "read_code", default_is_undefined),
+        ("a never byte takes a second one", "read_code", never_takes_two),
+        ("a lead before another byte takes one", "read_code", lead_then_other_takes_one),
+        ("surrogates are not looked up", "read_unit", surrogates_undefined),
+        ("a lead is carried only with room", "take_bytes", carry_with_room_only),
+        ("a lead is carried in a last call", "take_bytes", carry_in_last_call),
+        ("stopping needs room", "take_bytes", stop_needs_room),
+        ("16 weighs less than the piece", "run_call_refusal", weigh_what_is_read),
+        ("15 before 12 and 13", "run_call_refusal", ended_before_rules),
+        ("16 before 15", "run_call_refusal", limit_before_end),
+        ("10 before 17", "one_go_refusal", shape_after_policy_last),
+        ("pairs size counts high leads only", "shape_report", high_leads_only),
+        ("257 blocks are good", "shape_report", more_blocks),
+        ("written has 32 bits", "keeps_run_rules", written_below_limit),
+        ("written may be one more", "keeps_run_rules", carried_at_written),
+        ("numbers wrap at 64 bits", "plain_number", wrapping_number),
+        ("spare zeros are read", "plain_number", spare_zeros),
+        ("page 1 is refused", "start_call", page_one_refused),
+        ("6 is allowed for encoding", "digits_allowed", six_for_encoding),
+        ("the second digit of an encoding run is not checked", "digits_allowed", first_digit_only),
+    )
+
+
+def check_wrong_converters(options):
+    """Each wrong converter is found out by at least one of the small fixed scripts."""
+    names = ("rows", "calls", "policies", "shapes", "lines", "refusals", "edges")
+    scripts = [(read(os.path.join(SCRIPTS, name + ".in")), read(os.path.join(SCRIPTS, name + ".out"))) for name in names]
+    for title, function, wrong in wrong_converters():
+        right = getattr(converter, function)
+        setattr(converter, function, wrong)
+        try:
+            found = any(converter.play(commands, FOLDERS) != answers for commands, answers in scripts)
+        finally:
+            setattr(converter, function, right)
+        expect(found, f"no fixed script finds out: {title}")
+
+
+def check_wrong_pages(options):
+    """A page script finds out one changed entry of its table, wherever it is."""
+    chance = random.Random(11)
+    for page in (932, 950, 874):
+        image = bytearray(read(os.path.join(TABLES, f"cp{page}.tbl")))
+        commands = [read(os.path.join(SCRIPTS, f"cp{page}.in")), read(os.path.join(SCRIPTS, "undefined_units.in"))]
+        answers = [read(os.path.join(SCRIPTS, f"cp{page}.out")), read(os.path.join(SCRIPTS, "undefined_units.out"))]
+        table = load_table(f"cp{page}.tbl")
+        sizes = struct.unpack("<5I", image[8:28])
+        starts = [28, 28 + sizes[0]]
+        starts += [starts[1] + 2 * sizes[1]]
+        starts += [starts[2] + 2 * sizes[2]]
+        starts += [starts[3] + sizes[3]]
+        second = chance.choice([byte for byte in range(256) if table.classes[byte] & 4] or [0])
+        single = chance.choice([byte for byte in range(0x20, 0x100) if table.classes[byte] in (1, 5)])
+        places = [starts[0] + single, starts[1] + 2 * single, starts[4] + 2 * chance.randrange(sizes[4])]
+        if sizes[2]:
+            places.append(starts[2] + 2 * (256 * chance.randrange(sizes[2] // 256) + second))
+        for place in places:
+            changed = bytearray(image)
+            changed[place] ^= 0x01
+            with tempfile.TemporaryDirectory() as folder:
+                with open(os.path.join(folder, f"cp{page}.tbl"), "wb") as file:
+                    file.write(changed)
+                found = any(
+                    converter.play(script, [folder, TABLES]) != expected for script, expected in zip(commands, answers)
+                )
+            expect(found, f"page {page}: a changed byte at place {place} of the image is not found out")
+
+
+CHECKS = (
+    ("images agree with their sums, and their sources if given", check_images),
+    ("sample page", check_sample),
+    ("list of differences", check_differences),
+    ("fixed and random scripts, made anew", check_stored_scripts),
+    ("page scripts, made anew", check_page_scripts),
+    ("stored scripts played", check_play),
+    ("stored scripts joined", check_joined),
+    ("long lines", check_long_lines),
+    ("last line", check_last_line),
+    ("numbers covered", check_coverage),
+    ("further random lists", check_further_lists),
+    ("lists of calls against the uncut reading", check_lists),
+    ("texts that come back", check_return),
+    ("one line a run, one run a line", check_lines),
+    ("wrong converters are found out", check_wrong_converters),
+    ("wrong page tables are found out", check_wrong_pages),
+)
+
+
+def main():
+    parser = argparse.ArgumentParser(description="Checks the tools, the tables and the stored scripts.")
+    parser.add_argument("--source", metavar="FOLDER", help="the folder that has c_932.nls and the others")
+    options = parser.parse_args()
+    passed = failed = 0
+    for name, check in CHECKS:
+        if check is check_page_scripts and shutil.which("java") is None:
+            print(f"not run   {name}: java is not on this machine")
+            continue
+        try:
+            check(options)
+            passed += 1
+            print(f"passed    {name}", flush=True)
+        except AssertionError as error:
+            failed += 1
+            print(f"FAILED    {name}: {error}", flush=True)
+        except Exception as error:
+            failed += 1
+            print(f"FAILED    {name}: {type(error).__name__}: {error}", flush=True)
+    if options.source is None:
+        print("note      without --source the images were compared with their sums only")
+    print(f"{passed} passed, {failed} failed")
+    sys.exit(1 if failed else 0)
+
+
+if __name__ == "__main__":
+    main()
