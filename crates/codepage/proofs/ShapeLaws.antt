@@ -68,19 +68,19 @@ module _ (bad : ℕ → ℕ → Bool) where
   all-are-good xs h = all-good 0 xs (λ k q. rw (zero-add k) (h k q)) ∙ omega arith
 
 -- ---- Bools
-and-left : (a b : Bool) → (a && b) ≡ true → a ≡ true
+pub and-left : (a b : Bool) → (a && b) ≡ true → a ≡ true
 and-left true b e = refl
 and-left false b e = absurd (false≢true e)
 
-and-right : (a b : Bool) → (a && b) ≡ true → b ≡ true
+pub and-right : (a b : Bool) → (a && b) ≡ true → b ≡ true
 and-right true b e = e
 and-right false b e = absurd (false≢true e)
 
-or-left-false : (a b : Bool) → (a || b) ≡ false → a ≡ false
+pub or-left-false : (a b : Bool) → (a || b) ≡ false → a ≡ false
 or-left-false true b e = absurd (true≢false e)
 or-left-false false b e = refl
 
-or-right-false : (a b : Bool) → (a || b) ≡ false → b ≡ false
+pub or-right-false : (a b : Bool) → (a || b) ≡ false → b ≡ false
 or-right-false true b e = absurd (true≢false e)
 or-right-false false b e = e
 

@@ -4,13 +4,36 @@ ghost use mathlib.Core.Bool.{true};
 ghost use Prim.Native.Nat.{ℕ, _+_, _*_, _≤_};
 ghost use lib.ListN.{length};
 ghost use Rattle.codepage.specs.CodePage.{codePage, entry, isLead, leadsBelow, firstFault, isGood};
+ghost use Rattle.codepage.specs.Marks.{goodSizes};
 ghost use Rattle.codepage.specs.Reading.{lookup, byteAlone, bytePair, unitCode};
-use crate::Fault;
 use crate::Kind;
 use crate::Lookup;
 use crate::Numbers;
+use crate::marks;
 
-// Whether the shape is good.
+// Whether the sizes of the tables are those of a good shape, but for the pairs'.
+fn good_sizes(classes: &[u8], singles: &[u16], index: &[u8], blocks: &[u16]) -> bool
+    ensures { λ r. ⌜ r ≡ goodSizes (length (now (classes .entry))) (length (now (singles .entry))) (length (now (index .entry))) (length (now (blocks .entry))) ⌝ }
+{
+    if classes.len() != 256 {
+        return false;
+    }
+    if singles.len() != 256 {
+        return false;
+    }
+    if index.len() != 256 {
+        return false;
+    }
+    if blocks.len() % 256 != 0 {
+        return false;
+    }
+    if blocks.len() / 256 < 1 {
+        return false;
+    }
+    blocks.len() / 256 <= 256
+}
+
+// Whether the shape is good. Its loops have no break; the report has its own.
 pub fn good_shape(
     numbers: Numbers,
     classes: &[u8],
@@ -21,24 +44,25 @@ pub fn good_shape(
 ) -> bool
     ensures { λ r. ⌜ r ≡ isGood (firstFault (codePage numbers (now (classes .entry)) (now (singles .entry)) (now (pairs .entry)) (now (index .entry)) (now (blocks .entry)))) ⌝ }
 {
-    is_good(crate::shape_report(numbers, classes, singles, pairs, index, blocks))
-}
-
-fn is_good(report: Fault) -> bool
-    ensures { λ r. ⌜ r ≡ isGood report ⌝ }
-{
-    match report {
-        Fault::Good => true,
-        Fault::Page => false,
-        Fault::ClassesSize => false,
-        Fault::SinglesSize => false,
-        Fault::PairsSize => false,
-        Fault::IndexSize => false,
-        Fault::BlocksSize => false,
-        Fault::Class(_) => false,
-        Fault::Lead(_) => false,
-        Fault::Number(_) => false,
+    if numbers.page == 0 {
+        return false;
     }
+    if !good_sizes(classes, singles, index, blocks) {
+        return false;
+    }
+    if marks::low_marks(classes) != 0 {
+        return false;
+    }
+    if marks::high_marks(classes) != 0 {
+        return false;
+    }
+    if blocks.len() / 256 <= (marks::largest(index) as usize) {
+        return false;
+    }
+    if pairs.len() != 256 * crate::leads_below(classes, 256) {
+        return false;
+    }
+    true
 }
 
 // What an entry says of a code.

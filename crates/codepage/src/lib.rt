@@ -1,5 +1,6 @@
 // A code page as lent tables: its shape, and the shape report. (Document 01, "The table set".)
 pub mod inner;
+mod marks;
 
 ghost use mathlib.Core.Path.{_≡_};
 ghost use Prim.Native.Nat.{ℕ, _≤_};
@@ -91,20 +92,18 @@ fn is_bad_class(byte: usize, class: u8) -> bool
     false
 }
 
-// The number of lead bytes below a byte.
+// The number of lead bytes below a byte. The loop has no branch, so that it runs over many entries at a time.
 fn leads_below(classes: &[u8], byte: usize) -> usize
-    requires { ⌜ byte ≤ length (now classes) ⌝ }
+    requires { ⌜ (byte ≤ 256) × (byte ≤ length (now classes)) ⌝ }
     ensures { λ r. ⌜ r ≡ leadsBelow (now (classes .entry)) byte ⌝ }
 {
-    let mut count = 0;
+    let mut count: u16 = 0;
     let mut i = 0;
     while i < byte {
-        if is_lead_class(classes[i]) {
-            count += 1;
-        }
+        count += marks::lead_mark(classes[i]);
         i += 1;
     }
-    count
+    count as usize
 }
 
 // The first byte with a bad class, or the number of classes where there is none.

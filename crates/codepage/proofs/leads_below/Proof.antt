@@ -1,16 +1,15 @@
 use Prim.Native.Nat.{ℕ, _≤_, _-_, _+_}
 use mathlib.Core.Path.{_≡_, refl, sym, _∙_, ap}
-use mathlib.Core.Logic.{⊎-elim}
 use native.Mathlib.Omega.{arith}
 use lib.ListN.{length, take}
 use borrow.Author.Needs.{needs}
-use Rattle.codepage.specs.CodePage.{leads, leadsBelow}
-use Rattle.codepage.proofs.ShapeLaws.{count-lead, count-other}
+use Rattle.codepage.specs.CodePage.{leads, leadsBelow, isLead}
+use Rattle.codepage.proofs.MarkLaws.{count-mark, mark-le}
 use Rattle.codepage.proofs.leads_below.Statement.{statement}
 use Rattle.codepage.proofs.leads_below.Tie as tie
 use Rattle.codepage.proofs.leads_below.Reads as reads
 use Rattle.codepage.proofs.leads_below.Lts as lts
-use Rattle.codepage.proofs.is_lead_class.Reads as is-lead-class-reads
+use Rattle.codepage.proofs.marks.lead_mark.Reads as lead-mark-reads
 
 abbrev Inv-loop : tie.InvT-loop
 Inv-loop classes byte count₀ i₀ count i = (i ≤ byte) × (count ≤ i) × (count ≡ leads (take i classes))
@@ -18,40 +17,40 @@ Inv-loop classes byte count₀ i₀ count i = (i ≤ byte) × (count ≤ i) × (
 abbrev μ-loop : tie.MeasureT-loop
 μ-loop classes byte count₀ i₀ count i = byte - i
 
--- src/lib.rt:91:5
+-- src/lib.rt:102:5
 loop-holds : tie.Need-loop-holds Inv-loop μ-loop
 unfolding leads
 loop-holds c = (omega arith, omega arith, refl)
 
--- src/lib.rt:92:26
-shared-slice-read-is-lead-class : tie.Need-shared-slice-read-is-lead-class Inv-loop μ-loop
-shared-slice-read-is-lead-class c = omega arith
+-- src/lib.rt:103:35
+shared-slice-read-lead-mark : tie.Need-shared-slice-read-lead-mark Inv-loop μ-loop
+shared-slice-read-lead-mark c = omega arith
 
--- src/lib.rt:92:12
-is-lead-class-requires : tie.Need-is-lead-class-requires Inv-loop μ-loop
-is-lead-class-requires c κs = search needs
+-- src/lib.rt:103:18
+lead-mark-requires : tie.Need-lead-mark-requires Inv-loop μ-loop
+lead-mark-requires c κs = search needs
 
--- src/lib.rt:93:13
+-- src/lib.rt:103:9
 add-count : tie.Need-add-count Inv-loop μ-loop
-add-count c = omega arith
+add-count c = let m = mark-le (isLead _) _ (c .lead-mark .ensures) in omega (arith, m)
 
--- src/lib.rt:95:9
+-- src/lib.rt:104:9
 add-i : tie.Need-add-i Inv-loop μ-loop
 add-i c = omega arith
 
--- src/lib.rt:91:5
+-- src/lib.rt:102:5
 loop-less : tie.Need-loop-less Inv-loop μ-loop
 loop-less c = omega arith
 
--- src/lib.rt:91:5
+-- src/lib.rt:102:5
 loop-again : tie.Need-loop-again Inv-loop μ-loop
-loop-again c =
-    ⊎-elim
-    (λ w. (omega arith, omega arith, w .1 ∙ count-lead (c .before .before .before .before .before .before .args .classes .now) (c .before .before .before .before .loop .i) _ (c .before .before .before .before .loop .inv .2) (sym (c .before .is-lead-class .ensures) ∙ w .0 .taken) (omega arith)))
-    (λ w. (omega arith, omega arith, w .1 ∙ count-other (c .before .before .before .before .before .before .args .classes .now) (c .before .before .before .before .loop .i) _ (c .before .before .before .before .loop .inv .2) (sym (c .before .is-lead-class .ensures) ∙ w .0 .left) (omega arith)))
-    (c .if1 .came)
+loop-again c = let m = mark-le (isLead _) _ (c .lead-mark .ensures) in (omega arith, omega (arith, m), count-mark (c .before .before .before .before .before .args .classes .now) (c .before .before .before .loop .i) (c .before .before .before .loop .count) _ (c .before .before .before .loop .inv .2) (omega arith) (c .lead-mark .ensures))
 
--- src/lib.rt:85:1
+-- src/lib.rt:106:5
+cast-result : tie.Need-cast-result Inv-loop μ-loop
+cast-result c = omega (arith, c .before .loop .inv .1)
+
+-- src/lib.rt:96:1
 returns : tie.Need-returns Inv-loop μ-loop
 unfolding leadsBelow
 returns c =
@@ -65,10 +64,11 @@ leads-below-spec =
     Inv-loop
     μ-loop
     loop-holds
-    shared-slice-read-is-lead-class
-    is-lead-class-requires
+    shared-slice-read-lead-mark
+    lead-mark-requires
     add-count
     add-i
     loop-less
     loop-again
+    cast-result
     returns)

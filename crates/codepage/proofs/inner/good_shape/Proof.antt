@@ -1,24 +1,94 @@
-use mathlib.Core.Path.{_∙_, ap}
-use Rattle.codepage.specs.CodePage.{isGood}
+use mathlib.Core.Path.{_≡_, sym, ap, _∙_}
+use mathlib.Core.Bool.{true≢false}
+use Prim.Native.Nat.{ℕ, _*_, _/_, _≤_, _<_}
+use native.Mathlib.Omega.{arith}
+use lib.ListN.{length}
+use borrow.Author.Tests.{not-true, not-false}
+use Rattle.codepage.specs.CodePage.{codePage, leads}
+use Rattle.codepage.proofs.ShapeLaws.{below-all, below-le}
+use Rattle.codepage.proofs.MarkLaws.{good-if, bad-if, sizes-needed, marks-needed, number-needed, good-by-marks, classes-size, index-size}
 use borrow.Author.Needs.{needs}
 use Rattle.codepage.proofs.inner.good_shape.Statement.{statement}
 use Rattle.codepage.proofs.inner.good_shape.Tie as tie
 use Rattle.codepage.proofs.inner.good_shape.Reads as reads
 use Rattle.codepage.proofs.inner.good_shape.Lts as lts
-use Rattle.codepage.proofs.inner.is_good.Reads as is-good-reads
-use Rattle.codepage.proofs.shape_report.Reads as shape-report-reads
+use Rattle.codepage.proofs.inner.good_sizes.Reads as good-sizes-reads
+use Rattle.codepage.proofs.leads_below.Reads as leads-below-reads
+use Rattle.codepage.proofs.marks.high_marks.Reads as high-marks-reads
+use Rattle.codepage.proofs.marks.largest.Reads as largest-reads
+use Rattle.codepage.proofs.marks.low_marks.Reads as low-marks-reads
 
--- src/inner.rt:24:13
-shape-report-requires : tie.Need-shape-report-requires
-shape-report-requires c κs = search needs
-
--- src/inner.rt:24:5
-is-good-requires : tie.Need-is-good-requires
-is-good-requires c κs = search needs
-
--- src/inner.rt:14:1
+-- src/inner.rt:48:9
 returns : tie.Need-returns
-returns c = c .is-good .ensures ∙ ap isGood (c .before .shape-report .ensures)
+returns c = bad-if (codePage (c .before .before .before .before .before .before .before .args .numbers) (c .before .before .before .before .before .before .before .args .classes .now) (c .before .before .before .before .before .before .before .args .singles .now) (c .before .before .before .before .before .before .before .args .pairs .now) (c .before .before .before .before .before .before .before .args .index .now) (c .before .before .before .before .before .before .before .args .blocks .now)) (λ g. g .page (c .if1 .taken))
+
+-- src/inner.rt:50:9
+good-sizes-requires : tie.Need-good-sizes-requires
+good-sizes-requires c κs = search needs
+
+-- src/inner.rt:51:9
+returns-2 : tie.Need-returns-2
+returns-2 c = bad-if (codePage (c .before .before .before .before .before .before .before .before .before .args .numbers) (c .before .before .before .before .before .before .before .before .before .args .classes .now) (c .before .before .before .before .before .before .before .before .before .args .singles .now) (c .before .before .before .before .before .before .before .before .before .args .pairs .now) (c .before .before .before .before .before .before .before .before .before .args .index .now) (c .before .before .before .before .before .before .before .before .before .args .blocks .now)) (λ g. true≢false (sym (sizes-needed (codePage (c .before .before .before .before .before .before .before .before .before .args .numbers) (c .before .before .before .before .before .before .before .before .before .args .classes .now) (c .before .before .before .before .before .before .before .before .before .args .singles .now) (c .before .before .before .before .before .before .before .before .before .args .pairs .now) (c .before .before .before .before .before .before .before .before .before .args .index .now) (c .before .before .before .before .before .before .before .before .before .args .blocks .now)) g) ∙ sym (c .before .good-sizes .ensures) ∙ not-true _ (c .if2 .taken)))
+
+-- src/inner.rt:53:8
+low-marks-requires : tie.Need-low-marks-requires
+low-marks-requires c κs = classes-size (length (c .before .before .before .before .before .before .before .before .before .args .classes .now)) (length (c .before .before .before .before .before .before .before .before .before .args .singles .now)) (length (c .before .before .before .before .before .before .before .before .before .args .index .now)) (length (c .before .before .before .before .before .before .before .before .before .args .blocks .now)) (sym (c .before .good-sizes .ensures) ∙ not-false _ (c .if2 .left))
+
+-- src/inner.rt:54:9
+returns-3 : tie.Need-returns-3
+returns-3 c = bad-if (codePage (c .before .before .before .before .before .before .before .before .before .before .before .args .numbers) (c .before .before .before .before .before .before .before .before .before .before .before .args .classes .now) (c .before .before .before .before .before .before .before .before .before .before .before .args .singles .now) (c .before .before .before .before .before .before .before .before .before .before .before .args .pairs .now) (c .before .before .before .before .before .before .before .before .before .before .before .args .index .now) (c .before .before .before .before .before .before .before .before .before .before .before .args .blocks .now)) (λ g. marks-needed (codePage (c .before .before .before .before .before .before .before .before .before .before .before .args .numbers) (c .before .before .before .before .before .before .before .before .before .before .before .args .classes .now) (c .before .before .before .before .before .before .before .before .before .before .before .args .singles .now) (c .before .before .before .before .before .before .before .before .before .before .before .args .pairs .now) (c .before .before .before .before .before .before .before .before .before .before .before .args .index .now) (c .before .before .before .before .before .before .before .before .before .before .before .args .blocks .now)) g 0 0x80 _ (omega arith) (c .before .low-marks .ensures) (c .if3 .taken))
+
+-- src/inner.rt:56:8
+high-marks-requires : tie.Need-high-marks-requires
+high-marks-requires c κs = classes-size (length (c .before .before .before .before .before .before .before .before .before .before .before .args .classes .now)) (length (c .before .before .before .before .before .before .before .before .before .before .before .args .singles .now)) (length (c .before .before .before .before .before .before .before .before .before .before .before .args .index .now)) (length (c .before .before .before .before .before .before .before .before .before .before .before .args .blocks .now)) (sym (c .before .before .before .good-sizes .ensures) ∙ not-false _ (c .before .before .if2 .left))
+
+-- src/inner.rt:57:9
+returns-4 : tie.Need-returns-4
+returns-4 c = bad-if (codePage (c .before .before .before .before .before .before .before .before .before .before .before .before .before .args .numbers) (c .before .before .before .before .before .before .before .before .before .before .before .before .before .args .classes .now) (c .before .before .before .before .before .before .before .before .before .before .before .before .before .args .singles .now) (c .before .before .before .before .before .before .before .before .before .before .before .before .before .args .pairs .now) (c .before .before .before .before .before .before .before .before .before .before .before .before .before .args .index .now) (c .before .before .before .before .before .before .before .before .before .before .before .before .before .args .blocks .now)) (λ g. marks-needed (codePage (c .before .before .before .before .before .before .before .before .before .before .before .before .before .args .numbers) (c .before .before .before .before .before .before .before .before .before .before .before .before .before .args .classes .now) (c .before .before .before .before .before .before .before .before .before .before .before .before .before .args .singles .now) (c .before .before .before .before .before .before .before .before .before .before .before .before .before .args .pairs .now) (c .before .before .before .before .before .before .before .before .before .before .before .before .before .args .index .now) (c .before .before .before .before .before .before .before .before .before .before .before .before .before .args .blocks .now)) g 0x80 256 _ (omega arith) (c .before .high-marks .ensures) (c .if4 .taken))
+
+-- src/inner.rt:59:31
+largest-requires : tie.Need-largest-requires
+largest-requires c κs = index-size (length (c .before .before .before .before .before .before .before .before .before .before .before .before .before .args .classes .now)) (length (c .before .before .before .before .before .before .before .before .before .before .before .before .before .args .singles .now)) (length (c .before .before .before .before .before .before .before .before .before .before .before .before .before .args .index .now)) (length (c .before .before .before .before .before .before .before .before .before .before .before .before .before .args .blocks .now)) (sym (c .before .before .before .before .before .good-sizes .ensures) ∙ not-false _ (c .before .before .before .before .if2 .left))
+
+-- src/inner.rt:59:31
+cast-if5 : tie.Need-cast-if5
+cast-if5 c = search needs
+
+-- src/inner.rt:60:9
+returns-5 : tie.Need-returns-5
+returns-5 c = bad-if (codePage (c .before .before .before .before .before .before .before .before .before .before .before .before .before .before .before .args .numbers) (c .before .before .before .before .before .before .before .before .before .before .before .before .before .before .before .args .classes .now) (c .before .before .before .before .before .before .before .before .before .before .before .before .before .before .before .args .singles .now) (c .before .before .before .before .before .before .before .before .before .before .before .before .before .before .before .args .pairs .now) (c .before .before .before .before .before .before .before .before .before .before .before .before .before .before .before .args .index .now) (c .before .before .before .before .before .before .before .before .before .before .before .before .before .before .before .args .blocks .now)) (λ g. let f = number-needed (codePage (c .before .before .before .before .before .before .before .before .before .before .before .before .before .before .before .args .numbers) (c .before .before .before .before .before .before .before .before .before .before .before .before .before .before .before .args .classes .now) (c .before .before .before .before .before .before .before .before .before .before .before .before .before .before .before .args .singles .now) (c .before .before .before .before .before .before .before .before .before .before .before .before .before .before .before .args .pairs .now) (c .before .before .before .before .before .before .before .before .before .before .before .before .before .before .before .args .index .now) (c .before .before .before .before .before .before .before .before .before .before .before .before .before .before .before .args .blocks .now)) g _ (c .before .largest .ensures) in omega (arith, f))
+
+-- src/inner.rt:62:29
+leads-below-requires : tie.Need-leads-below-requires
+leads-below-requires c κs = let e = classes-size (length (c .before .before .before .before .before .before .before .before .before .before .before .before .before .before .before .args .classes .now)) (length (c .before .before .before .before .before .before .before .before .before .before .before .before .before .before .before .args .singles .now)) (length (c .before .before .before .before .before .before .before .before .before .before .before .before .before .before .before .args .index .now)) (length (c .before .before .before .before .before .before .before .before .before .before .before .before .before .before .before .args .blocks .now)) (sym (c .before .before .before .before .before .before .before .good-sizes .ensures) ∙ not-false _ (c .before .before .before .before .before .before .if2 .left)) in (omega arith, omega (arith, e))
+
+-- src/inner.rt:62:23
+mul-if6 : tie.Need-mul-if6
+mul-if6 c = omega (arith, c .leads-below .ensures, below-le (c .before .before .before .before .before .before .before .before .before .before .before .before .before .before .before .before .args .classes .now) 256)
+
+-- src/inner.rt:63:9
+returns-6 : tie.Need-returns-6
+returns-6 c = bad-if (codePage (c .before .before .before .before .before .before .before .before .before .before .before .before .before .before .before .before .before .args .numbers) (c .before .before .before .before .before .before .before .before .before .before .before .before .before .before .before .before .before .args .classes .now) (c .before .before .before .before .before .before .before .before .before .before .before .before .before .before .before .before .before .args .singles .now) (c .before .before .before .before .before .before .before .before .before .before .before .before .before .before .before .before .before .args .pairs .now) (c .before .before .before .before .before .before .before .before .before .before .before .before .before .before .before .before .before .args .index .now) (c .before .before .before .before .before .before .before .before .before .before .before .before .before .before .before .before .before .args .blocks .now)) (λ g. c .if6 .taken (g .pairs ∙ ap (λ (k : ℕ). 256 * k) (sym (c .before .leads-below .ensures ∙ below-all (c .before .before .before .before .before .before .before .before .before .before .before .before .before .before .before .before .before .args .classes .now) (g .classes)))))
+
+-- src/inner.rt:37:1
+returns-7 : tie.Need-returns-7
+returns-7 c = good-if (codePage (c .before .before .before .before .before .before .before .before .before .before .before .before .before .before .before .before .before .args .numbers) (c .before .before .before .before .before .before .before .before .before .before .before .before .before .before .before .before .before .args .classes .now) (c .before .before .before .before .before .before .before .before .before .before .before .before .before .before .before .before .before .args .singles .now) (c .before .before .before .before .before .before .before .before .before .before .before .before .before .before .before .before .before .args .pairs .now) (c .before .before .before .before .before .before .before .before .before .before .before .before .before .before .before .before .before .args .index .now) (c .before .before .before .before .before .before .before .before .before .before .before .before .before .before .before .before .before .args .blocks .now)) (good-by-marks (codePage (c .before .before .before .before .before .before .before .before .before .before .before .before .before .before .before .before .before .args .numbers) (c .before .before .before .before .before .before .before .before .before .before .before .before .before .before .before .before .before .args .classes .now) (c .before .before .before .before .before .before .before .before .before .before .before .before .before .before .before .before .before .args .singles .now) (c .before .before .before .before .before .before .before .before .before .before .before .before .before .before .before .before .before .args .pairs .now) (c .before .before .before .before .before .before .before .before .before .before .before .before .before .before .before .before .before .args .index .now) (c .before .before .before .before .before .before .before .before .before .before .before .before .before .before .before .before .before .args .blocks .now)) (c .before .before .before .before .before .before .before .before .before .before .if1 .left) (sym (c .before .before .before .before .before .before .before .before .before .good-sizes .ensures) ∙ not-false _ (c .before .before .before .before .before .before .before .before .if2 .left)) _ _ _ (c .before .before .before .before .before .before .before .low-marks .ensures) (c .before .before .before .before .before .before .if3 .left) (c .before .before .before .before .before .high-marks .ensures) (c .before .before .before .before .if4 .left) (c .before .before .before .largest .ensures) (omega arith) (c .if6 .left ∙ ap (λ (k : ℕ). 256 * k) (c .before .leads-below .ensures ∙ below-all (c .before .before .before .before .before .before .before .before .before .before .before .before .before .before .before .before .before .args .classes .now) (classes-size (length (c .before .before .before .before .before .before .before .before .before .before .before .before .before .before .before .before .before .args .classes .now)) (length (c .before .before .before .before .before .before .before .before .before .before .before .before .before .before .before .before .before .args .singles .now)) (length (c .before .before .before .before .before .before .before .before .before .before .before .before .before .before .before .before .before .args .index .now)) (length (c .before .before .before .before .before .before .before .before .before .before .before .before .before .before .before .before .before .args .blocks .now)) (sym (c .before .before .before .before .before .before .before .before .before .good-sizes .ensures) ∙ not-false _ (c .before .before .before .before .before .before .before .before .if2 .left))))))
 
 pub good-shape-spec : {M : Type 1} → statement M
-good-shape-spec = tie.close (tie.spec shape-report-requires is-good-requires returns)
+good-shape-spec =
+    tie.close
+    (tie.spec
+    returns
+    good-sizes-requires
+    returns-2
+    low-marks-requires
+    returns-3
+    high-marks-requires
+    returns-4
+    largest-requires
+    cast-if5
+    returns-5
+    leads-below-requires
+    mul-if6
+    returns-6
+    returns-7)

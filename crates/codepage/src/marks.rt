@@ -1,0 +1,106 @@
+// The shape test of a call: loops without a break, so that they run over many entries at a time. The report keeps its own.
+ghost use mathlib.Core.Path.{_≡_};
+ghost use mathlib.Core.Bool.{true, false};
+ghost use Prim.Native.Nat.{ℕ, _+_, _≤_, _<_};
+ghost use lib.Dec.{ltb};
+ghost use lib.ListN.{length};
+ghost use Rattle.codepage.specs.CodePage.{pick, isLead, badClass};
+ghost use Rattle.codepage.specs.Marks.{markOf, Marked, Largest};
+
+// 1 for the class of a lead byte, else 0.
+pub fn lead_mark(class: u8) -> u16
+    ensures { λ r. ⌜ r ≡ markOf (isLead class) ⌝ }
+{
+    if class == 2 {
+        return 1;
+    }
+    if class == 6 {
+        return 1;
+    }
+    0
+}
+
+// 1 for a class that no byte below 80 can have, else 0.
+fn low_mark(class: u8) -> u8
+    ensures { λ r. ⌜ ((byte : ℕ) → byte < 0x80 → r ≡ markOf (badClass byte class)) ⌝ }
+{
+    if class < 2 {
+        return 0;
+    }
+    if class < 4 {
+        return 1;
+    }
+    if class < 6 {
+        return 0;
+    }
+    1
+}
+
+// 1 for a class that no byte from 80 on can have, else 0.
+fn high_mark(class: u8) -> u8
+    ensures { λ r. ⌜ ((byte : ℕ) → 0x80 ≤ byte → r ≡ markOf (badClass byte class)) ⌝ }
+{
+    if class < 3 {
+        return 0;
+    }
+    if class < 4 {
+        return 1;
+    }
+    if class < 7 {
+        return 0;
+    }
+    1
+}
+
+// The larger of two numbers.
+fn larger(a: u8, b: u8) -> u8
+    ensures { λ r. ⌜ (a ≤ r) × (b ≤ r) ⌝ }
+    ensures { λ r. ⌜ r ≡ pick (ltb a b) b a ⌝ }
+{
+    if a < b {
+        return b;
+    }
+    a
+}
+
+// 0 where no byte below 80 has a bad class.
+pub fn low_marks(classes: &[u8]) -> u8
+    requires { ⌜ length (now classes) ≡ 256 ⌝ }
+    ensures { λ r. ⌜ Marked badClass (now (classes .entry)) 0 0x80 r ⌝ }
+{
+    let mut mark: u8 = 0;
+    let mut i: usize = 0;
+    while i < 128 {
+        mark = larger(mark, low_mark(classes[i]));
+        i += 1;
+    }
+    mark
+}
+
+// 0 where no byte from 80 on has a bad class.
+pub fn high_marks(classes: &[u8]) -> u8
+    requires { ⌜ length (now classes) ≡ 256 ⌝ }
+    ensures { λ r. ⌜ Marked badClass (now (classes .entry)) 0x80 256 r ⌝ }
+{
+    let mut mark: u8 = 0;
+    let mut i: usize = 128;
+    while i < 256 {
+        mark = larger(mark, high_mark(classes[i]));
+        i += 1;
+    }
+    mark
+}
+
+// The largest index number.
+pub fn largest(index: &[u8]) -> u8
+    requires { ⌜ length (now index) ≡ 256 ⌝ }
+    ensures { λ r. ⌜ Largest (now (index .entry)) 256 r ⌝ }
+{
+    let mut most: u8 = 0;
+    let mut i: usize = 0;
+    while i < 256 {
+        most = larger(most, index[i]);
+        i += 1;
+    }
+    most
+}
