@@ -1,0 +1,17 @@
+use Rattle.layout.specs.Files.{isWhole}
+use Rattle.layout.proofs.FileLaws as laws
+use mathlib.Core.Path.{_≡_, refl, sym, ap, _∙_}
+use native.Mathlib.Omega.{arith}
+use Rattle.layout.proofs.is_whole.Statement.{statement}
+use Rattle.layout.proofs.is_whole.Tie as tie
+
+returns : tie.Need-returns
+unfolding isWhole
+returns c = rw (c .if1 .taken)
+
+returns-2 : tie.Need-returns-2
+unfolding isWhole
+returns-2 c = rw (c .if1 .left)
+
+pub is-whole-spec : {M : Type 1} → statement M
+is-whole-spec = tie.close (tie.spec returns returns-2)

@@ -1,0 +1,17 @@
+use Rattle.layout.specs.Files.{unitsIn}
+use Rattle.layout.proofs.FileLaws as laws
+use mathlib.Core.Path.{_≡_, refl, sym, ap, _∙_}
+use native.Mathlib.Omega.{arith}
+use Rattle.layout.proofs.units_in.Statement.{statement}
+use Rattle.layout.proofs.units_in.Tie as tie
+
+returns : tie.Need-returns
+unfolding unitsIn
+returns c = rw (c .if1 .taken)
+
+returns-2 : tie.Need-returns-2
+unfolding unitsIn
+returns-2 c = rw (c .if1 .left)
+
+pub units-in-spec : {M : Type 1} → statement M
+units-in-spec = tie.close (tie.spec returns returns-2)
