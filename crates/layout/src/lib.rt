@@ -1,6 +1,6 @@
 // Numbers about files: places and sizes, the blocks of an input. The bytes of UTF-16 units are in `utf16`.
 ghost use mathlib.Core.Path.{_≡_};
-ghost use Prim.Native.Nat.{_-_, min};
+ghost use Prim.Native.Nat.{_-_, _≤_, min};
 ghost use lib.IntN.{pos};
 ghost use Rattle.layout.specs.Files.{Front, sizeOf, unitsIn, isWhole, placeOf, blockLen, isFinal, blockCount};
 
@@ -97,6 +97,7 @@ fn left_of(read: u64, total: u64) -> u64
 // How many units the next block has.
 pub fn block_len(read: u64, total: u64) -> usize
     ensures { λ r. ⌜ r ≡ blockLen read total ⌝ }
+    ensures { λ r. ⌜ r ≤ 512 ⌝ }
 {
     let left = left_of(read, total);
     if left < BLOCK {

@@ -11,11 +11,11 @@ left-of-requires c κs = search needs
 
 returns : tie.Need-returns
 unfolding blockLen
-returns c = omega arith
+returns c = (omega arith, omega arith)
 
 returns-2 : tie.Need-returns-2
 unfolding blockLen
-returns-2 c = omega arith
+returns-2 c = (omega arith, omega arith)
 
 pub block-len-spec : {M : Type 1} → statement M
 block-len-spec = tie.close (tie.spec left-of-requires returns returns-2)

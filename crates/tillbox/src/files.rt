@@ -1,0 +1,71 @@
+// The names of the files, one buffer a function.
+ghost use Rattle.io.specs.Counts.{Counts};
+use crate::options::later;
+use libc::STDERR_FILENO;
+use till::job;
+use till::job::Ending;
+use till::job::Job;
+
+// Puts an argument at the front of a buffer and answers its length. Where it is 0 the reason was said.
+fn name_at(at: usize, buffer: &mut [u8]) -> usize
+    ensures { λ r. ⌜ Counts r (now (buffer .exit)) ⌝ }
+{
+    let count = os::arg(at, buffer);
+    if count == 0 {
+        io::write_all(
+            STDERR_FILENO,
+            b"tillbox: error: the name of a file is empty or too long\n",
+        );
+    }
+    count
+}
+
+fn with_checkpoint(job: Job, first: usize, table: &[u8], input: &[u8], output: &[u8]) -> Ending {
+    if !job.saves {
+        return job::convert_files(job, table, input, output, b"");
+    }
+    let mut name = io::buffer();
+    let count = name_at(later(first, 3), &mut name);
+    if count == 0 {
+        return Ending::Failed;
+    }
+    job::convert_files(job, table, input, output, &name[..count])
+}
+
+fn with_output(job: Job, first: usize, table: &[u8], input: &[u8]) -> Ending {
+    let mut name = io::buffer();
+    let count = name_at(later(first, 2), &mut name);
+    if count == 0 {
+        return Ending::Failed;
+    }
+    with_checkpoint(job, first, table, input, &name[..count])
+}
+
+fn with_input(job: Job, first: usize, table: &[u8]) -> Ending {
+    let mut name = io::buffer();
+    let count = name_at(later(first, 1), &mut name);
+    if count == 0 {
+        return Ending::Failed;
+    }
+    with_output(job, first, table, &name[..count])
+}
+
+// Does a job on the files that the arguments from `first` on name.
+pub fn with_table(job: Job, first: usize) -> Ending {
+    let mut name = io::buffer();
+    let count = name_at(first, &mut name);
+    if count == 0 {
+        return Ending::Failed;
+    }
+    with_input(job, first, &name[..count])
+}
+
+// The shape of the table set that an argument names.
+pub fn shape_of(at: usize) -> Ending {
+    let mut name = io::buffer();
+    let count = name_at(at, &mut name);
+    if count == 0 {
+        return Ending::Failed;
+    }
+    job::print_shape(&name[..count])
+}

@@ -1,0 +1,83 @@
+// tillbox: converts whole files between a till's code page bytes and UTF-16LE, with checkpoints. What is said goes to standard
+// error; standard output has one last word: done, stopped or failed.
+mod files;
+mod options;
+mod usage;
+
+use convert::Direction;
+use libc::STDERR_FILENO;
+use libc::STDOUT_FILENO;
+use till::job;
+use till::job::Ending;
+
+// The last word.
+fn say_ending(ending: Ending) {
+    match ending {
+        Ending::Done => io::write_all(STDOUT_FILENO, b"done\n"),
+        Ending::Stopped => io::write_all(STDOUT_FILENO, b"stopped\n"),
+        Ending::Failed => io::write_all(STDOUT_FILENO, b"failed\n"),
+    }
+    ;
+}
+
+// Says what is wrong with the words of the call, and what can be called.
+fn misused(what: &[u8]) -> Ending {
+    io::write_all(STDERR_FILENO, b"tillbox: error: ");
+    io::write_all(STDERR_FILENO, what);
+    io::write_all(STDERR_FILENO, b"\n");
+    usage::put(STDERR_FILENO);
+    Ending::Failed
+}
+
+fn convert_files(direction: Direction) -> Ending {
+    let chosen = options::chosen();
+    if !chosen.valid {
+        return misused(b"a policy is three digits");
+    }
+    let first = chosen.next;
+    let names = options::names_from(first);
+    let saves = names == 4;
+    if names != 3 {
+        if !saves {
+            return misused(b"three or four names of files are asked for");
+        }
+    }
+    let policy = chosen.policy;
+    let job = job::Job {
+        direction,
+        policy,
+        asked: chosen.asked,
+        last: chosen.last || !saves,
+        saves,
+    };
+    files::with_table(job, first)
+}
+
+fn print_shape() -> Ending {
+    if os::arg_count() != 3 {
+        return misused(b"one name of a file is asked for");
+    }
+    files::shape_of(2)
+}
+
+// The command that the first word names.
+fn command() -> Ending {
+    if options::is_word(1, b"decode") {
+        return convert_files(Direction::Decoding);
+    }
+    if options::is_word(1, b"encode") {
+        return convert_files(Direction::Encoding);
+    }
+    if options::is_word(1, b"shape") {
+        return print_shape();
+    }
+    misused(b"no such command")
+}
+
+fn main() {
+    if options::is_word(1, b"help") {
+        usage::put(STDOUT_FILENO);
+        return;
+    }
+    say_ending(command());
+}

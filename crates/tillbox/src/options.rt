@@ -1,0 +1,143 @@
+// The words before the names of the files: `last` and `policy DDD`.
+use convert::Policy;
+
+// What was chosen, and which argument is the first name.
+pub struct Options {
+    pub last: bool,
+    pub policy: Policy,
+    // Whether a policy was asked for, and is one of three digits.
+    pub asked: bool,
+    pub valid: bool,
+    pub next: usize,
+}
+
+// A policy that was read, or words that are none.
+pub enum Parsed {
+    Digits(Policy),
+    Nothing,
+}
+
+// A later argument. No program has so many that the sum could not be built.
+pub fn later(at: usize, by: usize) -> usize {
+    if 1000 < at {
+        return at;
+    }
+    if 1000 < by {
+        return at;
+    }
+    at + by
+}
+
+// Whether an argument is this word of at most 16 bytes.
+pub fn is_word(at: usize, word: &[u8]) -> bool {
+    let mut buffer = [0u8; 16];
+    let count = os::arg(at, &mut buffer);
+    check::same(&buffer[..count], word)
+}
+
+// How many arguments there are from a place on.
+pub fn names_from(at: usize) -> usize {
+    let count = os::arg_count();
+    if count < at {
+        return 0;
+    }
+    count - at
+}
+
+// The value of a decimal digit, or 10.
+fn digit_value(byte: u8) -> u8 {
+    if byte < b'0' {
+        return 10;
+    }
+    if b'9' < byte {
+        return 10;
+    }
+    byte - b'0'
+}
+
+fn digits_of(a: u8, b: u8, c: u8) -> Parsed {
+    let single = digit_value(a);
+    let pair = digit_value(b);
+    let invalid = digit_value(c);
+    if single == 10 {
+        return Parsed::Nothing;
+    }
+    if pair == 10 {
+        return Parsed::Nothing;
+    }
+    if invalid == 10 {
+        return Parsed::Nothing;
+    }
+    Parsed::Digits(Policy {
+        single,
+        pair,
+        invalid,
+    })
+}
+
+// The policy that an argument spells.
+fn policy_at(at: usize) -> Parsed {
+    let mut word = [0u8; 4];
+    let count = os::arg(at, &mut word);
+    if count != 3 {
+        return Parsed::Nothing;
+    }
+    digits_of(word[0], word[1], word[2])
+}
+
+// Takes the word `last`, if it is next.
+fn with_last(options: Options) -> Options {
+    let next = options.next;
+    if !is_word(next, b"last") {
+        return options;
+    }
+    let policy = options.policy;
+    Options {
+        last: true,
+        policy,
+        asked: options.asked,
+        valid: options.valid,
+        next: later(next, 1),
+    }
+}
+
+// Takes the words `policy DDD`, if they are next.
+fn with_policy(options: Options) -> Options {
+    let next = options.next;
+    if !is_word(next, b"policy") {
+        return options;
+    }
+    let parsed = policy_at(later(next, 1));
+    match parsed {
+        Parsed::Digits(policy) => Options {
+            last: options.last,
+            policy,
+            asked: true,
+            valid: true,
+            next: later(next, 2),
+        },
+        Parsed::Nothing => {
+            let policy = options.policy;
+            Options {
+                last: options.last,
+                policy,
+                asked: true,
+                valid: false,
+                next,
+            }
+        }
+    }
+}
+
+// The words behind the command, in either order.
+pub fn chosen() -> Options {
+    let policy = Policy::standard();
+    let options = Options {
+        last: false,
+        policy,
+        asked: false,
+        valid: true,
+        next: 2,
+    };
+    with_last(with_policy(with_last(options)))
+}

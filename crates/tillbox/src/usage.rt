@@ -1,0 +1,74 @@
+// What can be called.
+pub fn put(fd: i32) {
+    io::write_all(
+        fd,
+        b"tillbox converts a till's journal to UTF-16LE and back.\n\n",
+    );
+    put_commands(fd);
+    put_words(fd);
+    put_checkpoints(fd);
+    put_ending(fd);
+}
+
+fn put_commands(fd: i32) {
+    io::write_all(
+        fd,
+        b"  tillbox decode [last] [policy DDD] TABLE JOURNAL LEDGER [CHECKPOINT]\n",
+    );
+    io::write_all(
+        fd,
+        b"  tillbox encode [last] [policy DDD] TABLE LEDGER RECEIPT [CHECKPOINT]\n",
+    );
+    io::write_all(fd, b"  tillbox shape TABLE\n");
+    io::write_all(fd, b"  tillbox help\n\n");
+}
+
+fn put_words(fd: i32) {
+    io::write_all(
+        fd,
+        b"TABLE is a table image. JOURNAL and RECEIPT are till bytes, LEDGER is UTF-16LE.\n",
+    );
+    io::write_all(
+        fd,
+        b"decode goes from JOURNAL to LEDGER, encode from LEDGER to RECEIPT.\n",
+    );
+    io::write_all(
+        fd,
+        b"policy DDD: what is done with undefined singles, undefined pairs and invalid codes; standard 555.\n",
+    );
+    io::write_all(
+        fd,
+        b"  0 stop, 1 skip, 2 NUL, 3 '?', 4 '_', 5 the default of the table, 6 F100 and the byte (first digit, decode).\n\n",
+    );
+}
+
+fn put_checkpoints(fd: i32) {
+    io::write_all(
+        fd,
+        b"Without CHECKPOINT the end of the input is the end of the text, and the output is made anew.\n",
+    );
+    io::write_all(
+        fd,
+        b"With it the run goes on from the line in that file, if there is one. The line is replaced after\n",
+    );
+    io::write_all(
+        fd,
+        b"every 128 blocks of 512 and at the end, when the output is safely written: a job that was cut or\n",
+    );
+    io::write_all(
+        fd,
+        b"killed is called again. The word last says that the input is complete; without it a first half\n",
+    );
+    io::write_all(fd, b"of a character waits in the checkpoint.\n\n");
+}
+
+fn put_ending(fd: i32) {
+    io::write_all(
+        fd,
+        b"The summary and errors go to standard error. The last line of standard output is one word:\n",
+    );
+    io::write_all(
+        fd,
+        b"done (all is read), stopped (by a digit 0) or failed (the reason was said).\n",
+    );
+}
