@@ -17,16 +17,20 @@ pub struct Turn {
     pub failed: bool,
 }
 
+// Whether a call with room enough was taken.
+fn is_taken(number: u64) -> bool {
+    if number == 2 {
+        return false;
+    }
+    number < 10
+}
+
 // The run after a call that had room enough.
 fn settled(outcome: Outcome, path: &[u8]) -> Turn {
     let answer = outcome.answer;
     let run = outcome.run;
     let number = messages::number_of(answer);
-    if number == 2 {
-        messages::refuse(number, path);
-        return Turn { run, failed: true };
-    }
-    if number < 10 {
+    if is_taken(number) {
         return Turn { run, failed: false };
     }
     messages::refuse(number, path);

@@ -73,11 +73,17 @@ fn say_flags(flags: u8) {
     say(b"\n");
 }
 
+fn say_first_half(byte: u8) {
+    say(b"the byte ");
+    say_hex(byte);
+    say(b", the first half of a character");
+}
+
 fn say_pending(pending: Pending) {
     say(b"tillbox: pending: ");
     match pending {
         Pending::Nothing => say(b"nothing"),
-        Pending::Byte(byte) => say_hex(byte),
+        Pending::Byte(byte) => say_first_half(byte),
     }
     say(b"\n");
 }

@@ -62,6 +62,9 @@ fn print_shape() -> Ending {
 
 // The command that the first word names.
 fn command() -> Ending {
+    if os::arg_count() < 2 {
+        return misused(b"a command is asked for");
+    }
     if options::is_word(1, b"decode") {
         return convert_files(Direction::Decoding);
     }

@@ -1,0 +1,69 @@
+#!/usr/bin/env bash
+# The main job on the sample journal: a journal that is cut in the middle of a two-byte character is decoded, saved, and taken up
+# when the rest is there; then the ledger is encoded back.
+#
+#     tools/demo.sh
+#
+# Builds tillbox (a check from nothing takes some minutes; a second one takes seconds) and works in a folder of its own, which
+# is removed at the end. The exit status is 0 exactly if all that is compared is equal.
+set -u
+cd "$(dirname "$0")/.." || exit 2
+root=$PWD
+
+fail() {
+    echo "demo: failed: $1"
+    exit 1
+}
+
+echo "== Building tillbox: proving it and all that it stands on"
+rt check tillbox > "${TMPDIR:-/tmp}/tillbox-build.$$" 2>&1
+built=$?
+[ $built -eq 0 ] || tail -20 "${TMPDIR:-/tmp}/tillbox-build.$$"
+rm -f "${TMPDIR:-/tmp}/tillbox-build.$$"
+[ $built -eq 0 ] || fail "tillbox could not be built"
+
+tillbox=$root/target/bin/tillbox
+table=$root/tables/cp932.tbl
+folder=$(mktemp -d) || fail "no folder to work in"
+trap 'rm -rf "$folder"' EXIT
+cd "$folder" || fail "no folder to work in"
+
+# Runs tillbox and expects a last word on standard output.
+expect() {
+    local word=$1
+    shift
+    echo "\$ tillbox $*" | sed "s|$root/||g"
+    [ "$("$tillbox" "$@")" = "$word" ] || fail "tillbox did not end with '$word'"
+}
+
+cut=1703
+journal=$root/samples/journal.cp932
+size=$(stat -c %s "$journal")
+
+echo
+echo "== 1. The journal has $size bytes. Its first $cut are here; the last of these is the first half of a character:"
+head -c $cut "$journal" > journal
+tail -c 1 journal | od -An -tx1
+expect done decode "$table" journal ledger checkpoint
+echo "   The saved line (direction, page, policy, carried byte, flags, read, written, on or over):"
+echo "   $(cat checkpoint)"
+[ "$(cut -f4 checkpoint)" = 94 ] || fail "the first half is not carried in the saved line"
+[ "$(cut -f6 checkpoint)" = $cut ] || fail "the saved line has another read total"
+
+echo
+echo "== 2. The rest of the journal has come. The run goes on from the saved line and ends the text:"
+tail -c +$((cut + 1)) "$journal" >> journal
+cmp journal "$journal" || fail "the journal is not whole"
+expect done decode last "$table" journal ledger checkpoint
+echo "   The saved line: $(cat checkpoint)"
+cmp ledger "$root/samples/ledger.utf16le" || fail "the ledger is not the one that another converter made"
+echo "   The ledger is, byte for byte, the one that another converter made of the uncut journal."
+
+echo
+echo "== 3. The ledger goes back to till bytes:"
+expect done encode "$table" ledger receipt
+cmp receipt "$journal" || fail "the receipt is not the journal"
+echo "   The receipt is, byte for byte, the journal."
+
+echo
+echo "demo: success: cut in the middle of a character, saved, resumed: nothing lost, nothing doubled"

@@ -1,0 +1,209 @@
+#!/usr/bin/env python3
+"""Cuts journals, kills tillbox at random moments, and resumes it until it is done.
+
+    kill_test.py [--tillbox PROGRAM] [--rounds N] [--seed N] [--size BYTES]
+
+Each round makes a random input: text of code page 932 mixed with damaged bytes (decode), or units of that text mixed with
+random units (encode). The input grows in steps of random length; at each step tillbox is started with a checkpoint and killed
+(SIGKILL) at a random moment, several times. After each kill the saved line must be a whole one, and the output up to its written
+total must be the beginning of the right one. The last step is marked `last` and repeated until it is not killed. Then output,
+saved line, and an uncut run without a checkpoint are compared with the second converter's answer (second_converter.py).
+Prints 'N passed, M failed'; the exit status is 0 exactly if none failed.
+"""
+
+import argparse
+import os
+import random
+import struct
+import subprocess
+import sys
+import tempfile
+import time
+
+import second_converter as converter
+
+ROOT = os.path.dirname(os.path.dirname(os.path.abspath(__file__)))
+TABLE = os.path.join(ROOT, "tables", "cp932.tbl")
+TEXT = "毎度ありがとうございます。緑茶　１２０円 ｵﾁｬ 表ソ能 total 1,234 yen\r\n①②Ⅲ㈱纊黑"
+
+
+class Wrong(Exception):
+    pass
+
+
+def random_journal(chance, size):
+    """Text of the code page with damaged bytes in it."""
+    parts, length = [], 0
+    while length < size:
+        kind = chance.random()
+        if kind < 0.85:
+            start = chance.randrange(len(TEXT))
+            part = TEXT[start : start + chance.randrange(1, 30)].encode("cp932")
+        elif kind < 0.93:
+            part = bytes(chance.randrange(256) for _ in range(chance.randrange(1, 6)))
+        else:
+            part = bytes([chance.choice([0x81, 0x83, 0x94, 0xE0, 0xFC, 0x80, 0xA0, 0xFF])])
+        parts.append(part)
+        length += len(part)
+    return b"".join(parts)[:size]
+
+
+def random_units(chance, size):
+    """Units of the text with random ones in between."""
+    units = []
+    text = struct.unpack(f"<{len(TEXT)}H", TEXT.encode("utf-16le"))
+    while len(units) < size:
+        if chance.random() < 0.9:
+            start = chance.randrange(len(text))
+            units += text[start : start + chance.randrange(1, 30)]
+        else:
+            units.append(chance.randrange(65536))
+    return units[:size]
+
+
+class Job:
+    """One direction on one input: what is right, and the files of a run."""
+
+    def __init__(self, chance, program, table, direction, size):
+        self.chance, self.program = chance, program
+        self.decodes = direction == "decode"
+        self.command = direction
+        self.policy = "".join(chance.choice("12345") for _ in range(3))
+        if chance.random() < 0.3:
+            self.policy = "555"
+        digits = tuple(int(digit) for digit in self.policy)
+        if self.decodes:
+            self.input = random_journal(chance, size)
+            taken = converter.take_whole_text(converter.DECODING, digits, table, self.input, converter.NO_END_OF_ROOM)
+            self.right = struct.pack(f"<{len(taken.output)}H", *taken.output)
+            self.units = len(self.input)
+        else:
+            units = random_units(chance, size // 2)
+            taken = converter.take_whole_text(converter.ENCODING, digits, table, units, converter.NO_END_OF_ROOM)
+            self.input = struct.pack(f"<{len(units)}H", *units)
+            self.right = bytes(taken.output)
+            self.units = len(units)
+        letter = "D" if self.decodes else "E"
+        fields = [letter, "932", self.policy, "-", str(taken.flags), str(self.units), str(len(taken.output)), "over"]
+        self.last_line = "\t".join(fields) + "\n"
+        self.kills = self.unfinished = 0
+
+    def words(self, *names, last=False):
+        return [self.program, self.command] + (["last"] if last else []) + ["policy", self.policy, TABLE, *names]
+
+    def check_saved(self):
+        """What holds at every moment: a whole line, and a right beginning of the output behind it."""
+        if not os.path.exists("checkpoint"):
+            return
+        with open("checkpoint") as file:
+            line = file.read()
+        fields = line.split("\t")
+        if len(fields) != 8 or not line.endswith(("\ton\n", "\tover\n")):
+            raise Wrong(f"the checkpoint is no whole line: {line!r}")
+        written = int(fields[6]) * (2 if self.decodes else 1)
+        with open("output", "rb") as file:
+            output = file.read()
+        if len(output) < written:
+            raise Wrong(f"the output has {len(output)} bytes, the checkpoint says {written}")
+        if output[:written] != self.right[:written]:
+            raise Wrong("the output is no beginning of the right one")
+
+    def start(self, last, longest):
+        """Runs tillbox once and kills it at a random moment, or not at all if there is none. True: it came to its end."""
+        words = self.words("input", "output", "checkpoint", last=last)
+        process = subprocess.Popen(words, stdout=subprocess.PIPE, stderr=subprocess.PIPE)
+        if longest is not None:
+            time.sleep(self.chance.random() * longest)
+            process.kill()
+        said, errors = process.communicate()
+        if process.returncode == -9:
+            self.kills += 1
+            self.check_saved()
+            if os.path.exists("checkpoint"):
+                self.unfinished += 1
+            return False
+        if said != b"done\n":
+            raise Wrong(f"tillbox said {said!r}: {errors.decode()}")
+        self.check_saved()
+        return True
+
+    def uncut(self):
+        """The whole input in one run, without a checkpoint."""
+        with open("input", "wb") as file:
+            file.write(self.input)
+        begin = time.time()
+        done = subprocess.run(self.words("input", "whole"), stdout=subprocess.PIPE, stderr=subprocess.PIPE)
+        if done.stdout != b"done\n":
+            raise Wrong(f"the uncut run said {done.stdout!r}: {done.stderr.decode()}")
+        with open("whole", "rb") as file:
+            if file.read() != self.right:
+                raise Wrong("the uncut run gives another output than the second converter")
+        return time.time() - begin
+
+    def cut(self, longest):
+        """The same input in steps, killed and resumed."""
+        places = sorted(self.chance.randrange(len(self.input) + 1) for _ in range(self.chance.randrange(1, 6)))
+        for place in places:
+            with open("input", "wb") as file:
+                file.write(self.input[:place])
+            for _ in range(self.chance.randrange(3)):
+                self.start(False, longest)
+            if self.chance.random() < 0.6:
+                self.start(False, None)
+        with open("input", "wb") as file:
+            file.write(self.input)
+        for _ in range(self.chance.randrange(2, 8)):
+            self.start(True, longest)
+        self.start(True, None)
+        with open("output", "rb") as file:
+            if file.read() != self.right:
+                raise Wrong("the cut and killed runs give another output than the uncut one")
+        with open("checkpoint") as file:
+            line = file.read()
+        if line != self.last_line:
+            raise Wrong(f"the last line is {line!r}, not {self.last_line!r}")
+
+
+def play(chance, program, table, direction, size, totals):
+    job = Job(chance, program, table, direction, size)
+    with tempfile.TemporaryDirectory() as folder:
+        os.chdir(folder)
+        try:
+            longest = max(0.004, 2.5 * job.uncut())
+            job.cut(longest)
+        finally:
+            os.chdir(ROOT)
+            totals[0] += job.kills
+            totals[1] += job.unfinished
+
+
+def main():
+    parser = argparse.ArgumentParser(description=__doc__.splitlines()[0])
+    parser.add_argument("--tillbox", default=os.path.join(ROOT, "target", "bin", "tillbox"))
+    parser.add_argument("--rounds", type=int, default=30)
+    parser.add_argument("--seed", type=int, default=None)
+    parser.add_argument("--size", type=int, default=400000)
+    arguments = parser.parse_args()
+    program = os.path.abspath(arguments.tillbox)
+    seed = random.randrange(10**9) if arguments.seed is None else arguments.seed
+    print(f"seed {seed}")
+    chance = random.Random(seed)
+    table = converter.read_image_file(TABLE, [""])
+    passed = failed = 0
+    totals = [0, 0]
+    for number in range(arguments.rounds):
+        direction = "encode" if number % 3 == 2 else "decode"
+        size = chance.randrange(2, arguments.size)
+        try:
+            play(chance, program, table, direction, size, totals)
+            passed += 1
+        except Wrong as wrong:
+            print(f"round {number} ({direction}, {size} bytes): {wrong}")
+            failed += 1
+    print(f"killed {totals[0]} times, {totals[1]} of these with a checkpoint behind it")
+    print(f"{passed} passed, {failed} failed")
+    sys.exit(1 if failed else 0)
+
+
+if __name__ == "__main__":
+    main()
