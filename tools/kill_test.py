@@ -7,7 +7,7 @@ Each round makes a random input: text of code page 932 mixed with damaged bytes 
 random units (encode). The input grows in steps of random length; at each step tillbox is started with a checkpoint and killed
 (SIGKILL) at a random moment, several times. After each kill the saved line must be a whole one, and the output up to its written
 total must be the beginning of the right one. The last step is marked `last` and repeated until it is not killed. Then output,
-saved line, and an uncut run without a checkpoint are compared with the second converter's answer (second_converter.py).
+saved line, and uncut runs with and without a checkpoint are compared with the second converter's answer (second_converter.py).
 Prints 'N passed, M failed'; the exit status is 0 exactly if none failed.
 """
 
@@ -127,18 +127,19 @@ class Job:
         self.check_saved()
         return True
 
-    def uncut(self):
-        """The whole input in one run, without a checkpoint."""
+    def uncut(self, *checkpoint):
+        """The whole input in one run that nobody kills; how long it took."""
         with open("input", "wb") as file:
             file.write(self.input)
         begin = time.time()
-        done = subprocess.run(self.words("input", "whole"), stdout=subprocess.PIPE, stderr=subprocess.PIPE)
+        done = subprocess.run(self.words("input", "whole", *checkpoint, last=True), stdout=subprocess.PIPE, stderr=subprocess.PIPE)
+        took = time.time() - begin
         if done.stdout != b"done\n":
             raise Wrong(f"the uncut run said {done.stdout!r}: {done.stderr.decode()}")
         with open("whole", "rb") as file:
             if file.read() != self.right:
                 raise Wrong("the uncut run gives another output than the second converter")
-        return time.time() - begin
+        return took
 
     def cut(self, longest):
         """The same input in steps, killed and resumed."""
@@ -146,13 +147,13 @@ class Job:
         for place in places:
             with open("input", "wb") as file:
                 file.write(self.input[:place])
-            for _ in range(self.chance.randrange(3)):
+            for _ in range(self.chance.randrange(4)):
                 self.start(False, longest)
             if self.chance.random() < 0.6:
                 self.start(False, None)
         with open("input", "wb") as file:
             file.write(self.input)
-        for _ in range(self.chance.randrange(2, 8)):
+        for _ in range(self.chance.randrange(4, 12)):
             self.start(True, longest)
         self.start(True, None)
         with open("output", "rb") as file:
@@ -169,8 +170,8 @@ def play(chance, program, table, direction, size, totals):
     with tempfile.TemporaryDirectory() as folder:
         os.chdir(folder)
         try:
-            longest = max(0.004, 2.5 * job.uncut())
-            job.cut(longest)
+            job.uncut()
+            job.cut(job.uncut("whole.checkpoint"))
         finally:
             os.chdir(ROOT)
             totals[0] += job.kills

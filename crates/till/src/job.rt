@@ -3,6 +3,7 @@ use crate::blocks;
 use crate::blocks::Turn;
 use crate::report;
 use crate::resume;
+use crate::resume::Beginning;
 use crate::resume::Origin;
 use crate::tables;
 use codepage::Fault;
@@ -132,8 +133,7 @@ fn open_target(run: Run, resumed: bool, output: &[u8]) -> i32 {
 // From a run on.
 fn with_run(
     job: Job,
-    run: Run,
-    resumed: bool,
+    beginning: Beginning,
     numbers: Numbers,
     classes: &[u8],
     singles: &[u16],
@@ -146,10 +146,11 @@ fn with_run(
     output: &[u8],
     checkpoint: &[u8],
 ) -> Ending {
+    let run = beginning.run;
     if !go_to(run, source, input) {
         return Ending::Failed;
     }
-    let target = open_target(run, resumed, output);
+    let target = open_target(run, beginning.resumed, output);
     if target < 0 {
         return Ending::Failed;
     }
@@ -218,26 +219,9 @@ fn with_total(
         checkpoint,
     );
     match origin {
-        Origin::Fresh(run) => with_run(
+        Origin::At(beginning) => with_run(
             job,
-            run,
-            false,
-            numbers,
-            classes,
-            singles,
-            pairs,
-            index,
-            blocks,
-            source,
-            total,
-            input,
-            output,
-            checkpoint,
-        ),
-        Origin::Resumed(run) => with_run(
-            job,
-            run,
-            true,
+            beginning,
             numbers,
             classes,
             singles,

@@ -11,9 +11,14 @@ use storage::checkpoints;
 use storage::files;
 use storage::messages;
 
+// A run to begin with, and whether it goes on over an output that is there.
+pub struct Beginning {
+    pub run: Run,
+    pub resumed: bool,
+}
+
 pub enum Origin {
-    Fresh(Run),
-    Resumed(Run),
+    At(Beginning),
     // The run has ended and there is nothing more to read.
     Finished(Run),
     // The reason was said.
@@ -25,7 +30,10 @@ fn fresh(job: Job, page: u16) -> Origin {
     let policy = job.policy;
     let started = Run::start(direction, page, policy);
     match started {
-        Started::Accepted(run) => Origin::Fresh(run),
+        Started::Accepted(run) => Origin::At(Beginning {
+            run,
+            resumed: false,
+        }),
         Started::Refused => {
             messages::refuse(17, b"policy");
             Origin::Failed
@@ -122,7 +130,7 @@ fn going_on(job: Job, run: Run, total: u64, path: &[u8]) -> Origin {
         return beyond(path);
     }
     note_policy(job, run);
-    Origin::Resumed(run)
+    Origin::At(Beginning { run, resumed: true })
 }
 
 // A run that has ended.
