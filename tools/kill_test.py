@@ -113,7 +113,7 @@ class Job:
         words = self.words("input", "output", "checkpoint", last=last)
         process = subprocess.Popen(words, stdout=subprocess.PIPE, stderr=subprocess.PIPE)
         if longest is not None:
-            time.sleep(self.chance.random() * longest)
+            time.sleep(longest * self.chance.random() ** 2)
             process.kill()
         said, errors = process.communicate()
         if process.returncode == -9:
