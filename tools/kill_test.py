@@ -8,12 +8,15 @@ random units (encode). The input grows in steps of random length; at each step t
 (SIGKILL) at a random moment, several times. After each kill the saved line must be a whole one, and the output up to its written
 total must be the beginning of the right one. The last step is marked `last` and repeated until it is not killed. Then output,
 saved line, and uncut runs with and without a checkpoint are compared with the second converter's answer (second_converter.py).
+Then, if strace can be used, a fresh and a resumed job are killed at their system calls, one after the other: at each call
+that opens, syncs, cuts, renames or closes a file, and at those that read and write blocks around a checkpoint.
 Prints 'N passed, M failed'; the exit status is 0 exactly if none failed.
 """
 
 import argparse
 import os
 import random
+import shutil
 import struct
 import subprocess
 import sys
@@ -178,6 +181,100 @@ def play(chance, program, table, direction, size, totals):
             totals[1] += job.unfinished
 
 
+# ---------------------------------------------------------------------------------------------------------------
+# Killed at each system call
+# ---------------------------------------------------------------------------------------------------------------
+
+CALLS = ["openat", "pread64", "lseek", "ftruncate", "fsync", "unlink", "rename", "close", "read", "write"]
+# 130 blocks and a half, and the first half of a character at its end
+PART = 66304 + 255
+
+
+def can_trace():
+    if shutil.which("strace") is None:
+        return False
+    return subprocess.run(["strace", "-o", "/dev/null", "true"], stderr=subprocess.DEVNULL).returncode == 0
+
+
+def call_job(chance, program, table):
+    """A decoding job of two such parts."""
+    job = Job(chance, program, table, "decode", 2 * PART)
+    text = bytearray(job.input)
+    text[PART - 2 : PART + 1] = b"a\x94\x4e"
+    job.input = bytes(text)
+    digits = tuple(int(digit) for digit in job.policy)
+    taken = converter.take_whole_text(converter.DECODING, digits, table, job.input, converter.NO_END_OF_ROOM)
+    job.right = struct.pack(f"<{len(taken.output)}H", *taken.output)
+    fields = ["D", "932", job.policy, "-", str(taken.flags), str(job.units), str(len(taken.output)), "over"]
+    job.last_line = "\t".join(fields) + "\n"
+    return job
+
+
+def killed_at(job, call, number, last):
+    """Kills the job at the number-th such call. False: there is none."""
+    words = ["strace", "-o", "trace", "-e", f"trace={call}", "-e", f"inject={call}:signal=SIGKILL:when={number}"]
+    done = subprocess.run(words + job.words("input", "output", "checkpoint", last=last), stdout=subprocess.PIPE, stderr=subprocess.PIPE)
+    if done.returncode not in (0, -9):
+        raise Wrong(f"strace ended with {done.returncode}: {done.stderr.decode()}")
+    return done.returncode == -9
+
+
+def kill_and_resume(job, call, number, resumed):
+    """One kill of a fresh or a resumed job, and the job called again. False: it was not killed."""
+    for name in ("output", "checkpoint", "checkpoint.new"):
+        if os.path.exists(name):
+            os.remove(name)
+    with open("input", "wb") as file:
+        file.write(job.input[:PART] if resumed else job.input)
+    if resumed:
+        job.start(False, None)
+        with open("input", "wb") as file:
+            file.write(job.input)
+    if not killed_at(job, call, number, True):
+        return False
+    job.check_saved()
+    job.start(True, None)
+    with open("output", "rb") as file:
+        if file.read() != job.right:
+            raise Wrong(f"killed at {call} {number}: another output")
+    with open("checkpoint") as file:
+        if file.read() != job.last_line:
+            raise Wrong(f"killed at {call} {number}: another last line")
+    return True
+
+
+def at_each_call(chance, program, table, call, resumed):
+    """Kills a job at each call of a kind, or at those around the start, the checkpoint and the end. How many kills there were."""
+    job = call_job(chance, program, table)
+    kills, number = 0, 1
+    with tempfile.TemporaryDirectory() as folder:
+        os.chdir(folder)
+        try:
+            while kill_and_resume(job, call, number, resumed):
+                kills += 1
+                number = 126 if number == 5 and call in ("read", "write") else number + 1
+                if number == 140 and call in ("read", "write"):
+                    number = 254
+        finally:
+            os.chdir(ROOT)
+    return kills
+
+
+def every_call(chance, program, table):
+    """A test for each kind of call and each job."""
+    passed = failed = kills = 0
+    for resumed in (False, True):
+        for call in CALLS:
+            try:
+                kills += at_each_call(chance, program, table, call, resumed)
+                passed += 1
+            except Wrong as wrong:
+                print(f"{'resumed' if resumed else 'fresh'} job, {call}: {wrong}")
+                failed += 1
+    print(f"killed at {kills} system calls")
+    return passed, failed
+
+
 def main():
     parser = argparse.ArgumentParser(description=__doc__.splitlines()[0])
     parser.add_argument("--tillbox", default=os.path.join(ROOT, "target", "bin", "tillbox"))
@@ -202,6 +299,11 @@ def main():
             print(f"round {number} ({direction}, {size} bytes): {wrong}")
             failed += 1
     print(f"killed {totals[0]} times, {totals[1]} of these with a checkpoint behind it")
+    if can_trace():
+        more = every_call(chance, program, table)
+        passed, failed = passed + more[0], failed + more[1]
+    else:
+        print("strace is not to be had here: no job was killed at each system call")
     print(f"{passed} passed, {failed} failed")
     sys.exit(1 if failed else 0)
 
