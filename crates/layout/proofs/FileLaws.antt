@@ -2,18 +2,18 @@
 use mathlib.Core.Bool.{Bool, true, false}
 use mathlib.Core.List.{List}
 use mathlib.Core.Path.{_≡_, refl, sym, ap, _∙_}
-use Prim.Native.Nat.{ℕ, _+_, _*_, _-_, _/_, _%_, _≤_, _<_, _^_, min, max}
+use Prim.Native.Nat.{ℕ, _+_, _-_, _/_, _<_, min}
 use native.Mathlib.Omega.{arith}
-use lib.Dec.{T, leb}
+use lib.Dec.{T}
 use lib.IntN.{ℤ, pos, negsuc, natAbs}
-use lib.ListN.{length, take}
+use lib.ListN.{length}
 use lib.Seq.{length-take-le}
 use lib.Signed.{nonNeg, ltZ}
 use borrow.Author.Tests.{ltb-true}
 use mir.Syntax.{w64}
 use mir.Val.{Fits, SFits, toZ, ofZ}
-use mir.Facts.{toZ-ofZ, toZ-pos}
-use Rattle.layout.specs.Files.{Front, sizeOf, unitsIn, isWhole, placeOf, blockLen, isFinal, blockCount}
+use mir.Facts.{toZ-ofZ}
+use Rattle.layout.specs.Files.{Front, sizeOf, placeOf, blockCount}
 
 pub front : (n r : ℕ) (xs : List ℕ) → r ≡ min n (length xs) → Front r xs
 front n r xs e = (omega arith, sym (length-take-le r xs (omega arith)))

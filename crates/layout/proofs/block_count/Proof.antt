@@ -1,6 +1,6 @@
 use Prim.Native.Nat.{_+_, _<_, _/_}
 use Rattle.layout.proofs.FileLaws as laws
-use mathlib.Core.Path.{_≡_, refl, sym, ap, _∙_}
+use mathlib.Core.Path.{_≡_, _∙_}
 use native.Mathlib.Omega.{arith}
 use borrow.Author.Needs.{needs}
 use Rattle.layout.proofs.block_count.Statement.{statement}

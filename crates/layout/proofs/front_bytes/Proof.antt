@@ -1,6 +1,4 @@
 use Rattle.layout.proofs.FileLaws as laws
-use mathlib.Core.Path.{_≡_, refl, sym, ap, _∙_}
-use native.Mathlib.Omega.{arith}
 use borrow.Author.Needs.{needs}
 use Rattle.layout.proofs.front_bytes.Statement.{statement}
 use Rattle.layout.proofs.front_bytes.Tie as tie

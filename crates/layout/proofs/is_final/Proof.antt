@@ -1,9 +1,7 @@
 use Rattle.layout.specs.Files.{isFinal}
 use lib.Dec.{leb}
 use Prim.Native.Nat.{ℕ}
-use Rattle.layout.proofs.FileLaws as laws
-use mathlib.Core.Path.{_≡_, refl, sym, ap, _∙_}
-use native.Mathlib.Omega.{arith}
+use mathlib.Core.Path.{ap}
 use borrow.Author.Needs.{needs}
 use Rattle.layout.proofs.is_final.Statement.{statement}
 use Rattle.layout.proofs.is_final.Tie as tie

@@ -1,7 +1,4 @@
 use Rattle.layout.specs.Files.{isWhole}
-use Rattle.layout.proofs.FileLaws as laws
-use mathlib.Core.Path.{_≡_, refl, sym, ap, _∙_}
-use native.Mathlib.Omega.{arith}
 use Rattle.layout.proofs.is_whole.Statement.{statement}
 use Rattle.layout.proofs.is_whole.Tie as tie
 

@@ -1,10 +1,9 @@
 use mir.Facts.{toZ-pos}
 use mir.Syntax.{w64}
-use lib.IntN.{ℤ, pos}
+use lib.IntN.{pos}
 use Prim.Native.Nat.{ℕ, _<_}
 use Rattle.layout.proofs.FileLaws as laws
-use mathlib.Core.Path.{_≡_, refl, sym, ap, _∙_}
-use native.Mathlib.Omega.{arith}
+use mathlib.Core.Path.{ap, _∙_}
 use borrow.Author.Needs.{needs}
 use Rattle.layout.proofs.place_of.Statement.{statement}
 use Rattle.layout.proofs.place_of.Tie as tie

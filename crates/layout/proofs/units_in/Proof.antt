@@ -1,7 +1,4 @@
 use Rattle.layout.specs.Files.{unitsIn}
-use Rattle.layout.proofs.FileLaws as laws
-use mathlib.Core.Path.{_≡_, refl, sym, ap, _∙_}
-use native.Mathlib.Omega.{arith}
 use Rattle.layout.proofs.units_in.Statement.{statement}
 use Rattle.layout.proofs.units_in.Tie as tie
 

@@ -1,11 +1,10 @@
 use Rattle.layout.proofs.Utf16Laws.{fitting-bytes, fitting-low, fitting-high, two-turn, lay-end}
-use Rattle.layout.proofs.FileLaws.{front}
 use Rattle.layout.specs.Utf16.{bytesOf}
 use lib.Seq.{length-take-le}
 use lib.ListN.{length, take, drop, length-set}
-use Prim.Native.Nat.{_+_, _*_, _-_, _/_, _≤_, min}
+use Prim.Native.Nat.{_*_, _-_, _/_, _≤_, min}
 use mathlib.Core.List.{_++_}
-use mathlib.Core.Path.{_≡_, refl, sym, ap, _∙_}
+use mathlib.Core.Path.{_≡_, refl, sym, _∙_}
 use native.Mathlib.Omega.{arith}
 use Rattle.layout.proofs.utf16.to_bytes.Statement.{statement}
 use Rattle.layout.proofs.utf16.to_bytes.Tie as tie

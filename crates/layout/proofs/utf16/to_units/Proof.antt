@@ -2,9 +2,9 @@ use Rattle.layout.proofs.Utf16Laws.{fitting-units, fitting-unit, lay-tu
 use Rattle.layout.specs.Utf16.{unitsOf}
 use lib.Seq.{length-take-le}
 use lib.ListN.{length, take, drop, length-set}
-use Prim.Native.Nat.{_+_, _*_, _-_, _/_, _≤_, min}
+use Prim.Native.Nat.{_-_, _/_, _≤_, min}
 use mathlib.Core.List.{_++_}
-use mathlib.Core.Path.{_≡_, refl, sym, ap, _∙_}
+use mathlib.Core.Path.{_≡_, refl, sym, _∙_}
 use native.Mathlib.Omega.{arith}
 use Rattle.layout.proofs.utf16.to_units.Statement.{statement}
 use Rattle.layout.proofs.utf16.to_units.Tie as tie

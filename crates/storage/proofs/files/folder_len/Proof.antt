@@ -1,6 +1,5 @@
 use lib.ListN.{length}
 use Prim.Native.Nat.{_≤_}
-use borrow.Author.Needs.{needs}
 use native.Mathlib.Omega.{arith}
 use Rattle.storage.proofs.files.folder_len.Statement.{statement}
 use Rattle.storage.proofs.files.folder_len.Tie as tie

@@ -1,4 +1,4 @@
-use Prim.Native.Nat.{_-_, _≤_}
+use Prim.Native.Nat.{_-_}
 use native.Mathlib.Omega.{arith}
 use Rattle.till.proofs.blocks.all_blocks.Statement.{statement}
 use Rattle.till.proofs.blocks.all_blocks.Tie as tie
