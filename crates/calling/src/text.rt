@@ -1,0 +1,339 @@
+// The commands on a text in one go.
+use crate::answers;
+use codepage::Numbers;
+use convert::Counted;
+use convert::Direction;
+use convert::Policy;
+use script::print;
+use script::texts;
+use script::words;
+use setting::refuse;
+use setting::state::Next;
+use setting::state::State;
+
+fn answer_count(counted: Counted, state: State, out: &mut [u8], at: usize) -> Next {
+    let end = print::put(b"count", out, at);
+    let end = answers::put_counted(counted, out, end);
+    Next {
+        state,
+        at: print::put_end(out, end),
+    }
+}
+
+// `FROM COUNT` of the command `count D`.
+fn count_decoding(
+    line: &[u8],
+    from: usize,
+    policy: Policy,
+    state: State,
+    classes: &[u8],
+    singles: &[u16],
+    pairs: &[u16],
+    index: &[u8],
+    blocks: &[u16],
+    text: &[u8],
+    out: &mut [u8],
+    at: usize,
+) -> Next {
+    let piece = words::piece_at(line, from, text.len());
+    if !words::at_end(line, piece.next) {
+        return refuse(state, out, at);
+    }
+    let start = piece.from;
+    let end = piece.to;
+    let numbers = state.numbers;
+    let counted = convert::text::count_units(
+        policy,
+        numbers,
+        classes,
+        singles,
+        pairs,
+        index,
+        blocks,
+        &text[start..end],
+    );
+    answer_count(counted, state, out, at)
+}
+
+// The same of `count E`.
+fn count_encoding(
+    line: &[u8],
+    from: usize,
+    policy: Policy,
+    state: State,
+    classes: &[u8],
+    singles: &[u16],
+    pairs: &[u16],
+    index: &[u8],
+    blocks: &[u16],
+    text: &[u16],
+    out: &mut [u8],
+    at: usize,
+) -> Next {
+    let piece = words::piece_at(line, from, text.len());
+    if !words::at_end(line, piece.next) {
+        return refuse(state, out, at);
+    }
+    let start = piece.from;
+    let end = piece.to;
+    let numbers = state.numbers;
+    let counted = convert::text::count_bytes(
+        policy,
+        numbers,
+        classes,
+        singles,
+        pairs,
+        index,
+        blocks,
+        &text[start..end],
+    );
+    answer_count(counted, state, out, at)
+}
+
+// `count D POLICY FROM COUNT`.
+pub fn count(
+    line: &[u8],
+    from: usize,
+    state: State,
+    classes: &[u8],
+    singles: &[u16],
+    pairs: &[u16],
+    index: &[u8],
+    blocks: &[u16],
+    bytes: &[u8],
+    units: &[u16],
+    out: &mut [u8],
+    at: usize,
+) -> Next {
+    let letter = words::direction_at(line, from);
+    let digits = words::policy_at(line, letter.next);
+    let next = digits.next;
+    let direction = letter.value;
+    let policy = digits.value;
+    match direction {
+        Direction::Decoding => count_decoding(
+            line,
+            next,
+            policy,
+            state,
+            classes,
+            singles,
+            pairs,
+            index,
+            blocks,
+            bytes,
+            out,
+            at,
+        ),
+        Direction::Encoding => count_encoding(
+            line,
+            next,
+            policy,
+            state,
+            classes,
+            singles,
+            pairs,
+            index,
+            blocks,
+            units,
+            out,
+            at,
+        ),
+    }
+}
+
+fn decode_text(
+    policy: Policy,
+    numbers: Numbers,
+    classes: &[u8],
+    singles: &[u16],
+    pairs: &[u16],
+    index: &[u8],
+    blocks: &[u16],
+    text: &[u8],
+    room: &mut [u16],
+    out: &mut [u8],
+    at: usize,
+) -> usize {
+    texts::fill_units(room);
+    let converted = convert::text::decode_text(
+        policy,
+        numbers,
+        classes,
+        singles,
+        pairs,
+        index,
+        blocks,
+        text,
+        room,
+    );
+    let end = answers::put_decoded(converted, room, out, at);
+    print::put_end(out, end)
+}
+
+fn encode_text(
+    policy: Policy,
+    numbers: Numbers,
+    classes: &[u8],
+    singles: &[u16],
+    pairs: &[u16],
+    index: &[u8],
+    blocks: &[u16],
+    text: &[u16],
+    room: &mut [u8],
+    out: &mut [u8],
+    at: usize,
+) -> usize {
+    texts::fill_bytes(room);
+    let converted = convert::text::encode_text(
+        policy,
+        numbers,
+        classes,
+        singles,
+        pairs,
+        index,
+        blocks,
+        text,
+        room,
+    );
+    let end = answers::put_encoded(converted, room, out, at);
+    print::put_end(out, end)
+}
+
+// `FROM COUNT ROOM` of the command `convert D`.
+fn convert_decoding(
+    line: &[u8],
+    from: usize,
+    policy: Policy,
+    state: State,
+    classes: &[u8],
+    singles: &[u16],
+    pairs: &[u16],
+    index: &[u8],
+    blocks: &[u16],
+    text: &[u8],
+    lent: &mut [u16],
+    out: &mut [u8],
+    at: usize,
+) -> Next {
+    let piece = words::piece_at(line, from, text.len());
+    let size = words::number_at(line, piece.next, words::UNITS_ROOM);
+    if !words::at_end(line, size.next) {
+        return refuse(state, out, at);
+    }
+    let start = piece.from;
+    let end = piece.to;
+    let numbers = state.numbers;
+    let room = texts::front_units(size.value as usize, lent);
+    let after = decode_text(
+        policy,
+        numbers,
+        classes,
+        singles,
+        pairs,
+        index,
+        blocks,
+        &text[start..end],
+        &mut lent[..room],
+        out,
+        at,
+    );
+    Next { state, at: after }
+}
+
+// The same of `convert E`.
+fn convert_encoding(
+    line: &[u8],
+    from: usize,
+    policy: Policy,
+    state: State,
+    classes: &[u8],
+    singles: &[u16],
+    pairs: &[u16],
+    index: &[u8],
+    blocks: &[u16],
+    text: &[u16],
+    lent: &mut [u8],
+    out: &mut [u8],
+    at: usize,
+) -> Next {
+    let piece = words::piece_at(line, from, text.len());
+    let size = words::number_at(line, piece.next, words::BYTES_ROOM);
+    if !words::at_end(line, size.next) {
+        return refuse(state, out, at);
+    }
+    let start = piece.from;
+    let end = piece.to;
+    let numbers = state.numbers;
+    let room = texts::front_bytes(size.value as usize, lent);
+    let after = encode_text(
+        policy,
+        numbers,
+        classes,
+        singles,
+        pairs,
+        index,
+        blocks,
+        &text[start..end],
+        &mut lent[..room],
+        out,
+        at,
+    );
+    Next { state, at: after }
+}
+
+// `convert D POLICY FROM COUNT ROOM`.
+pub fn convert_text(
+    line: &[u8],
+    from: usize,
+    state: State,
+    classes: &[u8],
+    singles: &[u16],
+    pairs: &[u16],
+    index: &[u8],
+    blocks: &[u16],
+    bytes: &[u8],
+    units: &[u16],
+    lent_bytes: &mut [u8],
+    lent_units: &mut [u16],
+    out: &mut [u8],
+    at: usize,
+) -> Next {
+    let letter = words::direction_at(line, from);
+    let digits = words::policy_at(line, letter.next);
+    let next = digits.next;
+    let direction = letter.value;
+    let policy = digits.value;
+    match direction {
+        Direction::Decoding => convert_decoding(
+            line,
+            next,
+            policy,
+            state,
+            classes,
+            singles,
+            pairs,
+            index,
+            blocks,
+            bytes,
+            lent_units,
+            out,
+            at,
+        ),
+        Direction::Encoding => convert_encoding(
+            line,
+            next,
+            policy,
+            state,
+            classes,
+            singles,
+            pairs,
+            index,
+            blocks,
+            units,
+            lent_bytes,
+            out,
+            at,
+        ),
+    }
+}

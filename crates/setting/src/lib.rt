@@ -1,0 +1,293 @@
+// The console's commands that set what it holds: the table set, the texts and the run in hand. (docs/CONSOLE.md.)
+pub mod state;
+
+ghost use Rattle.io.specs.Counts.{Counts};
+use checkpoint::Restored;
+use codepage::Numbers;
+use convert::Run;
+use convert::Started;
+use image::Loaded;
+use image::Sizes;
+use script::print;
+use script::texts;
+use script::words;
+use state::Next;
+use state::State;
+
+// A line that is no command is answered `?` and changes nothing.
+pub fn refuse(state: State, out: &mut [u8], at: usize) -> Next {
+    Next {
+        state,
+        at: print::put(b"?\n", out, at),
+    }
+}
+
+// The bytes of a file, as far as they fit; none where it can't be read.
+fn read_file(name: &[u8], file: &mut [u8]) -> usize
+    ensures { λ r. ⌜ Counts r (now (file .exit)) ⌝ }
+{
+    let fd = os::open_read(name);
+    if fd < 0 {
+        return 0;
+    }
+    let count = io::read_full(fd, file);
+    libc::close(fd);
+    count
+}
+
+fn put_sizes(sizes: Sizes, out: &mut [u8], at: usize) -> usize {
+    let end = print::put_number(sizes.classes as u64, out, at);
+    let end = print::put_number(sizes.singles as u64, out, end);
+    let end = print::put_number(sizes.pairs as u64, out, end);
+    let end = print::put_number(sizes.index as u64, out, end);
+    print::put_number(sizes.blocks as u64, out, end)
+}
+
+fn put_table(numbers: Numbers, sizes: Sizes, out: &mut [u8], at: usize) -> usize {
+    let end = print::put(b"table", out, at);
+    let end = print::put_number(numbers.page as u64, out, end);
+    let end = print::put(b" ", out, end);
+    let end = print::put_hex_byte(numbers.default_byte, out, end);
+    let end = print::put(b" ", out, end);
+    let end = print::put_hex_unit(numbers.default_unit, out, end);
+    let end = put_sizes(sizes, out, end);
+    print::put_end(out, end)
+}
+
+// Reads a file's image into the tables. The buffer has room for one byte more than the longest image.
+fn load_file(
+    name: &[u8],
+    classes: &mut [u8],
+    singles: &mut [u16],
+    pairs: &mut [u16],
+    index: &mut [u8],
+    blocks: &mut [u16],
+) -> Loaded {
+    let mut file = [0u8; 199373];
+    let count = read_file(name, &mut file);
+    image::load(&file[..count], classes, singles, pairs, index, blocks)
+}
+
+fn answer_table(loaded: Loaded, state: State, out: &mut [u8], at: usize) -> Next {
+    match loaded {
+        Loaded::Table(numbers, sizes) => Next {
+            state: state.with_table(numbers, sizes),
+            at: put_table(numbers, sizes, out, at),
+        },
+        Loaded::NotAnImage => Next {
+            state,
+            at: print::put(b"table -\n", out, at),
+        },
+    }
+}
+
+// `table FILE`.
+pub fn table(
+    line: &[u8],
+    from: usize,
+    state: State,
+    classes: &mut [u8],
+    singles: &mut [u16],
+    pairs: &mut [u16],
+    index: &mut [u8],
+    blocks: &mut [u16],
+    out: &mut [u8],
+    at: usize,
+) -> Next {
+    let name = words::name_at(line, from);
+    if !words::at_end(line, name.next) {
+        return refuse(state, out, at);
+    }
+    let start = name.from;
+    let end = name.to;
+    let loaded = load_file(&line[start..end], classes, singles, pairs, index, blocks);
+    answer_table(loaded, state, out, at)
+}
+
+fn put_bytes_count(count: usize, state: State, out: &mut [u8], at: usize) -> Next {
+    let end = print::put(b"bytes", out, at);
+    let end = print::put_number(count as u64, out, end);
+    Next {
+        state: state.with_bytes(count),
+        at: print::put_end(out, end),
+    }
+}
+
+fn put_units_count(count: usize, state: State, out: &mut [u8], at: usize) -> Next {
+    let end = print::put(b"units", out, at);
+    let end = print::put_number(count as u64, out, end);
+    Next {
+        state: state.with_units(count),
+        at: print::put_end(out, end),
+    }
+}
+
+// `bytes HEX`.
+pub fn bytes(
+    line: &[u8],
+    from: usize,
+    state: State,
+    text: &mut [u8],
+    out: &mut [u8],
+    at: usize,
+) -> Next {
+    let digits = words::bytes_at(line, from);
+    if !words::at_end(line, digits.next) {
+        return refuse(state, out, at);
+    }
+    let start = digits.from;
+    let end = digits.to;
+    let count = texts::front_bytes((end - start) / 2, text);
+    texts::repeat_bytes(&line[start..end], &mut text[..count]);
+    put_bytes_count(count, state, out, at)
+}
+
+// `units HEX`.
+pub fn units(
+    line: &[u8],
+    from: usize,
+    state: State,
+    text: &mut [u16],
+    out: &mut [u8],
+    at: usize,
+) -> Next {
+    let digits = words::units_at(line, from);
+    if !words::at_end(line, digits.next) {
+        return refuse(state, out, at);
+    }
+    let start = digits.from;
+    let end = digits.to;
+    let count = texts::front_units((end - start) / 4, text);
+    texts::repeat_units(&line[start..end], &mut text[..count]);
+    put_units_count(count, state, out, at)
+}
+
+// `fillbytes COUNT HEX`.
+pub fn fill_bytes(
+    line: &[u8],
+    from: usize,
+    state: State,
+    text: &mut [u8],
+    out: &mut [u8],
+    at: usize,
+) -> Next {
+    let size = words::number_at(line, from, words::TEXT_LIMIT as u64);
+    let digits = words::bytes_at(line, size.next);
+    if !words::at_end(line, digits.next) {
+        return refuse(state, out, at);
+    }
+    let start = digits.from;
+    let end = digits.to;
+    if start == end {
+        return refuse(state, out, at);
+    }
+    let count = texts::front_bytes(size.value as usize, text);
+    texts::repeat_bytes(&line[start..end], &mut text[..count]);
+    put_bytes_count(count, state, out, at)
+}
+
+// `fillunits COUNT HEX`.
+pub fn fill_units(
+    line: &[u8],
+    from: usize,
+    state: State,
+    text: &mut [u16],
+    out: &mut [u8],
+    at: usize,
+) -> Next {
+    let size = words::number_at(line, from, words::TEXT_LIMIT as u64);
+    let digits = words::units_at(line, size.next);
+    if !words::at_end(line, digits.next) {
+        return refuse(state, out, at);
+    }
+    let start = digits.from;
+    let end = digits.to;
+    if start == end {
+        return refuse(state, out, at);
+    }
+    let count = texts::front_units(size.value as usize, text);
+    texts::repeat_units(&line[start..end], &mut text[..count]);
+    put_units_count(count, state, out, at)
+}
+
+// `start D PAGE POLICY`.
+pub fn start(line: &[u8], from: usize, state: State, out: &mut [u8], at: usize) -> Next {
+    let letter = words::direction_at(line, from);
+    let page = words::number_at(line, letter.next, 65535);
+    let digits = words::policy_at(line, page.next);
+    if !words::at_end(line, digits.next) {
+        return refuse(state, out, at);
+    }
+    let direction = letter.value;
+    let policy = digits.value;
+    let started = Run::start(direction, page.value as u16, policy);
+    match started {
+        Started::Accepted(run) => {
+            let end = print::put(b"start 0", out, at);
+            Next {
+                state: state.with_run(run),
+                at: print::put_run(run, out, end),
+            }
+        }
+        Started::Refused => Next {
+            state,
+            at: print::put(b"start 17\n", out, at),
+        },
+    }
+}
+
+// `run D PAGE S P I CARRIED FLAGS READ WRITTEN on`.
+pub fn run(line: &[u8], from: usize, state: State, out: &mut [u8], at: usize) -> Next {
+    let record = words::run_at(line, from);
+    if !words::at_end(line, record.next) {
+        return refuse(state, out, at);
+    }
+    let run = record.value;
+    let end = print::put(b"run", out, at);
+    Next {
+        state: state.with_run(run),
+        at: print::put_run(run, out, end),
+    }
+}
+
+// Reads a run from the bytes of some hex digits, by way of a buffer.
+fn load_line(digits: &[u8], buffer: &mut [u8]) -> Restored {
+    texts::repeat_bytes(digits, buffer);
+    checkpoint::read(buffer)
+}
+
+fn answer_load(restored: Restored, state: State, out: &mut [u8], at: usize) -> Next {
+    match restored {
+        Restored::Accepted(run) => {
+            let end = print::put(b"load 0", out, at);
+            Next {
+                state: state.with_run(run),
+                at: print::put_run(run, out, end),
+            }
+        }
+        Restored::Refused => Next {
+            state,
+            at: print::put(b"load 18\n", out, at),
+        },
+    }
+}
+
+// `load HEX`.
+pub fn load(
+    line: &[u8],
+    from: usize,
+    state: State,
+    buffer: &mut [u8],
+    out: &mut [u8],
+    at: usize,
+) -> Next {
+    let digits = words::bytes_at(line, from);
+    if !words::at_end(line, digits.next) {
+        return refuse(state, out, at);
+    }
+    let start = digits.from;
+    let end = digits.to;
+    let count = texts::front_bytes((end - start) / 2, buffer);
+    let restored = load_line(&line[start..end], &mut buffer[..count]);
+    answer_load(restored, state, out, at)
+}

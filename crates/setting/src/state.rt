@@ -1,0 +1,97 @@
+// What the console holds beside the tables and the texts themselves.
+use codepage::Numbers;
+use convert::Direction;
+use convert::Pending;
+use convert::Policy;
+use convert::Run;
+use image::Sizes;
+
+// The table set's numbers and sizes, the lengths of the two texts, and the run in hand.
+pub struct State {
+    pub numbers: Numbers,
+    pub sizes: Sizes,
+    pub bytes: usize,
+    pub units: usize,
+    pub run: Run,
+}
+
+// The state after a command, and the place behind its answer.
+pub struct Next {
+    pub state: State,
+    pub at: usize,
+}
+
+// No table, empty texts, and a run that breaks the run rules.
+pub fn initial() -> State {
+    let numbers = Numbers {
+        page: 0,
+        default_byte: 0,
+        default_unit: 0,
+    };
+    let sizes = Sizes {
+        classes: 0,
+        singles: 0,
+        pairs: 0,
+        index: 0,
+        blocks: 0,
+    };
+    let policy = Policy {
+        single: 0,
+        pair: 0,
+        invalid: 0,
+    };
+    let run = Run {
+        direction: Direction::Decoding,
+        page: 0,
+        policy,
+        pending: Pending::Nothing,
+        flags: 0,
+        read: 0,
+        written: 0,
+        ended: false,
+    };
+    State {
+        numbers,
+        sizes,
+        bytes: 0,
+        units: 0,
+        run,
+    }
+}
+
+impl State {
+    pub fn with_table(self, numbers: Numbers, sizes: Sizes) -> State {
+        let run = self.run;
+        State {
+            numbers,
+            sizes,
+            bytes: self.bytes,
+            units: self.units,
+            run,
+        }
+    }
+
+    pub fn with_bytes(self, bytes: usize) -> State {
+        let mut state = self;
+        state.bytes = bytes;
+        state
+    }
+
+    pub fn with_units(self, units: usize) -> State {
+        let mut state = self;
+        state.units = units;
+        state
+    }
+
+    pub fn with_run(self, run: Run) -> State {
+        let numbers = self.numbers;
+        let sizes = self.sizes;
+        State {
+            numbers,
+            sizes,
+            bytes: self.bytes,
+            units: self.units,
+            run,
+        }
+    }
+}
