@@ -1,15 +1,18 @@
 -- Laws of the shape test's loops.
-use mathlib.Core.Bool.{Bool, true, false, not, _&&_, _||_, true≢false, false≢true}
-use mathlib.Core.List.{List, [], _∷_}
+use mathlib.Core.Bool.{Bool, true, false, not, _&&_, _||_, true≢false}
+use mathlib.Core.List.{List}
 use mathlib.Core.Path.{_≡_, refl, sym, ap, _∙_, subst}
 use Prim.Native.Nat.{ℕ, zero, suc, _+_, _*_, _/_, _%_, _<_, _≤_}
+use native.Mathlib.Nat.{zero-add}
 use native.Mathlib.Omega.{arith}
+use lib.Bits.{bitAnd}
 use lib.Dec.{leb, ltb, eqb}
 use lib.ListN.{length, take}
-use borrow.Author.Tests.{ltb-true, ltb-false, lt-ltb, le-ltb, leb-true, leb-false, le-leb, lt-leb, eq-eqb, ne-eqb, eqb-true, eqb-false, not-true, not-false}
-use Rattle.codepage.specs.CodePage.{CodePage, GoodShape, pick, entry, isKnown, isLead, leads, badClass, firstFault, isGood}
+use borrow.Author.Tests.{ltb-true, ltb-false, lt-ltb, le-ltb, leb-true, le-leb, eq-eqb, ne-eqb, eqb-true, eqb-false, not-true, not-false}
+use Rattle.codepage.specs.CodePage.{CodePage, GoodShape, pick, entry, isKnown, isLead, leads, leadsBelow, badClass, firstFault, isGood}
 use Rattle.codepage.specs.Marks.{markOf, Marked, Largest, goodSizes}
-use Rattle.codepage.proofs.ShapeLaws.{and-left, and-right, or-left-false, or-right-false, count-lead, count-other, shape-exact}
+use Rattle.codepage.specs.Profile.{NoLowLead}
+use Rattle.codepage.proofs.ShapeLaws.{and-left, and-right, or-left-false, or-right-false, count-lead, count-other, below-all, shape-exact}
 
 -- ---- counting
 pub count-mark : (cs : List ℕ) (i n m : ℕ) → n ≡ leads (take i cs) → i < length cs → m ≡ markOf (isLead (entry cs i)) → n + m ≡ leads (take (i + 1) cs)
@@ -28,22 +31,102 @@ pub mark-le : (t : Bool) (m : ℕ) → m ≡ markOf t → m ≤ 1
 mark-le true m e = omega arith
 mark-le false m e = omega arith
 
--- ---- classes, by their order
-known-low : (class : ℕ) → class < 3 → isKnown class ≡ true
-unfolding isKnown
-known-low class h = rw (le-leb class 2 (omega arith))
+-- ---- the leads below a byte
+module _ (cs : List ℕ) where
+  -- one byte more
+  below-next : (x : ℕ) → x < length cs → leadsBelow cs (x + 1) ≡ leadsBelow cs x + markOf (isLead (entry cs x))
+  unfolding leadsBelow
+  below-next x h = sym (count-mark cs x (leads (take x cs)) _ refl h refl)
 
-known-high : (class : ℕ) → 4 ≤ class → class < 7 → isKnown class ≡ true
-unfolding isKnown
-known-high class l h = rw (lt-leb class 2 (omega arith), le-leb 4 class l, le-leb class 6 (omega arith))
+  -- one byte more, counted from somewhere
+  pub count-more : (x y base n m : ℕ) → y ≡ x + 1 → x < length cs → leadsBelow cs x ≡ base + n → m ≡ markOf (isLead (entry cs x)) → leadsBelow cs y ≡ base + (n + m)
+  count-more x y base n m s h e q = ap (leadsBelow cs) s ∙ omega (arith, below-next x h)
 
-unknown-three : (class : ℕ) → 3 ≤ class → class < 4 → isKnown class ≡ false
-unfolding isKnown
-unknown-three class l h = rw (lt-leb class 2 (omega arith), lt-leb 4 class h)
+  -- some bytes more: each counts at most once
+  pub below-steps : (x n : ℕ) → x + n ≤ length cs → leadsBelow cs (x + n) ≤ leadsBelow cs x + n
+  below-steps x zero h =
+      let z : x + 0 ≡ x = omega arith in
+      rw z (omega arith)
+  below-steps x (suc n) h =
+      let z : x + suc n ≡ x + n + 1 = omega arith in
+      let s = below-steps x n (omega arith) in
+      let m = below-next (x + n) (omega arith) in
+      let o = mark-le (isLead (entry cs (x + n))) _ refl in
+      rw z (omega (arith, s, m, o))
 
-unknown-high : (class : ℕ) → 7 ≤ class → isKnown class ≡ false
-unfolding isKnown
-unknown-high class l = rw (lt-leb class 2 (omega arith), le-leb 4 class (omega arith), lt-leb class 6 (omega arith))
+  -- some bytes more, of which none is a lead
+  pub below-same : (x n : ℕ) → x + n ≤ length cs → ((k : ℕ) → k < n → isLead (entry cs (x + k)) ≡ false) → leadsBelow cs (x + n) ≡ leadsBelow cs x
+  below-same x zero h f =
+      let z : x + 0 ≡ x = omega arith in
+      rw z
+  below-same x (suc n) h f =
+      let z : x + suc n ≡ x + n + 1 = omega arith in
+      let m : leadsBelow cs (x + n + 1) ≡ leadsBelow cs (x + n) + 0 = below-next (x + n) (omega arith) ∙ ap (λ (t : Bool). leadsBelow cs (x + n) + markOf t) (f n (omega arith)) in
+      let s = below-same x n (omega arith) (λ k l. f k (omega arith)) in
+      rw z (omega (arith, m, s))
+
+  pub none-low : length cs ≡ 256 → NoLowLead cs → leadsBelow cs 0x80 ≡ 0
+  unfolding leadsBelow leads
+  none-low h low = below-same 0 0x80 (omega arith) (λ k l. rw (zero-add k) (low k l))
+
+-- ---- classes: a test that is computed at all 256
+abbrev pub allBelow : (ℕ → Bool) → ℕ → Bool
+allBelow f zero = true
+allBelow f (suc n) = f n && allBelow f n
+
+last-or-below : (f : ℕ → Bool) (n k : ℕ) → k < suc n → f n ≡ true → (k < n → f k ≡ true) → (t : Bool) → eqb k n ≡ t → f k ≡ true
+last-or-below f n k h e b true q = rw (eqb-true k n q) e
+last-or-below f n k h e b false q =
+    let d : k ≡ n → ⊥ = eqb-false k n q in
+    b (omega arith)
+
+pub all-below : (f : ℕ → Bool) (n : ℕ) → allBelow f n ≡ true → (k : ℕ) → k < n → f k ≡ true
+all-below f zero e k h = absurd (omega arith)
+all-below f (suc n) e k h = last-or-below f n k h (and-left (f n) (allBelow f n) e) (all-below f n (and-right (f n) (allBelow f n) e) k) (eqb k n) refl
+
+abbrev same : Bool → Bool → Bool
+same true b = b
+same false b = not b
+
+same-eq : (a b : Bool) → same a b ≡ true → a ≡ b
+same-eq true b e = sym e
+same-eq false b e = sym (not-true b e)
+
+pub or-else : (a b : Bool) → a ≡ false → (a || b) ≡ true → b ≡ true
+or-else true b n e = absurd (true≢false n)
+or-else false b n e = e
+
+lowRight : ℕ → Bool
+lowRight class = same (not (isKnown class) || isLead class) (ltb 0 (bitAnd class 0xFA))
+
+low-right : allBelow lowRight 256 ≡ true
+unfolding lowRight isKnown isLead
+low-right = refl
+
+pub low-class : (byte class : ℕ) → class < 256 → byte < 0x80 → badClass byte class ≡ ltb 0 (bitAnd class 0xFA)
+unfolding badClass lowRight
+low-class byte class c h = rw (lt-ltb byte 0x80 h) (same-eq (not (isKnown class) || isLead class) (ltb 0 (bitAnd class 0xFA)) (all-below lowRight 256 low-right class c))
+
+highRight : ℕ → Bool
+highRight class = eqb class 3 || same (not (isKnown class)) (ltb 6 class)
+
+high-right : allBelow highRight 256 ≡ true
+unfolding highRight isKnown
+high-right = refl
+
+pub high-three : (byte class : ℕ) → class ≡ 3 → badClass byte class ≡ true
+unfolding badClass isKnown
+high-three byte class e = rw e
+
+or-false : (a : Bool) → (a || false) ≡ a
+or-false true = refl
+or-false false = refl
+
+pub high-class : (byte class : ℕ) → class < 256 → 0x80 ≤ byte → (class ≡ 3 → ⊥) → badClass byte class ≡ ltb 6 class
+unfolding badClass highRight
+high-class byte class c h n =
+    rw (le-ltb byte 0x80 h) (or-false (not (isKnown class)))
+    ∙ same-eq (not (isKnown class)) (ltb 6 class) (or-else (eqb class 3) _ (ne-eqb class 3 n) (all-below highRight 256 high-right class c))
 
 pub lead-two : (class : ℕ) → class ≡ 2 → isLead class ≡ true
 unfolding isLead
@@ -57,18 +140,6 @@ pub lead-neither : (class : ℕ) → (class ≡ 2 → ⊥) → (class ≡ 6 → 
 unfolding isLead
 lead-neither class n₁ n₂ = rw (ne-eqb class 2 n₁, ne-eqb class 6 n₂)
 
-unknown-bad : (byte class : ℕ) → isKnown class ≡ false → badClass byte class ≡ true
-unfolding badClass
-unknown-bad byte class e = rw e
-
-low-lead-bad : (byte class : ℕ) → byte < 0x80 → isLead class ≡ true → badClass byte class ≡ true
-unfolding badClass
-low-lead-bad byte class h e = by-known (isKnown class)
-  where
-    by-known : (t : Bool) → (not t || ltb byte 0x80 && isLead class) ≡ true
-    by-known true = rw (lt-ltb byte 0x80 h, e)
-    by-known false = refl
-
 known-fine : (byte class : ℕ) → isKnown class ≡ true → isLead class ≡ false → badClass byte class ≡ false
 unfolding badClass
 known-fine byte class k n = rw (k, n) (and-false (ltb byte 0x80))
@@ -81,71 +152,34 @@ high-fine : (byte class : ℕ) → 0x80 ≤ byte → isKnown class ≡ true → 
 unfolding badClass
 high-fine byte class h k = rw (k, le-ltb byte 0x80 h)
 
-mark-of : (byte class : ℕ) (t : Bool) → badClass byte class ≡ t → markOf t ≡ markOf (badClass byte class)
-mark-of byte class t e = ap markOf (sym e)
-
-lead-not : (class : ℕ) → class < 2 → isLead class ≡ false
-unfolding isLead
-lead-not class h = lead-neither class (λ e. absurd (omega (arith, e))) (λ e. absurd (omega (arith, e)))
-
-lead-not-mid : (class : ℕ) → 4 ≤ class → class < 6 → isLead class ≡ false
-lead-not-mid class l h = lead-neither class (λ e. absurd (omega (arith, e))) (λ e. absurd (omega (arith, e)))
-
--- the four ranges of classes: for a byte below 80
-pub low-0 : (byte class : ℕ) → class < 2 → 0 ≡ markOf (badClass byte class)
-low-0 byte class h = mark-of byte class false (known-fine byte class (known-low class (omega arith)) (lead-not class h))
-
-pub low-1 : (byte class : ℕ) → byte < 0x80 → 2 ≤ class → class < 4 → 1 ≡ markOf (badClass byte class)
-low-1 byte class b l h = mark-of byte class true (by-three (ltb class 3) refl)
-  where
-    by-three : (t : Bool) → ltb class 3 ≡ t → badClass byte class ≡ true
-    by-three true e = let f = ltb-true class 3 e in low-lead-bad byte class b (lead-two class (omega (arith, f)))
-    by-three false e = let f = ltb-false class 3 e in unknown-bad byte class (unknown-three class f h)
-
-pub low-2 : (byte class : ℕ) → 4 ≤ class → class < 6 → 0 ≡ markOf (badClass byte class)
-low-2 byte class l h = mark-of byte class false (known-fine byte class (known-high class l (omega arith)) (lead-not-mid class l h))
-
-pub low-3 : (byte class : ℕ) → byte < 0x80 → 6 ≤ class → 1 ≡ markOf (badClass byte class)
-low-3 byte class b l = mark-of byte class true (by-seven (ltb class 7) refl)
-  where
-    by-seven : (t : Bool) → ltb class 7 ≡ t → badClass byte class ≡ true
-    by-seven true e = let f = ltb-true class 7 e in low-lead-bad byte class b (lead-six class (omega (arith, f)))
-    by-seven false e = unknown-bad byte class (unknown-high class (ltb-false class 7 e))
-
--- for a byte from 80 on
-pub high-0 : (byte class : ℕ) → 0x80 ≤ byte → class < 3 → 0 ≡ markOf (badClass byte class)
-high-0 byte class b h = mark-of byte class false (high-fine byte class b (known-low class h))
-
-pub high-1 : (byte class : ℕ) → 3 ≤ class → class < 4 → 1 ≡ markOf (badClass byte class)
-high-1 byte class l h = mark-of byte class true (unknown-bad byte class (unknown-three class l h))
-
-pub high-2 : (byte class : ℕ) → 0x80 ≤ byte → 4 ≤ class → class < 7 → 0 ≡ markOf (badClass byte class)
-high-2 byte class b l h = mark-of byte class false (high-fine byte class b (known-high class l h))
-
-pub high-3 : (byte class : ℕ) → 7 ≤ class → 1 ≡ markOf (badClass byte class)
-high-3 byte class l = mark-of byte class true (unknown-bad byte class (unknown-high class l))
+fine-lead : (byte class : ℕ) → byte < 0x80 → badClass byte class ≡ false → isLead class ≡ false
+unfolding badClass
+fine-lead byte class h e = sym (rw (lt-ltb byte 0x80 h)) ∙ or-right-false (not (isKnown class)) _ e
 
 -- ---- marks
-module _ (bad : ℕ → ℕ → Bool) (xs : List ℕ) (from : ℕ) where
-  pub marked-start : Marked bad xs from from 0
-  marked-start = record { none-bad = λ e k l h. absurd (omega arith); one-bad = λ e. absurd (e refl) }
+module _ (bad : ℕ → ℕ → Bool) (limit : ℕ) (xs : List ℕ) (from : ℕ) where
+  pub marked-start : Marked bad limit xs from from 0
+  marked-start = record { none-bad = λ e k l h. absurd (omega arith); one-bad = λ e. absurd (omega arith) }
 
-  pub marked-more : (i mark m r : ℕ) → from ≤ i → Marked bad xs from i mark → m ≡ markOf (bad i (entry xs i)) → mark ≤ r → m ≤ r → r ≡ pick (ltb mark m) m mark → Marked bad xs from (i + 1) r
-  marked-more i mark m r f g e h₁ h₂ q = by-bad (bad i (entry xs i)) refl
+  pub marked-more : (i mark m r : ℕ) → from ≤ i → Marked bad limit xs from i mark → bad i (entry xs i) ≡ ltb limit m → mark ≤ r → m ≤ r → r ≡ pick (ltb mark m) m mark → Marked bad limit xs from (i + 1) r
+  marked-more i mark m r f g e h₁ h₂ q = by-bad (ltb limit m) refl
     where
-      by-bad : (t : Bool) → bad i (entry xs i) ≡ t → Marked bad xs from (i + 1) r
+      kept : (t : Bool) → m ≤ limit → limit < pick t m mark → limit < mark
+      kept true l o = absurd (omega arith)
+      kept false l o = o
+
+      by-bad : (t : Bool) → ltb limit m ≡ t → Marked bad limit xs from (i + 1) r
       by-bad true w =
-          let one : m ≡ 1 = e ∙ ap markOf w in
-          record { none-bad = λ z. absurd (omega arith); one-bad = λ z. (i, f, omega arith, w) }
+          let over : limit < m = ltb-true limit m w in
+          record { none-bad = λ z. absurd (omega arith); one-bad = λ z. (i, f, omega arith, e ∙ w) }
       by-bad false w =
-          let none : m ≡ 0 = e ∙ ap markOf w in
-          let same : r ≡ mark = q ∙ ap (λ (t : Bool). pick t m mark) (le-ltb mark m (omega arith)) in
+          let under : m ≤ limit = ltb-false limit m w in
           record {
-            none-bad = λ z k l h. at-or-below k l h (ltb k i) refl (omega arith) w;
-            one-bad = λ z. let b = g .one-bad (λ y. z (same ∙ y)) in (b .0, b .1, omega (arith, b .2), b .3);
+            none-bad = λ z k l h. at-or-below k l h (ltb k i) refl (omega arith) (e ∙ w);
+            one-bad = λ z. let b = g .one-bad (kept (ltb mark m) under (subst (λ (n : ℕ). limit < n) q z)) in (b .0, b .1, omega (arith, b .2), b .3);
           }
         where
-          at-or-below : (k : ℕ) → from ≤ k → k < i + 1 → (t : Bool) → ltb k i ≡ t → mark ≡ 0 → bad i (entry xs i) ≡ false → bad k (entry xs k) ≡ false
+          at-or-below : (k : ℕ) → from ≤ k → k < i + 1 → (t : Bool) → ltb k i ≡ t → mark ≤ limit → bad i (entry xs i) ≡ false → bad k (entry xs k) ≡ false
           at-or-below k l h true e z w = g .none-bad z k l (ltb-true k i e)
           at-or-below k l h false e z w =
               let f : i ≤ k = ltb-false k i e in
@@ -172,6 +206,13 @@ largest-more xs i most r g h₁ h₂ q = record { bound = λ k h. at-or-below k 
         let same : r ≡ most = q ∙ ap (λ (t : Bool). pick t (entry xs i) most) e in
         let b = g .reached (λ y. z (same ∙ y)) in
         (b .0, omega (arith, b .1), b .2 ∙ sym same)
+
+-- ---- where no mark is over the limit, no lead is low, and the leads are those from 80 on
+pub low-leads : (cs : List ℕ) (low : ℕ) → Marked badClass 0 cs 0 0x80 low → low ≤ 0 → NoLowLead cs
+low-leads cs low l z byte h = fine-lead byte (entry cs byte) h (l .none-bad z byte (omega arith) h)
+
+pub leads-high : (cs : List ℕ) (n : ℕ) → length cs ≡ 256 → NoLowLead cs → leadsBelow cs 256 ≡ leadsBelow cs 0x80 + n → n ≡ leads cs
+leads-high cs n h low e = omega (arith, below-all cs h, none-low cs h low)
 
 -- ---- the test is exact
 module _ (p : CodePage) where
@@ -201,8 +242,8 @@ module _ (p : CodePage) where
       by-low true e = known-fine k (entry (p .classes) k) (g .class k h) (g .low k (ltb-true k 0x80 e))
       by-low false e = high-fine k (entry (p .classes) k) (ltb-false k 0x80 e) (g .class k h)
 
-  pub marks-needed : GoodShape p → (from to mark : ℕ) → to ≤ 256 → Marked badClass (p .classes) from to mark → (mark ≡ 0 → ⊥) → ⊥
-  marks-needed g from to mark h m n =
+  pub marks-needed : GoodShape p → (limit from to mark : ℕ) → to ≤ 256 → Marked badClass limit (p .classes) from to mark → limit < mark → ⊥
+  marks-needed g limit from to mark h m n =
       let b = m .one-bad n in
       true≢false (sym (b .3) ∙ class-needed g (b .0) (omega (arith, b .2)))
 
@@ -215,7 +256,7 @@ module _ (p : CodePage) where
           let b = m .reached (eqb-false most 0 e) in
           omega (arith, g .number (b .0) (b .1), b .2)
 
-  pub good-by-marks : (p .page ≡ 0 → ⊥) → goodSizes (length (p .classes)) (length (p .singles)) (length (p .index)) (length (p .blocks)) ≡ true → (low high most : ℕ) → Marked badClass (p .classes) 0 0x80 low → low ≡ 0 → Marked badClass (p .classes) 0x80 256 high → high ≡ 0 → Largest (p .index) 256 most → most < length (p .blocks) / 256 → length (p .pairs) ≡ 256 * leads (p .classes) → GoodShape p
+  pub good-by-marks : (p .page ≡ 0 → ⊥) → goodSizes (length (p .classes)) (length (p .singles)) (length (p .index)) (length (p .blocks)) ≡ true → (low high most : ℕ) → Marked badClass 0 (p .classes) 0 0x80 low → low ≤ 0 → Marked badClass 6 (p .classes) 0x80 256 high → high ≤ 6 → Largest (p .index) 256 most → most < length (p .blocks) / 256 → length (p .pairs) ≡ 256 * leads (p .classes) → GoodShape p
   unfolding goodSizes badClass
   good-by-marks page sizes low high most l l0 h h0 m lt pairs =
       let s₅ : (eqb (length (p .classes)) 256 && eqb (length (p .singles)) 256 && eqb (length (p .index)) 256 && eqb (length (p .blocks) % 256) 0 && leb 1 (length (p .blocks) / 256)) ≡ true =
@@ -234,7 +275,7 @@ module _ (p : CodePage) where
         index = eqb-true _ _ (and-right (eqb (length (p .classes)) 256 && eqb (length (p .singles)) 256) _ s₃);
         blocks = (length (p .blocks) / 256, least, greatest, omega arith);
         class = λ k b. known-if k (ltb k 0x80) refl b;
-        low = λ k b. sym (rw (lt-ltb k 0x80 b)) ∙ or-right-false (not (isKnown (entry (p .classes) k))) _ (l .none-bad l0 k (omega arith) b);
+        low = low-leads (p .classes) low l l0;
         number = λ k b. omega (arith, m .bound k b);
       }
     where

@@ -1,3 +1,4 @@
 pub mod CodePage
 pub mod Reading
 pub mod Marks
+pub mod Profile

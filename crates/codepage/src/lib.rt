@@ -1,11 +1,12 @@
 // A code page as lent tables: its shape, and the shape report. (Document 01, "The table set".)
 pub mod inner;
 mod marks;
+pub mod profile;
 
 ghost use mathlib.Core.Path.{_≡_};
 ghost use Prim.Native.Nat.{ℕ, _≤_};
 ghost use lib.ListN.{length};
-ghost use Rattle.codepage.specs.CodePage.{codePage, isSingle, isLead, isKnown, leadsBelow, firstBad, badClass, badNumber, firstFault};
+ghost use Rattle.codepage.specs.CodePage.{codePage, isSingle, isLead, isTrail, isKnown, leadsBelow, firstBad, badClass, badNumber, firstFault};
 
 // The numbers of a table set.
 pub struct Numbers {
@@ -66,6 +67,13 @@ fn is_single_class(class: u8) -> bool
     class == 5
 }
 
+// Whether a class is that of a byte that may be second.
+fn is_trail_class(class: u8) -> bool
+    ensures { λ r. ⌜ r ≡ isTrail class ⌝ }
+{
+    4 <= class
+}
+
 // Whether a class is one that a byte can have.
 fn is_known_class(class: u8) -> bool
     ensures { λ r. ⌜ r ≡ isKnown class ⌝ }
@@ -100,7 +108,7 @@ fn leads_below(classes: &[u8], byte: usize) -> usize
     let mut count: u16 = 0;
     let mut i = 0;
     while i < byte {
-        count += marks::lead_mark(classes[i]);
+        count += marks::lead_mark(classes[i]) as u16;
         i += 1;
     }
     count as usize

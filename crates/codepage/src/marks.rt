@@ -4,11 +4,11 @@ ghost use mathlib.Core.Bool.{true, false};
 ghost use Prim.Native.Nat.{ℕ, _+_, _≤_, _<_};
 ghost use lib.Dec.{ltb};
 ghost use lib.ListN.{length};
-ghost use Rattle.codepage.specs.CodePage.{pick, isLead, badClass};
+ghost use Rattle.codepage.specs.CodePage.{pick, isLead, badClass, leadsBelow};
 ghost use Rattle.codepage.specs.Marks.{markOf, Marked, Largest};
 
 // 1 for the class of a lead byte, else 0.
-pub fn lead_mark(class: u8) -> u16
+pub fn lead_mark(class: u8) -> u8
     ensures { λ r. ⌜ r ≡ markOf (isLead class) ⌝ }
 {
     if class == 2 {
@@ -20,40 +20,25 @@ pub fn lead_mark(class: u8) -> u16
     0
 }
 
-// 1 for a class that no byte below 80 can have, else 0.
+// 0 for a class that a byte below 80 can have, else another number.
 fn low_mark(class: u8) -> u8
-    ensures { λ r. ⌜ ((byte : ℕ) → byte < 0x80 → r ≡ markOf (badClass byte class)) ⌝ }
+    ensures { λ r. ⌜ ((byte : ℕ) → byte < 0x80 → badClass byte class ≡ ltb 0 r) ⌝ }
 {
-    if class < 2 {
-        return 0;
-    }
-    if class < 4 {
-        return 1;
-    }
-    if class < 6 {
-        return 0;
-    }
-    1
+    class & 0xFA
 }
 
-// 1 for a class that no byte from 80 on can have, else 0.
+// At most 6 for a class that a byte from 80 on can have, else more.
 fn high_mark(class: u8) -> u8
-    ensures { λ r. ⌜ ((byte : ℕ) → 0x80 ≤ byte → r ≡ markOf (badClass byte class)) ⌝ }
+    ensures { λ r. ⌜ ((byte : ℕ) → 0x80 ≤ byte → badClass byte class ≡ ltb 6 r) ⌝ }
 {
-    if class < 3 {
-        return 0;
+    if class == 3 {
+        return 255;
     }
-    if class < 4 {
-        return 1;
-    }
-    if class < 7 {
-        return 0;
-    }
-    1
+    class
 }
 
 // The larger of two numbers.
-fn larger(a: u8, b: u8) -> u8
+pub fn larger(a: u8, b: u8) -> u8
     ensures { λ r. ⌜ (a ≤ r) × (b ≤ r) ⌝ }
     ensures { λ r. ⌜ r ≡ pick (ltb a b) b a ⌝ }
 {
@@ -63,10 +48,20 @@ fn larger(a: u8, b: u8) -> u8
     a
 }
 
+// The smaller of two numbers.
+pub fn smaller(a: u8, b: u8) -> u8
+    ensures { λ r. ⌜ (r ≤ a) × (r ≤ b) ⌝ }
+{
+    if a < b {
+        return a;
+    }
+    b
+}
+
 // 0 where no byte below 80 has a bad class.
 pub fn low_marks(classes: &[u8]) -> u8
     requires { ⌜ length (now classes) ≡ 256 ⌝ }
-    ensures { λ r. ⌜ Marked badClass (now (classes .entry)) 0 0x80 r ⌝ }
+    ensures { λ r. ⌜ Marked badClass 0 (now (classes .entry)) 0 0x80 r ⌝ }
 {
     let mut mark: u8 = 0;
     let mut i: usize = 0;
@@ -77,10 +72,10 @@ pub fn low_marks(classes: &[u8]) -> u8
     mark
 }
 
-// 0 where no byte from 80 on has a bad class.
+// At most 6 where no byte from 80 on has a bad class.
 pub fn high_marks(classes: &[u8]) -> u8
     requires { ⌜ length (now classes) ≡ 256 ⌝ }
-    ensures { λ r. ⌜ Marked badClass (now (classes .entry)) 0x80 256 r ⌝ }
+    ensures { λ r. ⌜ Marked badClass 6 (now (classes .entry)) 0x80 256 r ⌝ }
 {
     let mut mark: u8 = 0;
     let mut i: usize = 128;
@@ -103,4 +98,18 @@ pub fn largest(index: &[u8]) -> u8
         i += 1;
     }
     most
+}
+
+// The number of lead bytes from 80 on.
+pub fn high_leads(classes: &[u8]) -> u8
+    requires { ⌜ length (now classes) ≡ 256 ⌝ }
+    ensures { λ r. ⌜ leadsBelow (now (classes .entry)) 256 ≡ leadsBelow (now (classes .entry)) 0x80 + r ⌝ }
+{
+    let mut count: u8 = 0;
+    let mut i: usize = 128;
+    while i < 256 {
+        count += lead_mark(classes[i]);
+        i += 1;
+    }
+    count
 }

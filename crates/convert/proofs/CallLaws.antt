@@ -152,6 +152,10 @@ named-check : (number : ℕ) (holds : Bool) (next : ℕ) → 10 ≤ number → n
 named-check number true next l h rest ne = rest ne
 named-check number false next l h rest ne = record { low = l; high = h }
 
+pub refusal-shape : (direction : Direction) (run : Run) (p : CodePage) (count : ℕ) → isGood (firstFault p) ≡ false → 10 ≡ refusal direction run p count
+unfolding refusal
+refusal-shape direction run p count e = rw e
+
 pub refusal-named : (direction : Direction) (run : Run) (p : CodePage) (count : ℕ) → (refusal direction run p count ≡ 0 → ⊥) → Named (refusal direction run p count)
 unfolding refusal
 refusal-named direction run p count =
@@ -264,7 +268,7 @@ module _ (direction : Direction) (run : Run) (p : CodePage) (piece : List ℕ) (
 pub decode-needs : (run : Run) (p : CodePage) (count : ℕ) (has : Bool) (byte : ℕ) → has ≡ hasPending (run .pending) → byte ≡ pendingByte (run .pending) → Accepted Decoding run p count
     → DecodeSizes (p .classes) (p .singles) (p .pairs) × (has ≡ true → isLead (entry (p .classes) byte) ≡ true)
 decode-needs run p count has byte e f a = (
-  record { all-classes = a .good .classes; all-singles = a .good .singles; all-pairs = a .good .pairs },
+  record { all-classes = a .good .classes; all-singles = a .good .singles; all-pairs = a .good .pairs; no-low-lead = a .good .low },
   λ h. rw f (lead-pending (p .classes) (run .pending) (a .lead) (sym e ∙ h)),
 )
 

@@ -73,7 +73,7 @@ text-accepted direction policy p count e =
 
 -- what the loops require
 pub decode-text-needs : (policy : Policy) (p : CodePage) (count : ℕ) → TextAccepted Decoding policy p count → DecodeSizes (p .classes) (p .singles) (p .pairs)
-decode-text-needs policy p count a = record { all-classes = a .good .classes; all-singles = a .good .singles; all-pairs = a .good .pairs }
+decode-text-needs policy p count a = record { all-classes = a .good .classes; all-singles = a .good .singles; all-pairs = a .good .pairs; no-low-lead = a .good .low }
 
 pub encode-text-needs : (policy : Policy) (p : CodePage) (count : ℕ) → TextAccepted Encoding policy p count
     → (policyAllowed Encoding policy ≡ true) × ((length (p .index) ≡ 256) × ((high : ℕ) → 256 * entry (p .index) high + 256 ≤ length (p .blocks)))

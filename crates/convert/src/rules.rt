@@ -1,10 +1,10 @@
 // The run rules, and the refusals of a run call. (Document 01, "The run and its saved line" and "One call of a run".)
 ghost use mathlib.Core.Path.{_≡_};
-ghost use mathlib.Core.Bool.{not, _&&_, _||_};
+ghost use mathlib.Core.Bool.{true, not, _&&_, _||_};
 ghost use Prim.Native.Nat.{ℕ, _≤_};
 ghost use lib.Dec.{ltb};
 ghost use lib.ListN.{length};
-ghost use Rattle.codepage.specs.CodePage.{codePage, entry, isLead};
+ghost use Rattle.codepage.specs.CodePage.{codePage, entry, isLead, firstFault, isGood};
 ghost use Rattle.convert.specs.Runs.{isDecoding, mostWritten, ifPending, validRun};
 ghost use Rattle.convert.specs.Calls.{sameDirection, leadIn, refusal};
 use crate::Pending;
@@ -124,7 +124,7 @@ fn pending_is_lead(pending: Pending, classes: &[u8]) -> bool
     }
 }
 
-// The number of the first check that a call on `count` units fails, or 0.
+// The number of the first check that a call on `count` units fails, or 0. The shape was found good.
 pub fn refusal(
     direction: Direction,
     run: Run,
@@ -136,11 +136,9 @@ pub fn refusal(
     blocks: &[u16],
     count: usize,
 ) -> u8
+    requires { ⌜ isGood (firstFault (codePage numbers (now classes) (now singles) (now pairs) (now index) (now blocks))) ≡ true ⌝ }
     ensures { λ r. ⌜ r ≡ refusal direction run (codePage numbers (now (classes .entry)) (now (singles .entry)) (now (pairs .entry)) (now (index .entry)) (now (blocks .entry))) count ⌝ }
 {
-    if !codepage::inner::good_shape(numbers, classes, singles, pairs, index, blocks) {
-        return 10;
-    }
     if Run::PIECE_LIMIT < count {
         return 11;
     }

@@ -8,3 +8,5 @@ pub mod CountLaws
 pub mod CodeLaws
 pub mod AnswerLaws
 pub mod BoundLaws
+pub mod RunLaws
+pub mod PlainLaws

@@ -14,7 +14,7 @@ use lib.Bits.{bitOr, or-zero-l, or-zero-r}
 use borrow.Author.Tests.{le-leb, lt-leb}
 use Rattle.engine.specs.Engine.{Effect, Converter, Room, limit, endless, fits, less, Fed, halt, after, stopAt, takeWhen, takeCode, feedFrom}
 use Rattle.engine.specs.Engine.{over}
-use Rattle.engine.specs.Steps.{sofar, ended, stoppedBy, fullAt, takenBy, Took, summary}
+use Rattle.engine.specs.Steps.{sofar, ended, stoppedBy, fullAt, takenBy, Took, summary, Ends}
 use Rattle.engine.specs.declared.progress.Progress.{Progress}
 use Rattle.engine.proofs.EngineLaws.{after-none, after-after, take-stop, take-fits, take-full, feed-wait, feed-one}
 
@@ -95,13 +95,7 @@ pub record Going (R : Converter) (last : Bool) (F : Fed) (out₀ out : List ℕ)
   pub within : s .written ≤ length out
   pub kept : drop (s .written) out ≡ drop (s .written) out₀
 
--- the call's result is F's, and its output is laid over what was there
-pub record Ends (F : Fed) (out₀ out : List ℕ) (r : Progress) : Type 0 where
-  pub result : r ≡ summary F
-  pub laid : out ≡ over out₀ (F .output)
-  pub same : length out ≡ length out₀
-
-later : (w v : ℕ) (xs ys : List ℕ) → w ≤ v → drop w xs ≡ drop w ys → drop v xs ≡ drop v ys
+pub later : (w v : ℕ) (xs ys : List ℕ) → w ≤ v → drop w xs ≡ drop w ys → drop v xs ≡ drop v ys
 later w v xs ys h e =
     let q : v ≡ w + (v - w) = omega arith in
     rw q (sym (drop-drop (v - w) w xs) ∙ ap (drop (v - w)) e ∙ drop-drop (v - w) w ys)

@@ -10,9 +10,9 @@ use lib.ListN.{length, getD, drop, drop-of-length-le}
 use lib.Seq.{drop-cons}
 use Rattle.engine.specs.declared.progress.Progress.{Progress}
 use Rattle.engine.specs.Engine.{Effect, Converter, Room, limit, less, Fed, takeCode, feedFrom}
-use Rattle.engine.specs.Steps.{sofar, Took, optional}
+use Rattle.engine.specs.Steps.{sofar, Took, Ends, optional}
 use Rattle.engine.proofs.EngineLaws.{feed-wait, feed-one}
-use Rattle.engine.proofs.LoopLaws.{Going, Ends, going-start, going-took, ended-took, ended-all, ended-wait}
+use Rattle.engine.proofs.LoopLaws.{Going, going-start, going-took, ended-took, ended-all, ended-wait}
 
 next : (i : ℕ) (l : List ℕ) → i < length l → drop i l ≡ getD l i 0 ∷ drop (i + 1) l
 next i l h = rw (add-one, drop-cons l i 0)

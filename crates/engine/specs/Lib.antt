@@ -1,3 +1,4 @@
 pub mod Policies
 pub mod Engine
 pub mod Steps
+pub mod Runs

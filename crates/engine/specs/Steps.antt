@@ -8,6 +8,7 @@ use Prim.Native.Nat.{ℕ, _+_, _-_, _*_, _/_, _%_, _<_, _≤_}
 use lib.Dec.{eqb}
 use lib.ListN.{length, take, drop}
 use Rattle.codepage.specs.CodePage.{pick, leads}
+use Rattle.codepage.specs.Profile.{NoLowLead}
 use Rattle.engine.specs.declared.policies.Action.{Action}
 use Rattle.engine.specs.declared.policies.Action.the-variants.{Stop, Skip, Write}
 use Rattle.engine.specs.declared.policies.CodeEffect.{CodeEffect}
@@ -16,7 +17,7 @@ use Rattle.engine.specs.declared.Policy.{Policy}
 use Rattle.engine.specs.declared.progress.Progress.{Progress}
 use lib.Bits.{bitOr}
 use Rattle.engine.specs.Policies.{stoppedFlag}
-use Rattle.engine.specs.Engine.{Effect, Fed, after, takeCode, limit, converter, feedFrom}
+use Rattle.engine.specs.Engine.{Effect, Fed, after, takeCode, limit, converter, feedFrom, over}
 
 -- what an action does, in numbers
 abbrev pub actedAs : ℕ → Action → CodeEffect
@@ -67,11 +68,18 @@ pub record Took (k : Effect) (n : ℕ) (s : Progress) (out : List ℕ) (r : Prog
   pub goes : r .answer ≡ 0 → (rest : Fed) → sofar s out (takeCode (limit (length out - s .written)) n k rest) ≡ sofar r out′ rest
   pub ends : (r .answer ≡ 0 → ⊥) → (rest : Fed) → sofar s out (takeCode (limit (length out - s .written)) n k rest) ≡ ended r out′
 
--- the sizes that decoding needs
+-- the call's result is F's, and its output is laid over what was there
+pub record Ends (F : Fed) (out₀ out : List ℕ) (r : Progress) : Type 0 where
+  pub result : r ≡ summary F
+  pub laid : out ≡ over out₀ (F .output)
+  pub same : length out ≡ length out₀
+
+-- the sizes that decoding needs, and that no lead is below 80
 pub record DecodeSizes (classes singles pairs : List ℕ) : Type 0 where
   pub all-classes : length classes ≡ 256
   pub all-singles : length singles ≡ 256
   pub all-pairs : length pairs ≡ 256 * leads classes
+  pub no-low-lead : NoLowLead classes
 
 -- a pending unit as a flag and a number
 abbrev pub optional : Bool → ℕ → Option ℕ

@@ -59,6 +59,7 @@ pub fn count_decoded(
     requires { ⌜ DecodeSizes (now classes) (now singles) (now pairs) ⌝ }
     ensures { λ r. ⌜ r ≡ summary (feedFrom (converter (decoder (now (classes .entry)) (now (singles .entry)) (now (pairs .entry))) policy default) true endless none (now (text .entry))) ⌝ }
 {
+    let leads = codepage::profile::leads_of(classes);
     let mut waits = false;
     let mut first: u8 = 0;
     let mut s = Progress {
@@ -71,7 +72,7 @@ pub fn count_decoded(
     while i < text.len() {
         let byte = text[i];
         if waits {
-            let code = codepage::inner::byte_pair(classes, pairs, first, byte);
+            let code = codepage::inner::byte_pair(classes, pairs, leads, first, byte);
             let d = policies::decoded(policy, default, first, code);
             s = count_code(d, 2, units_written(d), s);
             if s.answer != 0 {

@@ -9,9 +9,11 @@ ghost use Rattle.engine.specs.Policies.{policyAllowed};
 ghost use Rattle.engine.specs.Engine.{over};
 ghost use Rattle.engine.specs.Steps.{summary, encodeFed};
 use crate::Policy;
+use crate::plain;
 use crate::policies;
 use crate::progress;
 use crate::progress::Progress;
+use crate::runs;
 
 pub fn encode_loop(
     policy: Policy,
@@ -28,6 +30,14 @@ pub fn encode_loop(
     ensures { λ r. ⌜ r ≡ summary (encodeFed (now (index .entry)) (now (blocks .entry)) policy default last (length (now (out .entry))) (now (piece .entry))) ⌝ }
     ensures { λ _. ⌜ now (out .exit) ≡ over (now (out .entry)) (encodeFed (now (index .entry)) (now (blocks .entry)) policy default last (length (now (out .entry))) (now (piece .entry)) .output) ⌝ }
 {
+    if plain::encode_plain(index, blocks, piece, out) {
+        return Progress {
+            answer: 0,
+            used: piece.len(),
+            written: piece.len(),
+            flags: 0,
+        };
+    }
     let mut s = Progress {
         answer: 0,
         used: 0,
@@ -36,13 +46,18 @@ pub fn encode_loop(
     };
     let mut i = 0;
     while i < piece.len() {
-        let code = codepage::inner::unit_code(index, blocks, piece[i]);
-        let d = policies::encoded(policy, default, code);
-        s = progress::take_bytes(d, s, out);
-        if s.answer != 0 {
-            return s;
+        let place = runs::run_of_coded(index, blocks, piece, i, s.written, out);
+        s = progress::moved(s, place.read - i, place.written);
+        i = place.read;
+        if i < piece.len() {
+            let code = codepage::inner::unit_code(index, blocks, piece[i]);
+            let d = policies::encoded(policy, default, code);
+            s = progress::take_bytes(d, s, out);
+            if s.answer != 0 {
+                return s;
+            }
+            i += 1;
         }
-        i += 1;
     }
     s
 }

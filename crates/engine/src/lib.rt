@@ -7,8 +7,10 @@ ghost use Rattle.engine.specs.Policies.{standard};
 pub mod counter;
 pub mod decoder;
 pub mod encoder;
+mod plain;
 pub mod policies;
 pub mod progress;
+mod runs;
 
 // Decoding turns bytes into units, encoding units into bytes.
 pub enum Direction {

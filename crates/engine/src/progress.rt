@@ -2,6 +2,7 @@
 ghost use mathlib.Core.Path.{_≡_};
 ghost use Prim.Native.Nat.{ℕ, _+_, _≤_, _<_, _^_};
 ghost use lib.ListN.{length};
+ghost use Rattle.engine.specs.Runs.{movedTo};
 ghost use Rattle.engine.specs.Steps.{unitEffect, byteEffect, stoppedBy, fullAt, takenBy, Took};
 use crate::policies::CodeEffect;
 
@@ -11,6 +12,19 @@ pub struct Progress {
     pub used: usize,
     pub written: usize,
     pub flags: u8,
+}
+
+// Codes of `size` units were taken, up to `written` in the output; they set no flags.
+pub fn moved(s: Progress, size: usize, written: usize) -> Progress
+    requires { ⌜ s .used + size < 2 ^ 64 ⌝ }
+    ensures { λ r. ⌜ r ≡ movedTo s size written ⌝ }
+{
+    Progress {
+        answer: 0,
+        used: s.used + size,
+        written,
+        flags: s.flags,
+    }
 }
 
 // The code stops the call.

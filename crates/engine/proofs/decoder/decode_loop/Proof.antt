@@ -1,188 +1,86 @@
-use Prim.Native.Nat.{ℕ, _-_, _+_, _≤_, _<_, _*_}
-use native.Mathlib.Omega.{arith}
-use mathlib.Core.Path.{_≡_, refl, sym, ap, _∙_}
-use lib.ListN.{length, getD}
-use borrow.Author.Needs.{needs}
-use Rattle.codepage.specs.Reading.{decoder}
-use Rattle.engine.specs.Engine.{converter}
+use Rattle.engine.proofs.PlainLaws.{plain-ends, ends-from, ends-for}
 use Rattle.engine.specs.Steps.{optional, decodeFed}
-use Rattle.engine.proofs.DecodeLaws.{pair-room, decoded-one, decoded-two, decoder-waits, decoder-lead}
-use Rattle.engine.proofs.TurnLaws.{Loop, loop-start, turn-wait, turn-two, turn-one, stop-two, stop-one, end-none, end-wait, end-last}
+use Rattle.codepage.specs.Reading.{decoder}
+use lib.ListN.{length}
+use Prim.Native.Nat.{ℕ}
+use mathlib.Core.Option.{none}
+use mathlib.Core.Bool.{Bool, false≢true}
+use borrow.Author.Needs.{needs}
 use Rattle.engine.proofs.decoder.decode_loop.Statement.{statement}
 use Rattle.engine.proofs.decoder.decode_loop.Tie as tie
 use Rattle.engine.proofs.decoder.decode_loop.Reads as reads
 use Rattle.engine.proofs.decoder.decode_loop.Lts as lts
-use Rattle.codepage.proofs.inner.byte_alone.Reads as byte-alone-reads
-use Rattle.codepage.proofs.inner.byte_pair.Reads as byte-pair-reads
-use Rattle.codepage.proofs.inner.is_lead.Reads as is-lead-reads
-use Rattle.engine.proofs.policies.decoded.Reads as decoded-reads
-use Rattle.engine.proofs.progress.take_units.Reads as take-units-reads
+use Rattle.codepage.proofs.profile.only_singles.Reads as only-singles-reads
+use Rattle.engine.proofs.decoder.decode_codes.Reads as decode-codes-reads
+use Rattle.engine.proofs.decoder.decode_singles.Reads as decode-singles-reads
+use Rattle.engine.proofs.plain.decode_plain.Reads as decode-plain-reads
 
-abbrev Inv-loop : tie.InvT-loop
-Inv-loop policy default classes singles pairs pending lead piece last out₀ waits₀ first₀ s₀ i₀ out waits first s i =
-    Loop (converter (decoder classes singles pairs) policy default) last (decodeFed classes singles pairs policy default last (length out₀) (optional pending lead) piece) out₀ piece out waits first s i
+-- src/decoder.rt:158:9
+decode-codes-requires : tie.Need-decode-codes-requires
+decode-codes-requires c κs = (c .before .before .before .before .before .before .before .pre .0, λ e. c .before .before .before .before .before .before .before .pre .1 (c .before .if1 .taken))
 
-abbrev μ-loop : tie.MeasureT-loop
-μ-loop policy default classes singles pairs pending lead piece last out₀ waits₀ first₀ s₀ i₀ out waits first s i = length piece - i
+-- src/decoder.rt:158:9
+same-length : tie.Need-same-length
+same-length c = (ends-for (λ (b : Bool). decodeFed (c .before .before .before .before .before .before .before .before .before .before .args .classes .now) (c .before .before .before .before .before .before .before .before .before .before .args .singles .now) (c .before .before .before .before .before .before .before .before .before .before .args .pairs .now) (c .before .before .before .before .before .before .before .before .before .before .args .policy) (c .before .before .before .before .before .before .before .before .before .before .args .default) (c .before .before .before .before .before .before .before .before .before .before .args .last) (length (c .before .before .before .before .before .before .before .before .before .before .args .out .now)) (optional b (c .before .before .before .before .before .before .before .before .before .before .args .lead)) (c .before .before .before .before .before .before .before .before .before .before .args .piece .now)) (c .before .before .decode-codes .ensures) (c .before .before .before .before .if1 .taken)) .same
 
--- src/decoder.rt:40:5
-loop-holds : tie.Need-loop-holds Inv-loop μ-loop
-loop-holds c = loop-start _ _ _ _ _ _ (omega (arith, c .before .before .before .before .before .good .1 .1 .1 .1 .1 .1 .1 .0)) (λ e. decoder-waits _ _ _ _ _ _ _ (c .before .before .before .before .before .pre .1 e))
+-- src/decoder.rt:158:9
+returns : tie.Need-returns
+returns c = let e = ends-for (λ (b : Bool). decodeFed (c .before .before .before .before .before .before .before .before .before .before .args .classes .now) (c .before .before .before .before .before .before .before .before .before .before .args .singles .now) (c .before .before .before .before .before .before .before .before .before .before .args .pairs .now) (c .before .before .before .before .before .before .before .before .before .before .args .policy) (c .before .before .before .before .before .before .before .before .before .before .args .default) (c .before .before .before .before .before .before .before .before .before .before .args .last) (length (c .before .before .before .before .before .before .before .before .before .before .args .out .now)) (optional b (c .before .before .before .before .before .before .before .before .before .before .args .lead)) (c .before .before .before .before .before .before .before .before .before .before .args .piece .now)) (c .before .before .decode-codes .ensures) (c .before .before .before .before .if1 .taken) in (e .result, e .laid)
 
--- src/decoder.rt:41:20
-shared-slice-read-byte : tie.Need-shared-slice-read-byte Inv-loop μ-loop
-shared-slice-read-byte c = omega arith
+-- src/decoder.rt:171:8
+decode-plain-requires : tie.Need-decode-plain-requires
+decode-plain-requires c κs = (c .before .before .before .before .before .before .before .pre .0 .all-classes, c .before .before .before .before .before .before .before .pre .0 .all-singles)
 
--- src/decoder.rt:43:17
-byte-pair-requires : tie.Need-byte-pair-requires Inv-loop μ-loop
-byte-pair-requires c κs = (c .before .before .before .before .before .before .before .before .before .pre .0 .all-classes, pair-room _ _ _ _ (c .before .before .before .before .before .before .before .before .before .pre .0) (decoder-lead _ _ _ _ _ _ (c .before .before .before .loop .inv .waiting (c .if1 .taken))))
+-- src/decoder.rt:172:9
+same-length-2 : tie.Need-same-length-2
+same-length-2 c = (ends-for (λ (b : Bool). decodeFed (c .before .before .before .before .before .before .before .before .before .before .before .args .classes .now) (c .before .before .before .before .before .before .before .before .before .before .before .args .singles .now) (c .before .before .before .before .before .before .before .before .before .before .before .args .pairs .now) (c .before .before .before .before .before .before .before .before .before .before .before .args .policy) (c .before .before .before .before .before .before .before .before .before .before .before .args .default) (c .before .before .before .before .before .before .before .before .before .before .before .args .last) (length (c .before .before .before .before .before .before .before .before .before .before .before .args .out .now)) (optional b (c .before .before .before .before .before .before .before .before .before .before .before .args .lead)) (c .before .before .before .before .before .before .before .before .before .before .before .args .piece .now)) (plain-ends (decoder (c .before .before .before .before .before .before .before .before .before .before .before .args .classes .now) (c .before .before .before .before .before .before .before .before .before .before .before .args .singles .now) (c .before .before .before .before .before .before .before .before .before .before .before .args .pairs .now)) (c .before .before .before .before .before .before .before .before .before .before .before .args .policy) (c .before .before .before .before .before .before .before .before .before .before .before .args .default) (c .before .before .before .before .before .before .before .before .before .before .before .args .last) (c .before .before .before .decode-plain .ensures (c .before .before .before .before .before .before .before .before .before .before .before .args .pairs .now)) (c .if2 .taken)) (c .before .before .before .before .before .if1 .left)) .same
 
--- src/decoder.rt:44:17
-decoded-requires : tie.Need-decoded-requires Inv-loop μ-loop
-decoded-requires c κs = search needs
+-- src/decoder.rt:172:9
+returns-2 : tie.Need-returns-2
+returns-2 c = let e = ends-for (λ (b : Bool). decodeFed (c .before .before .before .before .before .before .before .before .before .before .before .args .classes .now) (c .before .before .before .before .before .before .before .before .before .before .before .args .singles .now) (c .before .before .before .before .before .before .before .before .before .before .before .args .pairs .now) (c .before .before .before .before .before .before .before .before .before .before .before .args .policy) (c .before .before .before .before .before .before .before .before .before .before .before .args .default) (c .before .before .before .before .before .before .before .before .before .before .before .args .last) (length (c .before .before .before .before .before .before .before .before .before .before .before .args .out .now)) (optional b (c .before .before .before .before .before .before .before .before .before .before .before .args .lead)) (c .before .before .before .before .before .before .before .before .before .before .before .args .piece .now)) (plain-ends (decoder (c .before .before .before .before .before .before .before .before .before .before .before .args .classes .now) (c .before .before .before .before .before .before .before .before .before .before .before .args .singles .now) (c .before .before .before .before .before .before .before .before .before .before .before .args .pairs .now)) (c .before .before .before .before .before .before .before .before .before .before .before .args .policy) (c .before .before .before .before .before .before .before .before .before .before .before .args .default) (c .before .before .before .before .before .before .before .before .before .before .before .args .last) (c .before .before .before .decode-plain .ensures (c .before .before .before .before .before .before .before .before .before .before .before .args .pairs .now)) (c .if2 .taken)) (c .before .before .before .before .before .if1 .left) in (e .result, e .laid)
 
--- src/decoder.rt:45:13
-take-units-requires : tie.Need-take-units-requires Inv-loop μ-loop
-take-units-requires c κs = (c .before .before .before .before .before .before .loop .inv .at .within, omega (arith, c .before .before .before .before .before .before .loop .inv .few, c .before .before .before .before .before .before .loop .inv .short, c .before .before .before .before .before .loop-test))
+-- src/decoder.rt:179:8
+only-singles-requires : tie.Need-only-singles-requires
+only-singles-requires c κs = c .before .before .before .before .before .before .before .before .before .before .before .pre .0 .all-classes
 
--- src/decoder.rt:47:17
-same-length : tie.Need-same-length Inv-loop μ-loop
-same-length c = c .before .before .before .before .take-units .ensures .same ∙ c .before .before .before .before .before .before .before .before .before .before .before .loop .inv .at .same
+-- src/decoder.rt:180:9
+decode-singles-requires : tie.Need-decode-singles-requires
+decode-singles-requires c κs = ((c .before .before .before .before .before .before .before .before .before .before .before .before .before .before .pre .0 .all-classes, c .before .before .before .before .before .before .before .before .before .before .before .before .before .before .pre .0 .all-singles), c .before .before .only-singles .ensures (c .before .if3 .taken))
 
--- src/decoder.rt:47:17
-returns : tie.Need-returns Inv-loop μ-loop
-returns c = let e = stop-two (c .before .before .before .before .before .before .before .before .before .before .before .loop .inv) (c .before .before .before .before .take-units .ensures) (c .before .before .before .before .before .before .before .before .if1 .taken) (c .before .before .before .before .before .before .before .before .before .before .loop-test .taken) (decoded-two _ (c .before .before .before .before .before .before .before .before .before .before .before .before .before .before .before .before .before .args .singles .now) _ _ _ _ _ _ _ (c .before .before .before .before .before .before .before .byte-pair .ensures) (c .before .before .before .before .before .before .decoded .ensures)) (c .if2 .taken) in (e .result, e .laid)
+-- src/decoder.rt:180:9
+same-length-3 : tie.Need-same-length-3
+same-length-3 c = (ends-for (λ (b : Bool). decodeFed (c .before .before .before .before .before .before .before .before .before .before .before .before .before .before .before .before .before .args .classes .now) (c .before .before .before .before .before .before .before .before .before .before .before .before .before .before .before .before .before .args .singles .now) (c .before .before .before .before .before .before .before .before .before .before .before .before .before .before .before .before .before .args .pairs .now) (c .before .before .before .before .before .before .before .before .before .before .before .before .before .before .before .before .before .args .policy) (c .before .before .before .before .before .before .before .before .before .before .before .before .before .before .before .before .before .args .default) (c .before .before .before .before .before .before .before .before .before .before .before .before .before .before .before .before .before .args .last) (length (c .before .before .before .before .before .before .before .before .before .before .before .before .before .before .before .before .before .args .out .now)) (optional b (c .before .before .before .before .before .before .before .before .before .before .before .before .before .before .before .before .before .args .lead)) (c .before .before .before .before .before .before .before .before .before .before .before .before .before .before .before .before .before .args .piece .now)) (ends-from (λ (room : ℕ). decodeFed (c .before .before .before .before .before .before .before .before .before .before .before .before .before .before .before .before .before .args .classes .now) (c .before .before .before .before .before .before .before .before .before .before .before .before .before .before .before .before .before .args .singles .now) (c .before .before .before .before .before .before .before .before .before .before .before .before .before .before .before .before .before .args .pairs .now) (c .before .before .before .before .before .before .before .before .before .before .before .before .before .before .before .before .before .args .policy) (c .before .before .before .before .before .before .before .before .before .before .before .before .before .before .before .before .before .args .default) (c .before .before .before .before .before .before .before .before .before .before .before .before .before .before .before .before .before .args .last) room none (c .before .before .before .before .before .before .before .before .before .before .before .before .before .before .before .before .before .args .piece .now)) (c .before .before .decode-singles .ensures) (c .before .before .before .before .before .before .before .before .before .decode-plain .ensures (c .before .before .before .before .before .before .before .before .before .before .before .before .before .before .before .before .before .args .pairs .now) .left (c .before .before .before .before .before .before .if2 .left))) (c .before .before .before .before .before .before .before .before .before .before .before .if1 .left)) .same
 
--- src/decoder.rt:50:13
-add-i : tie.Need-add-i Inv-loop μ-loop
-add-i c = omega (arith, c .before .before .before .before .before .before .before .before .before .before .before .loop .inv .short, c .before .before .before .before .before .before .before .before .before .before .loop-test .taken)
+-- src/decoder.rt:180:9
+returns-3 : tie.Need-returns-3
+returns-3 c = let e = ends-for (λ (b : Bool). decodeFed (c .before .before .before .before .before .before .before .before .before .before .before .before .before .before .before .before .before .args .classes .now) (c .before .before .before .before .before .before .before .before .before .before .before .before .before .before .before .before .before .args .singles .now) (c .before .before .before .before .before .before .before .before .before .before .before .before .before .before .before .before .before .args .pairs .now) (c .before .before .before .before .before .before .before .before .before .before .before .before .before .before .before .before .before .args .policy) (c .before .before .before .before .before .before .before .before .before .before .before .before .before .before .before .before .before .args .default) (c .before .before .before .before .before .before .before .before .before .before .before .before .before .before .before .before .before .args .last) (length (c .before .before .before .before .before .before .before .before .before .before .before .before .before .before .before .before .before .args .out .now)) (optional b (c .before .before .before .before .before .before .before .before .before .before .before .before .before .before .before .before .before .args .lead)) (c .before .before .before .before .before .before .before .before .before .before .before .before .before .before .before .before .before .args .piece .now)) (ends-from (λ (room : ℕ). decodeFed (c .before .before .before .before .before .before .before .before .before .before .before .before .before .before .before .before .before .args .classes .now) (c .before .before .before .before .before .before .before .before .before .before .before .before .before .before .before .before .before .args .singles .now) (c .before .before .before .before .before .before .before .before .before .before .before .before .before .before .before .before .before .args .pairs .now) (c .before .before .before .before .before .before .before .before .before .before .before .before .before .before .before .before .before .args .policy) (c .before .before .before .before .before .before .before .before .before .before .before .before .before .before .before .before .before .args .default) (c .before .before .before .before .before .before .before .before .before .before .before .before .before .before .before .before .before .args .last) room none (c .before .before .before .before .before .before .before .before .before .before .before .before .before .before .before .before .before .args .piece .now)) (c .before .before .decode-singles .ensures) (c .before .before .before .before .before .before .before .before .before .decode-plain .ensures (c .before .before .before .before .before .before .before .before .before .before .before .before .before .before .before .before .before .args .pairs .now) .left (c .before .before .before .before .before .before .if2 .left))) (c .before .before .before .before .before .before .before .before .before .before .before .if1 .left) in (e .result, e .laid)
 
--- src/decoder.rt:40:5
-loop-less : tie.Need-loop-less Inv-loop μ-loop
-loop-less c = omega arith
+-- src/decoder.rt:182:5
+decode-codes-requires-2 : tie.Need-decode-codes-requires-2
+decode-codes-requires-2 c κs = (c .before .before .before .before .before .before .before .before .before .before .before .before .before .before .pre .0, λ e. absurd (false≢true e))
 
--- src/decoder.rt:40:5
-loop-again : tie.Need-loop-again Inv-loop μ-loop
-loop-again c = turn-two (c .before .before .before .before .before .before .before .before .before .before .before .loop .inv) (c .before .before .before .before .take-units .ensures) (c .before .before .before .before .before .before .before .before .if1 .taken) (c .before .before .before .before .before .before .before .before .before .before .loop-test .taken) (decoded-two _ (c .before .before .before .before .before .before .before .before .before .before .before .before .before .before .before .before .before .args .singles .now) _ _ _ _ _ _ _ (c .before .before .before .before .before .before .before .byte-pair .ensures) (c .before .before .before .before .before .before .decoded .ensures)) (c .if2 .left)
+-- src/decoder.rt:140:1
+same-length-4 : tie.Need-same-length-4
+same-length-4 c = (ends-for (λ (b : Bool). decodeFed (c .before .before .before .before .before .before .before .before .before .before .before .before .before .before .before .before .before .args .classes .now) (c .before .before .before .before .before .before .before .before .before .before .before .before .before .before .before .before .before .args .singles .now) (c .before .before .before .before .before .before .before .before .before .before .before .before .before .before .before .before .before .args .pairs .now) (c .before .before .before .before .before .before .before .before .before .before .before .before .before .before .before .before .before .args .policy) (c .before .before .before .before .before .before .before .before .before .before .before .before .before .before .before .before .before .args .default) (c .before .before .before .before .before .before .before .before .before .before .before .before .before .before .before .before .before .args .last) (length (c .before .before .before .before .before .before .before .before .before .before .before .before .before .before .before .before .before .args .out .now)) (optional b (c .before .before .before .before .before .before .before .before .before .before .before .before .before .before .before .before .before .args .lead)) (c .before .before .before .before .before .before .before .before .before .before .before .before .before .before .before .before .before .args .piece .now)) (ends-from (λ (room : ℕ). decodeFed (c .before .before .before .before .before .before .before .before .before .before .before .before .before .before .before .before .before .args .classes .now) (c .before .before .before .before .before .before .before .before .before .before .before .before .before .before .before .before .before .args .singles .now) (c .before .before .before .before .before .before .before .before .before .before .before .before .before .before .before .before .before .args .pairs .now) (c .before .before .before .before .before .before .before .before .before .before .before .before .before .before .before .before .before .args .policy) (c .before .before .before .before .before .before .before .before .before .before .before .before .before .before .before .before .before .args .default) (c .before .before .before .before .before .before .before .before .before .before .before .before .before .before .before .before .before .args .last) room none (c .before .before .before .before .before .before .before .before .before .before .before .before .before .before .before .before .before .args .piece .now)) (c .before .before .decode-codes2 .ensures) (c .before .before .before .before .before .before .before .before .before .decode-plain .ensures (c .before .before .before .before .before .before .before .before .before .before .before .before .before .before .before .before .before .args .pairs .now) .left (c .before .before .before .before .before .before .if2 .left))) (c .before .before .before .before .before .before .before .before .before .before .before .if1 .left)) .same
 
--- src/decoder.rt:51:19
-is-lead-requires : tie.Need-is-lead-requires Inv-loop μ-loop
-is-lead-requires c κs = c .before .before .before .before .before .before .before .before .before .pre .0 .all-classes
-
--- src/decoder.rt:54:13
-add-i-2 : tie.Need-add-i-2 Inv-loop μ-loop
-add-i-2 c = omega arith
-
--- src/decoder.rt:40:5
-loop-less-2 : tie.Need-loop-less-2 Inv-loop μ-loop
-loop-less-2 c = omega arith
-
--- src/decoder.rt:40:5
-loop-again-2 : tie.Need-loop-again-2 Inv-loop μ-loop
-loop-again-2 c = turn-wait (c .before .before .before .before .before .loop .inv) (c .before .before .if1 .left) (c .before .before .before .before .loop-test .taken) (decoder-waits _ _ _ _ _ _ _ (sym (c .before .is-lead .ensures) ∙ c .if3 .taken))
-
--- src/decoder.rt:56:17
-byte-alone-requires : tie.Need-byte-alone-requires Inv-loop μ-loop
-byte-alone-requires c κs = (c .before .before .before .before .before .before .before .before .before .before .before .pre .0 .all-classes, c .before .before .before .before .before .before .before .before .before .before .before .pre .0 .all-singles)
-
--- src/decoder.rt:57:17
-decoded-requires-2 : tie.Need-decoded-requires-2 Inv-loop μ-loop
-decoded-requires-2 c κs = search needs
-
--- src/decoder.rt:58:13
-take-units-requires-2 : tie.Need-take-units-requires-2 Inv-loop μ-loop
-take-units-requires-2 c κs = (c .before .before .before .before .before .before .before .before .loop .inv .at .within, omega (arith, c .before .before .before .before .before .before .before .before .loop .inv .few, c .before .before .before .before .before .before .before .before .loop .inv .short, c .before .before .before .before .before .before .before .loop-test))
-
--- src/decoder.rt:60:17
-same-length-2 : tie.Need-same-length-2 Inv-loop μ-loop
-same-length-2 c = c .before .before .before .before .take-units2 .ensures .same ∙ c .before .before .before .before .before .before .before .before .before .before .before .before .before .loop .inv .at .same
-
--- src/decoder.rt:60:17
-returns-2 : tie.Need-returns-2 Inv-loop μ-loop
-returns-2 c = let e = stop-one (c .before .before .before .before .before .before .before .before .before .before .before .before .before .loop .inv) (c .before .before .before .before .take-units2 .ensures) (c .before .before .before .before .before .before .before .before .before .before .if1 .left) (c .before .before .before .before .before .before .before .before .before .before .before .before .loop-test .taken) (decoder-waits _ _ _ _ _ _ _ (sym (c .before .before .before .before .before .before .before .before .before .is-lead .ensures) ∙ c .before .before .before .before .before .before .before .before .if3 .left)) (decoded-one _ _ (c .before .before .before .before .before .before .before .before .before .before .before .before .before .before .before .before .before .before .before .args .pairs .now) _ _ _ _ _ (c .before .before .before .before .before .before .before .byte-alone .ensures) (c .before .before .before .before .before .before .decoded2 .ensures)) (c .if4 .taken) in (e .result, e .laid)
-
--- src/decoder.rt:62:13
-add-i-3 : tie.Need-add-i-3 Inv-loop μ-loop
-add-i-3 c = omega (arith, c .before .before .before .before .before .before .before .before .before .before .before .before .before .loop .inv .short, c .before .before .before .before .before .before .before .before .before .before .before .before .loop-test .taken)
-
--- src/decoder.rt:40:5
-loop-less-3 : tie.Need-loop-less-3 Inv-loop μ-loop
-loop-less-3 c = omega arith
-
--- src/decoder.rt:40:5
-loop-again-3 : tie.Need-loop-again-3 Inv-loop μ-loop
-loop-again-3 c = turn-one (c .before .before .before .before .before .before .before .before .before .before .before .before .before .loop .inv) (c .before .before .before .before .take-units2 .ensures) (c .before .before .before .before .before .before .before .before .before .before .if1 .left) (c .before .before .before .before .before .before .before .before .before .before .before .before .loop-test .taken) (decoder-waits _ _ _ _ _ _ _ (sym (c .before .before .before .before .before .before .before .before .before .is-lead .ensures) ∙ c .before .before .before .before .before .before .before .before .if3 .left)) (decoded-one _ _ (c .before .before .before .before .before .before .before .before .before .before .before .before .before .before .before .before .before .before .before .args .pairs .now) _ _ _ _ _ (c .before .before .before .before .before .before .before .byte-alone .ensures) (c .before .before .before .before .before .before .decoded2 .ensures)) (c .if4 .left)
-
--- src/decoder.rt:67:17
-byte-alone-requires-2 : tie.Need-byte-alone-requires-2 Inv-loop μ-loop
-byte-alone-requires-2 c κs = (c .before .before .before .before .before .before .before .before .before .pre .0 .all-classes, c .before .before .before .before .before .before .before .before .before .pre .0 .all-singles)
-
--- src/decoder.rt:68:17
-decoded-requires-3 : tie.Need-decoded-requires-3 Inv-loop μ-loop
-decoded-requires-3 c κs = search needs
-
--- src/decoder.rt:69:13
-take-units-requires-3 : tie.Need-take-units-requires-3 Inv-loop μ-loop
-take-units-requires-3 c κs = (c .before .before .before .before .before .before .loop .inv .at .within, omega (arith, c .before .before .before .before .before .before .loop .inv .few, c .before .before .before .before .before .before .loop .inv .short, c .before .before .before .before .before .before .loop .inv .inside))
-
--- src/decoder.rt:69:13
-same-length-3 : tie.Need-same-length-3 Inv-loop μ-loop
-same-length-3 c = c .before .before .take-units3 .ensures .same ∙ c .before .before .before .before .before .before .before .before .before .loop .inv .at .same
-
--- src/decoder.rt:69:13
-returns-3 : tie.Need-returns-3 Inv-loop μ-loop
-returns-3 c = let e = end-last (c .before .before .before .before .before .before .before .before .before .loop .inv) (c .before .before .take-units3 .ensures) (c .before .before .before .before .before .before .before .if5 .taken) (c .before .before .before .before .before .before .before .before .loop-test .left) (c .before .before .before .before .before .before .if6 .taken) (decoded-one _ _ (c .before .before .before .before .before .before .before .before .before .before .before .before .before .before .before .args .pairs .now) _ _ _ _ _ (c .before .before .before .before .before .byte-alone2 .ensures) (c .before .before .before .before .decoded3 .ensures)) in (e .result, e .laid)
-
--- src/decoder.rt:71:9
-same-length-4 : tie.Need-same-length-4 Inv-loop μ-loop
-same-length-4 c = c .before .before .before .loop .inv .at .same
-
--- src/decoder.rt:71:9
-returns-4 : tie.Need-returns-4 Inv-loop μ-loop
-returns-4 c = let e = end-wait (c .before .before .before .loop .inv) (c .before .if5 .taken) (c .before .before .loop-test .left) (c .if6 .left) in (e .result, e .laid)
-
--- src/decoder.rt:14:1
-same-length-5 : tie.Need-same-length-5 Inv-loop μ-loop
-same-length-5 c = c .before .before .loop .inv .at .same
-
--- src/decoder.rt:14:1
-returns-5 : tie.Need-returns-5 Inv-loop μ-loop
-returns-5 c = let e = end-none (c .before .before .loop .inv) (c .if5 .left) (c .before .loop-test .left) in (e .result, e .laid)
+-- src/decoder.rt:140:1
+returns-4 : tie.Need-returns-4
+returns-4 c = let e = ends-for (λ (b : Bool). decodeFed (c .before .before .before .before .before .before .before .before .before .before .before .before .before .before .before .before .before .args .classes .now) (c .before .before .before .before .before .before .before .before .before .before .before .before .before .before .before .before .before .args .singles .now) (c .before .before .before .before .before .before .before .before .before .before .before .before .before .before .before .before .before .args .pairs .now) (c .before .before .before .before .before .before .before .before .before .before .before .before .before .before .before .before .before .args .policy) (c .before .before .before .before .before .before .before .before .before .before .before .before .before .before .before .before .before .args .default) (c .before .before .before .before .before .before .before .before .before .before .before .before .before .before .before .before .before .args .last) (length (c .before .before .before .before .before .before .before .before .before .before .before .before .before .before .before .before .before .args .out .now)) (optional b (c .before .before .before .before .before .before .before .before .before .before .before .before .before .before .before .before .before .args .lead)) (c .before .before .before .before .before .before .before .before .before .before .before .before .before .before .before .before .before .args .piece .now)) (ends-from (λ (room : ℕ). decodeFed (c .before .before .before .before .before .before .before .before .before .before .before .before .before .before .before .before .before .args .classes .now) (c .before .before .before .before .before .before .before .before .before .before .before .before .before .before .before .before .before .args .singles .now) (c .before .before .before .before .before .before .before .before .before .before .before .before .before .before .before .before .before .args .pairs .now) (c .before .before .before .before .before .before .before .before .before .before .before .before .before .before .before .before .before .args .policy) (c .before .before .before .before .before .before .before .before .before .before .before .before .before .before .before .before .before .args .default) (c .before .before .before .before .before .before .before .before .before .before .before .before .before .before .before .before .before .args .last) room none (c .before .before .before .before .before .before .before .before .before .before .before .before .before .before .before .before .before .args .piece .now)) (c .before .before .decode-codes2 .ensures) (c .before .before .before .before .before .before .before .before .before .decode-plain .ensures (c .before .before .before .before .before .before .before .before .before .before .before .before .before .before .before .before .before .args .pairs .now) .left (c .before .before .before .before .before .before .if2 .left))) (c .before .before .before .before .before .before .before .before .before .before .before .if1 .left) in (e .result, e .laid)
 
 pub decode-loop-spec : {M : Type 1} → statement M
 decode-loop-spec =
     tie.close
     (tie.spec
-    Inv-loop
-    μ-loop
-    loop-holds
-    shared-slice-read-byte
-    byte-pair-requires
-    decoded-requires
-    take-units-requires
+    decode-codes-requires
     same-length
     returns
-    add-i
-    loop-less
-    loop-again
-    is-lead-requires
-    add-i-2
-    loop-less-2
-    loop-again-2
-    byte-alone-requires
-    decoded-requires-2
-    take-units-requires-2
+    decode-plain-requires
     same-length-2
     returns-2
-    add-i-3
-    loop-less-3
-    loop-again-3
-    byte-alone-requires-2
-    decoded-requires-3
-    take-units-requires-3
+    only-singles-requires
+    decode-singles-requires
     same-length-3
     returns-3
+    decode-codes-requires-2
     same-length-4
-    returns-4
-    same-length-5
-    returns-5)
+    returns-4)
