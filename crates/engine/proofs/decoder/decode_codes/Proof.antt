@@ -116,7 +116,9 @@ decoded-requires-2 c κs = search needs
 
 -- src/decoder.rt:115:21
 take-units-requires-2 : tie.Need-take-units-requires-2 Inv-loop μ-loop
-take-units-requires-2 c κs = ((turn-ran (c .before .before .before .before .before .before .before .before .before .before .before .before .before .before .before .before .before .before .before .before .before .before .args .policy) (c .before .before .before .before .before .before .before .before .before .before .before .before .before .before .before .before .before .before .before .before .before .before .args .default) _ (c .before .before .before .before .before .before .before .before .before .before .before .before .before .before .before .loop .inv) (c .before .before .before .before .before .before .before .before .before .before .before .before .before .if1 .left) (c .before .before .before .before .before .before .before .before .before .before .before .run-of-codes .ensures) (omega (arith, c .before .before .before .before .before .before .before .before .before .before .before .run-of-codes .ensures .ahead)) (c .before .before .before .before .before .before .before .moved .ensures)) .at .within, omega (arith, (turn-ran (c .before .before .before .before .before .before .before .before .before .before .before .before .before .before .before .before .before .before .before .before .before .before .args .policy) (c .before .before .before .before .before .before .before .before .before .before .before .before .before .before .before .before .before .before .before .before .before .before .args .default) _ (c .before .before .before .before .before .before .before .before .before .before .before .before .before .before .before .loop .inv) (c .before .before .before .before .before .before .before .before .before .before .before .before .before .if1 .left) (c .before .before .before .before .before .before .before .before .before .before .before .run-of-codes .ensures) (omega (arith, c .before .before .before .before .before .before .before .before .before .before .before .run-of-codes .ensures .ahead)) (c .before .before .before .before .before .before .before .moved .ensures)) .few, (turn-ran (c .before .before .before .before .before .before .before .before .before .before .before .before .before .before .before .before .before .before .before .before .before .before .args .policy) (c .before .before .before .before .before .before .before .before .before .before .before .before .before .before .before .before .before .before .before .before .before .before .args .default) _ (c .before .before .before .before .before .before .before .before .before .before .before .before .before .before .before .loop .inv) (c .before .before .before .before .before .before .before .before .before .before .before .before .before .if1 .left) (c .before .before .before .before .before .before .before .before .before .before .before .run-of-codes .ensures) (omega (arith, c .before .before .before .before .before .before .before .before .before .before .before .run-of-codes .ensures .ahead)) (c .before .before .before .before .before .before .before .moved .ensures)) .short, c .before .before .before .before .before .before .if3 .taken))
+take-units-requires-2 c κs =
+    let g = (turn-ran (c .before .before .before .before .before .before .before .before .before .before .before .before .before .before .before .before .before .before .before .before .before .before .args .policy) (c .before .before .before .before .before .before .before .before .before .before .before .before .before .before .before .before .before .before .before .before .before .before .args .default) _ (c .before .before .before .before .before .before .before .before .before .before .before .before .before .before .before .loop .inv) (c .before .before .before .before .before .before .before .before .before .before .before .before .before .if1 .left) (c .before .before .before .before .before .before .before .before .before .before .before .run-of-codes .ensures) (omega (arith, c .before .before .before .before .before .before .before .before .before .before .before .run-of-codes .ensures .ahead)) (c .before .before .before .before .before .before .before .moved .ensures)) in
+    (g .at .within, omega (arith, g .few, g .short, c .before .before .before .before .before .before .if3 .taken))
 
 -- src/decoder.rt:117:25
 same-length-2 : tie.Need-same-length-2 Inv-loop μ-loop

@@ -75,7 +75,9 @@ encoded-requires c κs = c .before .before .before .before .before .before .befo
 
 -- src/encoder.rt:55:13
 take-bytes-requires : tie.Need-take-bytes-requires Inv-loop μ-loop
-take-bytes-requires c κs = ((turn-ran (c .before .before .before .before .before .before .before .before .before .before .before .before .before .before .before .before .before .before .before .before .before .before .args .policy) (c .before .before .before .before .before .before .before .before .before .before .before .before .before .before .before .before .before .before .before .before .before .before .args .default) _ (c .before .before .before .before .before .before .before .before .before .before .before .before .loop .inv) refl (c .before .before .before .before .before .before .before .before .before .run-of-coded .ensures) (omega (arith, c .before .before .before .before .before .before .before .before .before .run-of-coded .ensures .ahead)) (c .before .before .before .before .before .moved .ensures)) .at .within, omega (arith, (turn-ran (c .before .before .before .before .before .before .before .before .before .before .before .before .before .before .before .before .before .before .before .before .before .before .args .policy) (c .before .before .before .before .before .before .before .before .before .before .before .before .before .before .before .before .before .before .before .before .before .before .args .default) _ (c .before .before .before .before .before .before .before .before .before .before .before .before .loop .inv) refl (c .before .before .before .before .before .before .before .before .before .run-of-coded .ensures) (omega (arith, c .before .before .before .before .before .before .before .before .before .run-of-coded .ensures .ahead)) (c .before .before .before .before .before .moved .ensures)) .few, (turn-ran (c .before .before .before .before .before .before .before .before .before .before .before .before .before .before .before .before .before .before .before .before .before .before .args .policy) (c .before .before .before .before .before .before .before .before .before .before .before .before .before .before .before .before .before .before .before .before .before .before .args .default) _ (c .before .before .before .before .before .before .before .before .before .before .before .before .loop .inv) refl (c .before .before .before .before .before .before .before .before .before .run-of-coded .ensures) (omega (arith, c .before .before .before .before .before .before .before .before .before .run-of-coded .ensures .ahead)) (c .before .before .before .before .before .moved .ensures)) .short, c .before .before .before .before .if2 .taken))
+take-bytes-requires c κs =
+    let g = (turn-ran (c .before .before .before .before .before .before .before .before .before .before .before .before .before .before .before .before .before .before .before .before .before .before .args .policy) (c .before .before .before .before .before .before .before .before .before .before .before .before .before .before .before .before .before .before .before .before .before .before .args .default) _ (c .before .before .before .before .before .before .before .before .before .before .before .before .loop .inv) refl (c .before .before .before .before .before .before .before .before .before .run-of-coded .ensures) (omega (arith, c .before .before .before .before .before .before .before .before .before .run-of-coded .ensures .ahead)) (c .before .before .before .before .before .moved .ensures)) in
+    (g .at .within, omega (arith, g .few, g .short, c .before .before .before .before .if2 .taken))
 
 -- src/encoder.rt:57:17
 same-length-2 : tie.Need-same-length-2 Inv-loop μ-loop
