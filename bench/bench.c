@@ -1,0 +1,278 @@
+/* Throughput of the till converter and its peers: glibc's iconv, ICU and encoding_rs, in one interleaved run.
+ * Use: bench TEXTS TABLES PASSES. TEXTS has make_texts.py's files, TABLES the table images. */
+#include <errno.h>
+#include <iconv.h>
+#include <unicode/ucnv.h>
+#include "common.h"
+
+#define PEERS 4 /* the till converter is the first */
+#define ENCODE TILL_ENCODING
+
+static const char *const peer_names[PEERS] = {"till", "iconv", "ICU", "encoding_rs"};
+static table_set pages[2]; /* 932, 1252 */
+
+/* The state that a converter keeps from block to block. */
+typedef struct {
+    int direction;
+    const table_set *tables;
+    till_run run;
+    iconv_t iconv;
+    size_t unread; /* units that iconv left unread at a block's end: the next block begins with them */
+    UConverter *icu;
+    void *ers;
+} state;
+
+void *ers_decoder(uint16_t page);
+void *ers_encoder(uint16_t page);
+void ers_reset_decoder(void *d, uint16_t page);
+void ers_reset_encoder(void *e, uint16_t page);
+ptrdiff_t ers_decode(void *d, const uint8_t *src, size_t n, int last, uint16_t *dst, size_t room);
+ptrdiff_t ers_encode(void *e, const uint16_t *src, size_t n, int last, uint8_t *dst, size_t room);
+
+/* Each feed takes n units of input (bytes or UTF-16 units) and gives the number of units of output written. */
+static size_t feed_till(state *s, const void *in, size_t n, int last, void *out, size_t room)
+{
+    till_outcome o;
+    if (s->direction == ENCODE)
+        o = till_encode(s->run, TABLES(s->tables), in, n, (uint8_t)last, out, room);
+    else
+        o = till_decode(s->run, TABLES(s->tables), in, n, (uint8_t)last, out, room);
+    if (o.number > 1 || o.read != n)
+        die("the till converter did not read a block");
+    s->run = o.run;
+    return o.written;
+}
+
+/* iconv stops at each bad place: the caller writes the default and goes on one unit further, as callers of iconv do. */
+static size_t feed_iconv(state *s, const void *in, size_t n, int last, void *out, size_t room)
+{
+    size_t unit = s->direction == ENCODE ? 2 : 1, wide = s->direction == ENCODE ? 1 : 2;
+    char *from = (char *)in, *to = out;
+    size_t left = n * unit, space = room * wide;
+    s->unread = 0;
+    for (;;) {
+        if (iconv(s->iconv, &from, &left, &to, &space) != (size_t)-1)
+            break;
+        if (errno == EINVAL && !last) {
+            s->unread = left / unit;
+            break;
+        }
+        if ((errno != EILSEQ && errno != EINVAL) || left < unit)
+            die("iconv did not read a block");
+        from += unit;
+        left -= unit;
+        if (s->direction == ENCODE) {
+            *to++ = (char)s->tables->default_byte;
+        } else {
+            *to++ = (char)s->tables->default_unit;
+            *to++ = (char)(s->tables->default_unit >> 8);
+        }
+        space -= wide;
+    }
+    if (last && iconv(s->iconv, NULL, NULL, &to, &space) == (size_t)-1)
+        die("iconv did not end");
+    return (size_t)(to - (char *)out) / wide;
+}
+
+static size_t feed_icu(state *s, const void *in, size_t n, int last, void *out, size_t room)
+{
+    UErrorCode error = U_ZERO_ERROR;
+    size_t written;
+    if (s->direction == ENCODE) {
+        const UChar *from = in;
+        char *to = out;
+        ucnv_fromUnicode(s->icu, &to, to + room, &from, from + n, NULL, (UBool)last, &error);
+        written = (size_t)(to - (char *)out);
+    } else {
+        const char *from = in;
+        UChar *to = out;
+        ucnv_toUnicode(s->icu, &to, to + room, &from, from + n, NULL, (UBool)last, &error);
+        written = (size_t)(to - (UChar *)out);
+    }
+    if (U_FAILURE(error))
+        die("ICU did not read a block");
+    return written;
+}
+
+static size_t feed_ers(state *s, const void *in, size_t n, int last, void *out, size_t room)
+{
+    ptrdiff_t written =
+        s->direction == ENCODE ? ers_encode(s->ers, in, n, last, out, room) : ers_decode(s->ers, in, n, last, out, room);
+    if (written < 0)
+        die("encoding_rs did not read a block");
+    return (size_t)written;
+}
+
+typedef size_t feeder(state *, const void *, size_t, int, void *, size_t);
+static feeder *const feeders[PEERS] = {feed_till, feed_iconv, feed_icu, feed_ers};
+
+static void open_state(state *s, const table_set *t, int direction)
+{
+    UErrorCode error = U_ZERO_ERROR;
+    const char *name = t->page == 932 ? "CP932" : "CP1252";
+    s->direction = direction;
+    s->tables = t;
+    s->iconv = direction == ENCODE ? iconv_open(name, "UTF-16LE") : iconv_open("UTF-16LE", name);
+    if (s->iconv == (iconv_t)-1)
+        die("iconv has no such page");
+    s->icu = ucnv_open(t->page == 932 ? "ibm-943_P15A-2003" : "ibm-5348_P100-1997", &error);
+    if (U_FAILURE(error))
+        die("ICU has no such page");
+    s->ers = direction == ENCODE ? ers_encoder(t->page) : ers_decoder(t->page);
+}
+
+static void reset_state(state *s, int peer)
+{
+    if (peer == 0)
+        s->run = fresh_run(s->tables, (uint8_t)s->direction);
+    else if (peer == 1)
+        iconv(s->iconv, NULL, NULL, NULL, NULL);
+    else if (peer == 2)
+        ucnv_reset(s->icu);
+    else if (s->direction == ENCODE)
+        ers_reset_encoder(s->ers, s->tables->page);
+    else
+        ers_reset_decoder(s->ers, s->tables->page);
+}
+
+/* A text through a converter in blocks of `block` units. With `step` 1 the output is joined, with 0 every block is written to the same place. */
+static size_t pass(state *s, int peer, const uint8_t *text, size_t units, size_t block, uint8_t *out, int step)
+{
+    size_t unit = s->direction == ENCODE ? 2 : 1, wide = s->direction == ENCODE ? 1 : 2;
+    size_t at = 0, written = 0;
+    reset_state(s, peer);
+    s->unread = 0;
+    while (at < units) {
+        size_t n = units - at < block ? units - at : block;
+        written += feeders[peer](s, text + at * unit, n, at + n == units, out + (step ? written * wide : 0), 2 * n + 16);
+        at += n - s->unread;
+    }
+    return written;
+}
+
+static const struct {
+    const char *name;
+    int page, damaged;
+} texts[4] = {{"ascii", 0, 0}, {"japanese", 0, 0}, {"latin", 1, 0}, {"damaged", 0, 1}};
+
+/* How many codes (decoding: single bytes and pairs) or units (encoding) a peer converts as the till converter does. */
+static void agreement(const table_set *t, int direction, int peer)
+{
+    state s;
+    size_t same = 0, other = 0, only_till = 0, only_peer = 0;
+    uint8_t in[2], out[2][64];
+    size_t written[2];
+    open_state(&s, t, direction);
+    for (unsigned code = 0; code < 65536; code++) {
+        size_t n = 1;
+        int bad[2];
+        if (direction == ENCODE) {
+            in[0] = (uint8_t)code;
+            in[1] = (uint8_t)(code >> 8);
+        } else if (code < 256) {
+            if (t->classes[code] & 2)
+                continue;
+            in[0] = (uint8_t)code;
+        } else {
+            if (!(t->classes[code >> 8] & 2) || !(t->classes[code & 255] & 4))
+                continue;
+            in[0] = (uint8_t)(code >> 8);
+            in[1] = (uint8_t)code;
+            n = 2;
+        }
+        for (int k = 0; k < 2; k++) {
+            int p = k ? peer : 0;
+            memset(out[k], 0, sizeof out[k]);
+            written[k] = pass(&s, p, in, n, n, out[k], 1);
+            if (direction == ENCODE)
+                bad[k] = written[k] == 0 || (written[k] == 1 && (out[k][0] == '?' || out[k][0] == 0x1a || out[k][0] == 0x7f) && code != out[k][0]) ||
+                    (written[k] == 2 && out[k][0] == 0xfc && out[k][1] == 0xfc);
+            else
+                bad[k] = written[k] != 1 || (out[k][0] == 0xfd && out[k][1] == 0xff) ||
+                    (code != 0x8145 && out[k][0] == (uint8_t)t->default_unit && out[k][1] == t->default_unit >> 8 && n == 2) ||
+                    (n == 1 && code >= 128 && out[k][0] == (uint8_t)t->default_unit && out[k][1] == t->default_unit >> 8);
+        }
+        if (bad[0] && bad[1])
+            continue;
+        if (bad[0])
+            only_peer++;
+        else if (bad[1])
+            only_till++;
+        else if (written[0] == written[1] && !memcmp(out[0], out[1], written[0] * (direction == ENCODE ? 1 : 2)))
+            same++;
+        else
+            other++;
+    }
+    printf("| %u | %s | %s | %zu | %zu | %zu | %zu |\n", t->page, direction == ENCODE ? "encode" : "decode", peer_names[peer], same, other,
+        only_till, only_peer);
+}
+
+int main(int argc, char **argv)
+{
+    char name[4096];
+    if (argc != 4)
+        die("use: bench TEXTS TABLES PASSES");
+    int passes = atoi(argv[3]);
+    snprintf(name, sizeof name, "%s/cp932.tbl", argv[2]);
+    pages[0] = read_image(name);
+    snprintf(name, sizeof name, "%s/cp1252.tbl", argv[2]);
+    pages[1] = read_image(name);
+
+    printf("Codes (decoding) and units (encoding) one by one:\n\n");
+    printf("| Page | Direction | Peer | Same | Other | Only till | Only peer |\n|---|---|---|---|---|---|---|\n");
+    for (int page = 0; page < 2; page++)
+        for (int direction = 0; direction < 2; direction++)
+            for (int peer = 1; peer < PEERS; peer++)
+                agreement(&pages[page], direction, peer);
+
+    printf("\nMB/s of input; in parentheses till's speed over the peer's (`!`: below 1.0, for iconv below 2.0):\n\n");
+    printf("| Text | Direction | Block | till | iconv | ICU | encoding_rs |\n|---|---|---|---|---|---|---|\n");
+    int low = 0, differing = 0;
+    for (int direction = 0; direction < 2; direction++)
+        for (int k = 0; k < 4; k++) {
+            size_t size, unit = direction == ENCODE ? 2 : 1;
+            snprintf(name, sizeof name, "%s/%s.%s", argv[1], texts[k].name, direction == ENCODE ? "units" : "bytes");
+            uint8_t *text = read_file(name, &size);
+            size_t units = size / unit;
+            uint8_t *outs[PEERS];
+            size_t written[PEERS];
+            state s;
+            open_state(&s, &pages[texts[k].page], direction);
+            for (size_t block = 512; block <= 65536; block *= 128) {
+                double best[PEERS];
+                for (int p = 0; p < PEERS; p++) {
+                    outs[p] = malloc(4 * size + 1024);
+                    written[p] = pass(&s, p, text, units, block / unit, outs[p], 1);
+                    best[p] = 1e9;
+                }
+                for (int p = 1; p < PEERS; p++)
+                    if (!texts[k].damaged &&
+                        (written[p] != written[0] || memcmp(outs[p], outs[0], written[0] * (direction == ENCODE ? 1 : 2)))) {
+                        printf("%s differs from till on %s\n", peer_names[p], texts[k].name);
+                        differing = 1;
+                    }
+                for (int turn = 0; turn < passes; turn++)
+                    for (int p = 0; p < PEERS; p++) {
+                        double from = now();
+                        pass(&s, p, text, units, block / unit, outs[p], 0);
+                        double took = now() - from;
+                        if (took < best[p])
+                            best[p] = took;
+                    }
+                printf("| %s | %s | %zu | %.0f |", texts[k].name, direction == ENCODE ? "encode" : "decode", block, (double)size / best[0] / 1e6);
+                for (int p = 1; p < PEERS; p++) {
+                    double ratio = best[p] / best[0];
+                    int mark = ratio < (p == 1 ? 2.0 : 1.0);
+                    low += mark;
+                    printf(" %.0f (%.2f%s) |", (double)size / best[p] / 1e6, ratio, mark ? " !" : "");
+                }
+                printf("\n");
+                fflush(stdout);
+                for (int p = 0; p < PEERS; p++)
+                    free(outs[p]);
+            }
+            free(text);
+        }
+    printf("\n%d ratios below their bound; outputs %s\n", low, differing ? "DIFFER" : "agree on the undamaged texts");
+    return differing;
+}

@@ -1,0 +1,89 @@
+/* What the C programs of this folder share: table images, files and the clock. */
+#ifndef COMMON_H
+#define COMMON_H
+#include <stdint.h>
+#include <stdio.h>
+#include <stdlib.h>
+#include <string.h>
+#include <time.h>
+#include "till.h"
+
+/* A table set that is read from a table image. */
+typedef struct {
+    uint16_t page, default_unit;
+    uint8_t default_byte;
+    uint32_t sizes[5];
+    uint8_t *classes;
+    uint16_t *singles, *pairs;
+    uint8_t *index;
+    uint16_t *blocks;
+} table_set;
+
+#define TABLES(t) \
+    (t)->page, (t)->default_byte, (t)->default_unit, (t)->classes, (t)->sizes[0], (t)->singles, (t)->sizes[1], (t)->pairs, \
+        (t)->sizes[2], (t)->index, (t)->sizes[3], (t)->blocks, (t)->sizes[4]
+
+static inline void die(const char *what)
+{
+    fprintf(stderr, "bench: %s\n", what);
+    exit(1);
+}
+
+static inline uint8_t *read_file(const char *name, size_t *size)
+{
+    FILE *f = fopen(name, "rb");
+    if (!f)
+        die(name);
+    fseek(f, 0, SEEK_END);
+    *size = (size_t)ftell(f);
+    rewind(f);
+    uint8_t *b = malloc(*size + 64);
+    if (fread(b, 1, *size, f) != *size)
+        die(name);
+    fclose(f);
+    return b;
+}
+
+static inline void *copy_part(const uint8_t **from, size_t bytes)
+{
+    void *p = malloc(bytes + 64);
+    memcpy(p, *from, bytes);
+    *from += bytes;
+    return p;
+}
+
+/* An image: page, default byte, 0, default unit, two zeros, five sizes of four bytes, and the five tables; low byte first. */
+static inline table_set read_image(const char *name)
+{
+    size_t size;
+    uint8_t *b = read_file(name, &size);
+    const uint8_t *p = b + 28;
+    table_set t;
+    t.page = (uint16_t)(b[0] | b[1] << 8);
+    t.default_byte = b[2];
+    t.default_unit = (uint16_t)(b[4] | b[5] << 8);
+    memcpy(t.sizes, b + 8, 20);
+    t.classes = copy_part(&p, t.sizes[0]);
+    t.singles = copy_part(&p, 2 * t.sizes[1]);
+    t.pairs = copy_part(&p, 2 * t.sizes[2]);
+    t.index = copy_part(&p, t.sizes[3]);
+    t.blocks = copy_part(&p, 2 * t.sizes[4]);
+    if (p != b + size)
+        die("an image has another length than its sizes ask for");
+    free(b);
+    return t;
+}
+
+static inline double now(void)
+{
+    struct timespec t;
+    clock_gettime(CLOCK_MONOTONIC, &t);
+    return (double)t.tv_sec + (double)t.tv_nsec * 1e-9;
+}
+
+static inline till_run fresh_run(const table_set *t, uint8_t direction)
+{
+    till_run r = {0, 0, t->page, TILL_NOTHING, direction, 5, 5, 5, 0, 0};
+    return r;
+}
+#endif

@@ -1,0 +1,67 @@
+/* The C interface at work: a journal piece that is cut in the middle of a two-byte character, with a save and a load between. */
+#include "common.h"
+
+static void print_units(const uint16_t *units, size_t n)
+{
+    for (size_t i = 0; i < n; i++)
+        printf(" %04X", units[i]);
+    printf("\n");
+}
+
+int main(int argc, char **argv)
+{
+    char name[4096];
+    if (argc != 2)
+        die("use: example TABLES");
+    snprintf(name, sizeof name, "%s/cp932.tbl", argv[1]);
+    table_set t = read_image(name);
+    printf("shape %u\n", till_shape(TABLES(&t)).number);
+
+    /* `A`, the two kanji of Japan (93FA 967B), a line feed; cut after the lead byte 96 */
+    static const uint8_t first[4] = {0x41, 0x93, 0xFA, 0x96}, second[2] = {0x7B, 0x0A};
+    uint16_t units[8];
+    uint8_t line[TILL_LINE_LIMIT];
+
+    till_handed start = till_start(TILL_DECODING, t.page, 5, 5, 5);
+    printf("start %u\n", start.number);
+    till_outcome o = till_decode(start.run, TABLES(&t), first, sizeof first, 0, units, 8);
+    printf("decode %u, read %zu, written %zu, pending %02X:", o.number, o.read, o.written, o.run.pending);
+    print_units(units, o.written);
+
+    till_saved saved = till_save(o.run, line, sizeof line);
+    printf("save %u, %zu bytes: %.*s", saved.number, saved.size, (int)saved.size, (const char *)line);
+    till_handed loaded = till_load(line, saved.size);
+    printf("load %u\n", loaded.number);
+
+    o = till_decode(loaded.run, TABLES(&t), second, sizeof second, 1, units, 8);
+    printf("decode %u, read %zu, written %zu, ended %u:", o.number, o.read, o.written, o.run.ended);
+    print_units(units, o.written);
+
+    /* back to bytes */
+    static const uint16_t text[3] = {0x0041, 0x65E5, 0x672C};
+    uint8_t bytes[8];
+    start = till_start(TILL_ENCODING, t.page, 5, 5, 5);
+    o = till_encode(start.run, TABLES(&t), text, 3, 1, bytes, 8);
+    printf("encode %u, read %zu, written %zu:", o.number, o.read, o.written);
+    for (size_t i = 0; i < o.written; i++)
+        printf(" %02X", bytes[i]);
+    printf("\n");
+
+    /* refusals: the run comes back as it was, and nothing is written */
+    till_run bad = start.run;
+    bad.direction = 2;
+    o = till_encode(bad, TABLES(&t), text, 3, 1, bytes, 8);
+    printf("direction 2: encode %u, read %zu, written %zu, direction %u\n", o.number, o.read, o.written, o.run.direction);
+    bad = start.run;
+    bad.pending = 257;
+    printf("pending 257: save %u, decode %u\n", till_save(bad, line, sizeof line).number,
+        till_decode(bad, TABLES(&t), first, 1, 1, units, 8).number);
+    printf("last 2: encode %u\n", till_encode(start.run, TABLES(&t), text, 3, 2, bytes, 8).number);
+    printf("room 3: save %u\n", till_save(start.run, line, 3).number);
+    printf("page 0: start %u, page %u\n", till_start(TILL_DECODING, 0, 5, 5, 5).number, till_start(TILL_DECODING, 0, 5, 5, 5).run.page);
+    printf("no line: load %u\n", till_load(line, 0).number);
+    t.index[0xFF] = 200; /* there are 107 blocks */
+    till_fault fault = till_shape(TABLES(&t));
+    printf("index 200: shape %u at %zX\n", fault.number, fault.place);
+    return 0;
+}

@@ -1,0 +1,85 @@
+#!/usr/bin/env python3
+"""Makes the benchmark's texts in a folder: NAME.bytes (for decoding) and NAME.units (UTF-16LE, for encoding).
+
+Each has about 1 MiB of bytes and comes from a fixed seed, so that every run measures the same texts.
+"""
+import random
+import struct
+import sys
+
+SIZE = 1 << 20
+
+ENGLISH = """the till journal shows a sale of two items paid in cash and one void line entered by the cashier before the
+drawer was closed receipt number total change given card payment approved refund for returned goods store manager open
+report day end shift tax included subtotal discount member points balance thank you for shopping please keep this
+receipt""".split()
+
+JAPANESE = """領収書 合計 小計 現金 お釣り 消費税 税込 税抜 値引 返品 取消 点数 担当者 店舗 東京都 大阪府 株式会社 電話番号 毎度
+ありがとうございます またのご来店をお待ちしております 食料品 日用品 牛乳 食パン 緑茶 おにぎり コーヒー チョコレート ビール 割引
+レシート クレジット カード ポイント 会員 番号 売上 日計 精算 釣銭 準備金 開店 閉店 午前 午後 年 月 日 時 分 円 個 本 枚 袋
+野菜 果物 鮮魚 精肉 惣菜 冷凍食品 文房具 雑誌 新聞 切手 送料 宅配便 領収致しました 上記正に 但し 御中 様 内訳 軽減税率 対象 商品""".split()
+
+LATIN = """le café crème été payé à la caisse déjà reçu où garçon fenêtre hôtel naïf Noël français très après forêt
+der Käse kostet fünf Euro für das Mädchen Straße grüßen schön Öl Äpfel über München Rückgeld Größe zurück
+el niño señor mañana teléfono número corazón días año España así qué más información dirección artículo
+total ticket number price paid change cash card date sum""".split()
+
+
+def ascii_text(r):
+    lines = []
+    size = 0
+    while size < SIZE:
+        kind = r.randrange(4)
+        if kind == 0:
+            line = '%06d\t%02d:%02d\t%s\t%d.%02d\n' % (
+                r.randrange(1000000), r.randrange(24), r.randrange(60), r.choice(ENGLISH).upper(), r.randrange(200), r.randrange(100))
+        else:
+            line = ' '.join(r.choice(ENGLISH) for _ in range(r.randrange(5, 14))) + '.\n'
+        lines.append(line)
+        size += len(line)
+    return ''.join(lines)
+
+
+def japanese_text(r):
+    lines = []
+    size = 0
+    while size < SIZE:
+        if r.randrange(4) == 0:
+            line = '%s %d点 %d円\n' % (r.choice(JAPANESE), r.randrange(1, 20), r.randrange(10, 20000))
+        else:
+            line = ''.join(r.choice(JAPANESE) for _ in range(r.randrange(3, 9))) + '。\n'
+        lines.append(line)
+        size += len(line.encode('cp932'))
+    return ''.join(lines)
+
+
+def latin_text(r):
+    lines = []
+    size = 0
+    while size < SIZE:
+        line = ' '.join(r.choice(LATIN) for _ in range(r.randrange(5, 14)))
+        if r.randrange(5) == 0:
+            line += ' %d,%02d €' % (r.randrange(200), r.randrange(100))
+        lines.append(line + '\n')
+        size += len(line) + 1
+    return ''.join(lines)
+
+
+def main():
+    folder = sys.argv[1]
+
+    def write(name, byte_text, units):
+        with open('%s/%s.bytes' % (folder, name), 'wb') as f:
+            f.write(byte_text)
+        with open('%s/%s.units' % (folder, name), 'wb') as f:
+            f.write(units)
+
+    for name, make, page in (('ascii', ascii_text, 'cp932'), ('japanese', japanese_text, 'cp932'), ('latin', latin_text, 'cp1252')):
+        text = make(random.Random('till ' + name))
+        write(name, text.encode(page), text.encode('utf-16-le'))
+    r = random.Random('till damaged')
+    write('damaged', bytes(r.randrange(256) for _ in range(SIZE)),
+          struct.pack('<%dH' % (SIZE // 2), *(r.randrange(65536) for _ in range(SIZE // 2))))
+
+
+main()

@@ -1,0 +1,89 @@
+/* The C interface of the till converter (crate capi). Link the archive that `rt staticlib capi` writes.
+ *
+ * Every call ends and answers on any numbers and any contents of its slices; none keeps anything between calls, takes memory or
+ * does input or output. A slice is a pointer and a number of elements: the pointer is not NULL (also for 0 elements), aligned,
+ * and good for that many elements, and a slice that is written overlaps no other. These are the caller's part; nothing checks them.
+ *
+ * Numbers of answers: 0 all read; 1 all read, a lead byte is carried; 2 the next code does not fit; 3 stopped by policy digit 0;
+ * 10 bad shape; 11 piece over 65,536 units; 12 the run breaks the run rules; 13 run of the other direction or another page;
+ * 14 the carried byte is no lead here; 15 the run has ended; 16 read total over 4,294,967,295; 17 start numbers not allowed;
+ * 18 not a saved line; 19 the line does not fit the room. 10 and above are refusals. */
+#ifndef TILL_H
+#define TILL_H
+#include <stddef.h>
+#include <stdint.h>
+
+#define TILL_DECODING 0
+#define TILL_ENCODING 1
+#define TILL_NOTHING 256         /* pending: no byte is carried */
+#define TILL_PIECE_LIMIT 65536   /* the most units of input in one call */
+#define TILL_LINE_LIMIT 44       /* the most bytes of a saved line */
+
+/* A run, handed in and given back by value. Make one by till_start or till_load, and hand each call the run of the one before. */
+typedef struct {
+    uint64_t read;     /* units of input read so far */
+    uint64_t written;  /* units of output written so far */
+    uint16_t page;
+    uint16_t pending;  /* the lead byte that is carried, or TILL_NOTHING */
+    uint8_t direction; /* TILL_DECODING or TILL_ENCODING */
+    uint8_t single;    /* policy digits: undefined single, undefined pair, invalid */
+    uint8_t pair;
+    uint8_t invalid;
+    uint8_t flags;     /* 1 undefined single, 2 undefined pair, 4 invalid, 8 stopped */
+    uint8_t ended;     /* 0 or 1 */
+} till_run;
+
+/* What a run call answers: the run for the next call, units of the piece read, units of output written, the answer's number. */
+typedef struct {
+    till_run run;
+    size_t read;
+    size_t written;
+    uint8_t number;
+} till_outcome;
+
+/* What till_start and till_load answer: number 0 and a run, or the number of the refusal and a run of page 0, which no call takes. */
+typedef struct {
+    till_run run;
+    uint8_t number;
+} till_handed;
+
+/* What till_save answers: number 0 and the line's length, or the number of the refusal. */
+typedef struct {
+    size_t size;
+    uint8_t number;
+} till_saved;
+
+/* What till_shape answers. number: 0 good; 1 the page is 0; 2 to 6 a wrong size of classes, singles, pairs, index, blocks;
+ * 7 an unknown class, 8 a lead below 80, 9 an index number that names no block, each at the place `place`. */
+typedef struct {
+    size_t place;
+    uint8_t number;
+} till_fault;
+
+/* The parameters of a table set: page, default byte, default unit, and the five tables. */
+#define TILL_TABLES \
+    uint16_t page, uint8_t default_byte, uint16_t default_unit, const uint8_t *classes, size_t classes_len, const uint16_t *singles, \
+        size_t singles_len, const uint16_t *pairs, size_t pairs_len, const uint8_t *index, size_t index_len, const uint16_t *blocks, \
+        size_t blocks_len
+
+/* A fresh run: 0, or 17 if the direction is neither 0 nor 1, the page is 0 or a digit is not allowed. 5, 5, 5 is the standard policy. */
+till_handed till_start(uint8_t direction, uint16_t page, uint8_t single, uint8_t pair, uint8_t invalid);
+
+/* One call of a decoding run: bytes to UTF-16 units. last: 1 for the text's last piece, else 0. Answers 0 to 3 or 10 to 16. A run
+ * whose direction, pending or ended is out of range, or a last above 1, is refused with 12 before all else. A refused call gives
+ * back the run it was handed, reads and writes nothing, and leaves out as it was. After answer 2 call again with the rest of the
+ * piece. */
+till_outcome till_decode(till_run run, TILL_TABLES, const uint8_t *piece, size_t piece_len, uint8_t last, uint16_t *out, size_t out_len);
+
+/* One call of an encoding run: UTF-16 units to bytes; as till_decode. */
+till_outcome till_encode(till_run run, TILL_TABLES, const uint16_t *piece, size_t piece_len, uint8_t last, uint8_t *out, size_t out_len);
+
+/* Writes the run's line at the front of out: 0 and its length, or 12 (the run breaks the rules), or 19 (no room; out is as it was). */
+till_saved till_save(till_run run, uint8_t *out, size_t out_len);
+
+/* Reads the run of a saved line, which must be the whole slice: 0, or 18. */
+till_handed till_load(const uint8_t *line, size_t line_len);
+
+/* The shape report of a table set: the first bad place, if any. */
+till_fault till_shape(TILL_TABLES);
+#endif

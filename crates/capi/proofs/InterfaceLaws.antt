@@ -1,0 +1,103 @@
+-- Laws of the C interface: a run's numbers return, and what the calls behind the interface promise is what it promises.
+use mathlib.Core.Bool.{Bool, true, false, _&&_}
+use mathlib.Core.List.{List}
+use mathlib.Core.Path.{_≡_, refl, sym, ap, _∙_}
+use Prim.Native.Nat.{ℕ, _<_, _≤_}
+use lib.Dec.{leb, ltb, eqb}
+use lib.ListN.{length}
+use native.Mathlib.Omega.{arith}
+use borrow.Author.Tests.{eqb-true, eqb-false, ltb-true, ltb-false, leb-true, lt-ltb}
+use Rattle.codepage.specs.CodePage.{CodePage, pick}
+use Rattle.engine.specs.declared.Direction.{Direction}
+use Rattle.engine.specs.declared.Direction.the-variants.{Decoding, Encoding}
+use Rattle.engine.specs.Engine.{over}
+use Rattle.engine.proofs.EffectLaws.{and-left, and-right}
+use Rattle.convert.specs.declared.Pending.{Pending}
+use Rattle.convert.specs.declared.Pending.the-variants.{Nothing, Byte}
+use Rattle.convert.specs.declared.Run.{Run}
+use Rattle.convert.specs.declared.Outcome.{Outcome}
+use Rattle.convert.specs.Calls.{runCall, Answered}
+use Rattle.checkpoint.specs.declared.Written.{Written}
+use Rattle.checkpoint.specs.Line.{writeOf, writtenAs, Saved, CarriedFits, Representable}
+use Rattle.capi.specs.declared.TillRun.{TillRun}
+use Rattle.capi.specs.declared.TillOutcome.{TillOutcome}
+use Rattle.capi.specs.declared.TillSaved.{TillSaved}
+use Rattle.capi.specs.Interface.{directionIn, directionOut, pendingIn, pendingOut, flagOut, isRun, runIn, runOut, tillCall, TillAnswered, outcomeOut, refusedOut, tillSave, TillSavedAs}
+
+-- ---- a run and its numbers
+direction-returns : (n : ℕ) → n ≤ 1 → directionOut (directionIn n) ≡ n
+direction-returns n h = by-test (eqb n 0) refl
+  where
+    by-test : (t : Bool) → eqb n 0 ≡ t → directionOut (pick t Decoding Encoding) ≡ n
+    by-test true e = omega (arith, eqb-true n 0 e)
+    by-test false e = omega (arith, eqb-false n 0 e, h)
+
+pending-returns : (n : ℕ) → n ≤ 256 → pendingOut (pendingIn n) ≡ n
+pending-returns n h = by-test (ltb n 256) refl
+  where
+    by-test : (t : Bool) → ltb n 256 ≡ t → pendingOut (pick t (Byte n) Nothing) ≡ n
+    by-test true e = refl
+    by-test false e = omega (arith, ltb-false n 256 e, h)
+
+ended-returns : (n : ℕ) → n ≤ 1 → flagOut (eqb n 1) ≡ n
+ended-returns n h = by-test (eqb n 1) refl
+  where
+    by-test : (t : Bool) → eqb n 1 ≡ t → flagOut t ≡ n
+    by-test true e = omega (arith, eqb-true n 1 e)
+    by-test false e = omega (arith, eqb-false n 1 e, h)
+
+-- THE NUMBERS OF A RUN return: a refused call gives back the numbers that it was handed.
+pub numbers-return : (run : TillRun) → isRun run ≡ true → runOut (runIn run) ≡ run
+unfolding isRun runIn runOut
+numbers-return run e =
+    let rest = and-right (leb (run .direction) 1) _ e in
+    rw (
+      direction-returns (run .direction) (leb-true _ _ (and-left (leb (run .direction) 1) _ e)),
+      pending-returns (run .pending) (leb-true _ _ (and-left (leb (run .pending) 256) _ rest)),
+      ended-returns (run .ended) (leb-true _ _ (and-right (leb (run .pending) 256) _ rest)),
+    )
+
+-- EVERY RUN that the program can hold is the one that its numbers name, and its numbers are those of a run.
+direction-named : (d : Direction) → directionIn (directionOut d) ≡ d
+direction-named Decoding = refl
+direction-named Encoding = refl
+
+pending-named : (p : Pending) → CarriedFits p → pendingIn (pendingOut p) ≡ p
+pending-named Nothing h = refl
+pending-named (Byte byte) h = rw (lt-ltb byte 256 h)
+
+ended-named : (t : Bool) → eqb (flagOut t) 1 ≡ t
+ended-named true = refl
+ended-named false = refl
+
+pub run-returns : (run : Run) → Representable run → runIn (runOut run) ≡ run
+unfolding runIn runOut
+run-returns run fits = rw (direction-named (run .direction), pending-named (run .pending) (fits .pending), ended-named (run .ended))
+
+-- ---- run calls
+module _ (direction : Direction) (run : TillRun) (p : CodePage) (piece : List ℕ) (last : ℕ) (before : List ℕ) where
+  pub refused-answered : (r : TillOutcome) → isRun run && leb last 1 ≡ false → r ≡ refusedOut run
+      → TillAnswered (tillCall direction run p piece last (length before)) r before before
+  unfolding tillCall refusedOut over
+  refused-answered r k e =
+      rw (k, e) (record { number = refl; read = refl; written = refl; run = refl; lent = refl })
+
+  pub call-answered : (inner : Run) (o : Outcome) (r : TillOutcome) (after : List ℕ) → isRun run && leb last 1 ≡ true → inner ≡ runIn run
+      → Answered (runCall direction inner p piece (eqb last 1) (length before)) o before after → r ≡ outcomeOut o
+      → TillAnswered (tillCall direction run p piece last (length before)) r before after
+  unfolding tillCall outcomeOut
+  call-answered inner o r after k i a e =
+      rw (k, e, ← i) (record { number = a .number; read = a .read; written = a .written; run = ap runOut (a .run); lent = a .lent })
+
+-- ---- line writing
+module _ (run : TillRun) (before : List ℕ) where
+  pub refused-saved : (r : TillSaved) → isRun run ≡ false → r .number ≡ 12 → r .size ≡ 0 → TillSavedAs (tillSave run (length before)) r before before
+  unfolding tillSave over
+  refused-saved r k n s = rw k (record { number = n; size = s; lent = refl })
+
+  pub line-saved : (inner : Run) (w : Written) (r : TillSaved) (after : List ℕ) → isRun run ≡ true → inner ≡ runIn run
+      → Saved (writeOf inner (length before)) w before after → r .number ≡ writtenAs w .number → r .size ≡ writtenAs w .size
+      → TillSavedAs (tillSave run (length before)) r before after
+  unfolding tillSave
+  line-saved inner w r after k i a n s =
+      rw (k, ← i) (record { number = n ∙ a .number; size = s ∙ a .size; lent = a .lent })

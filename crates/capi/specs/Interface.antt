@@ -1,0 +1,187 @@
+-- The C interface: runs and answers as numbers, and what each exported call gives.
+use mathlib.Core.Bool.{Bool, true, false, _&&_}
+use mathlib.Core.List.{List, []}
+use mathlib.Core.Option.{Option, none, some}
+use mathlib.Core.Path.{_≡_}
+use Prim.Native.Nat.{ℕ}
+use lib.Dec.{leb, ltb, eqb}
+use lib.ListN.{length}
+use Rattle.codepage.specs.CodePage.{CodePage, codePage, pick, firstFault}
+use Rattle.codepage.specs.declared.Numbers.{Numbers}
+use Rattle.codepage.specs.declared.Fault.{Fault}
+use Rattle.codepage.specs.declared.Fault.the-variants.{Good, Page, ClassesSize, SinglesSize, PairsSize, IndexSize, BlocksSize, Class, Lead, Number}
+use Rattle.engine.specs.declared.Direction.{Direction}
+use Rattle.engine.specs.declared.Direction.the-variants.{Decoding, Encoding}
+use Rattle.engine.specs.declared.Policy.{Policy}
+use Rattle.engine.specs.Engine.{over}
+use Rattle.convert.specs.declared.Pending.{Pending}
+use Rattle.convert.specs.declared.Pending.the-variants.{Nothing, Byte}
+use Rattle.convert.specs.declared.Run.{Run}
+use Rattle.convert.specs.declared.Outcome.{Outcome}
+use Rattle.convert.specs.Runs.{Start, startOf}
+use Rattle.convert.specs.Calls.{Called, runCall, numberOf}
+use Rattle.checkpoint.specs.Line.{Saving, unwritten, writeOf, Loading, readOf}
+use Rattle.capi.specs.declared.TillRun.{TillRun}
+use Rattle.capi.specs.declared.TillOutcome.{TillOutcome}
+use Rattle.capi.specs.declared.TillHanded.{TillHanded}
+use Rattle.capi.specs.declared.TillSaved.{TillSaved}
+use Rattle.capi.specs.declared.TillFault.{TillFault}
+
+-- ---- A run as numbers
+
+-- direction: 0 decoding, 1 encoding
+abbrev pub directionIn : ℕ → Direction
+directionIn n = pick (eqb n 0) Decoding Encoding
+
+abbrev pub directionOut : Direction → ℕ
+directionOut Decoding = 0
+directionOut Encoding = 1
+
+-- pending: the carried byte, or 256 for none
+abbrev pub pendingIn : ℕ → Pending
+pendingIn n = pick (ltb n 256) (Byte n) Nothing
+
+abbrev pub pendingOut : Pending → ℕ
+pendingOut Nothing = 256
+pendingOut (Byte byte) = byte
+
+-- ended: 0 or 1
+abbrev pub flagOut : Bool → ℕ
+flagOut true = 1
+flagOut false = 0
+
+-- The numbers are those of a run: direction 0 or 1, pending at most 256, ended 0 or 1.
+unfoldable pub isRun : TillRun → Bool
+isRun r = leb (r .direction) 1 && (leb (r .pending) 256 && leb (r .ended) 1)
+
+abbrev pub policyOf : (single pair invalid : ℕ) → Policy
+policyOf single pair invalid = record { single = single; pair = pair; invalid = invalid }
+
+-- The run that the numbers name.
+unfoldable pub runIn : TillRun → Run
+runIn r =
+    record {
+      direction = directionIn (r .direction);
+      page = r .page;
+      policy = policyOf (r .single) (r .pair) (r .invalid);
+      pending = pendingIn (r .pending);
+      flags = r .flags;
+      read = r .read;
+      written = r .written;
+      ended = eqb (r .ended) 1;
+    }
+
+-- The numbers of a run.
+unfoldable pub runOut : Run → TillRun
+runOut run =
+    record {
+      read = run .read;
+      written = run .written;
+      page = run .page;
+      pending = pendingOut (run .pending);
+      direction = directionOut (run .direction);
+      single = run .policy .single;
+      pair = run .policy .pair;
+      invalid = run .policy .invalid;
+      flags = run .flags;
+      ended = flagOut (run .ended);
+    }
+
+-- The table set of a call.
+abbrev pub tillPage : (page byte unit : ℕ) → (classes singles pairs index blocks : List ℕ) → CodePage
+tillPage page byte unit classes singles pairs index blocks =
+    codePage (record { page = page; «default_byte» = byte; «default_unit» = unit }) classes singles pairs index blocks
+
+-- ---- Run calls
+
+-- What a run call gives: its answer's number, the units of the piece read, what is written, and the new run.
+pub record TillCalled : Type 0 where
+  pub number : ℕ
+  pub read : ℕ
+  pub output : List ℕ
+  pub run : TillRun
+
+abbrev pub calledOut : Called → TillCalled
+calledOut c = record { number = c .number; read = c .read; output = c .output; run = runOut (c .run) }
+
+-- Numbers of no run, and a mark that is neither 0 nor 1, are refused as a run that breaks the rules, before all else.
+unfoldable pub tillCall : Direction → TillRun → CodePage → (piece : List ℕ) → (last : ℕ) → (room : ℕ) → TillCalled
+tillCall direction run p piece last room =
+    pick (isRun run && leb last 1) (calledOut (runCall direction (runIn run) p piece (eqb last 1) room))
+    (record { number = 12; read = 0; output = []; run = run })
+
+-- The promise of a run call: c is what the rules give, r what it returns, and the lent output before and after.
+pub record TillAnswered (c : TillCalled) (r : TillOutcome) (before after : List ℕ) : Type 0 where
+  pub number : r .number ≡ c .number
+  pub read : r .read ≡ c .read
+  pub written : r .written ≡ length (c .output)
+  pub run : r .run ≡ c .run
+  pub lent : after ≡ over before (c .output)
+
+unfoldable pub outcomeOut : Outcome → TillOutcome
+outcomeOut o = record { run = runOut (o .run); read = o .read; written = o .written; number = numberOf (o .answer) }
+
+unfoldable pub refusedOut : TillRun → TillOutcome
+refusedOut run = record { run = run; read = 0; written = 0; number = 12 }
+
+-- ---- Start and the saved line
+
+-- the numbers beside a refused start or reading: no run has page 0
+unfoldable pub noRun : TillRun
+noRun =
+    record {
+      read = 0;
+      written = 0;
+      page = 0;
+      pending = 256;
+      direction = 0;
+      single = 0;
+      pair = 0;
+      invalid = 0;
+      flags = 0;
+      ended = 0;
+    }
+
+abbrev pub runOr : Option Run → TillRun
+runOr none = noRun
+runOr (some run) = runOut run
+
+unfoldable pub handed : (number : ℕ) → Option Run → TillHanded
+handed number run = record { run = runOr run; number = number }
+
+abbrev pub startOut : Start → TillHanded
+startOut s = handed (s .number) (s .run)
+
+unfoldable pub tillStart : (direction page single pair invalid : ℕ) → TillHanded
+tillStart direction page single pair invalid =
+    pick (leb direction 1) (startOut (startOf (directionIn direction) page (policyOf single pair invalid))) (handed 17 none)
+
+abbrev pub loadOut : Loading → TillHanded
+loadOut l = handed (l .number) (l .run)
+
+unfoldable pub tillSave : TillRun → (room : ℕ) → Saving
+tillSave run room = pick (isRun run) (writeOf (runIn run) room) (unwritten 12)
+
+-- The promise of line writing: s is what the rules give, r what it returns, and the lent output before and after.
+pub record TillSavedAs (s : Saving) (r : TillSaved) (before after : List ℕ) : Type 0 where
+  pub number : r .number ≡ s .number
+  pub size : r .size ≡ length (s .line)
+  pub lent : after ≡ over before (s .line)
+
+-- ---- The shape report
+
+abbrev pub faultAt : (number place : ℕ) → TillFault
+faultAt number place = record { place = place; number = number }
+
+-- 0: good; 1: the page; 2 to 6: a table's size, in the order of the tables; 7, 8, 9: a class, a low lead, an index number
+abbrev pub faultOut : Fault → TillFault
+faultOut Good = faultAt 0 0
+faultOut Page = faultAt 1 0
+faultOut ClassesSize = faultAt 2 0
+faultOut SinglesSize = faultAt 3 0
+faultOut PairsSize = faultAt 4 0
+faultOut IndexSize = faultAt 5 0
+faultOut BlocksSize = faultAt 6 0
+faultOut (Class byte) = faultAt 7 byte
+faultOut (Lead byte) = faultAt 8 byte
+faultOut (Number place) = faultAt 9 place
