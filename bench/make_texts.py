@@ -22,7 +22,9 @@ JAPANESE = """領収書 合計 小計 現金 お釣り 消費税 税込 税抜 �
 LATIN = """le café crème été payé à la caisse déjà reçu où garçon fenêtre hôtel naïf Noël français très après forêt
 der Käse kostet fünf Euro für das Mädchen Straße grüßen schön Öl Äpfel über München Rückgeld Größe zurück
 el niño señor mañana teléfono número corazón días año España así qué más información dirección artículo
-total ticket number price paid change cash card date sum""".split()
+total ticket le prix la monnaie carte client merci pour votre visite bonjour article remise montant facture
+der Betrag Karte bar Kunde danke bitte Rechnung Summe Datum Artikel Rabatt und die Kasse heute
+el precio la tarjeta cliente gracias por su visita fecha importe descuento cambio en efectivo""".split()
 
 
 def ascii_text(r):

@@ -13,6 +13,10 @@
 #include <stddef.h>
 #include <stdint.h>
 
+#ifdef __cplusplus
+extern "C" {
+#endif
+
 #define TILL_DECODING 0
 #define TILL_ENCODING 1
 #define TILL_NOTHING 256         /* pending: no byte is carried */
@@ -86,4 +90,8 @@ till_handed till_load(const uint8_t *line, size_t line_len);
 
 /* The shape report of a table set: the first bad place, if any. */
 till_fault till_shape(TILL_TABLES);
+
+#ifdef __cplusplus
+}
+#endif
 #endif

@@ -1,0 +1,45 @@
+#!/usr/bin/env python3
+"""Converts the benchmark's texts by the second converter: FOLDER/NAME.decoded and NAME.encoded.
+
+Use: expected.py FOLDER. Pieces of 65,536 units, policy 555, the last one marked last.
+"""
+import os
+import struct
+import sys
+
+HERE = os.path.dirname(os.path.abspath(__file__))
+sys.path.insert(0, os.path.join(HERE, "..", "tools"))
+sys.dont_write_bytecode = True
+import second_converter as second  # noqa: E402
+
+
+def convert(direction, table, text):
+    run = second.start_call(direction, table.page, (5, 5, 5))
+    output = []
+    for place in range(0, len(text), second.PIECE_LIMIT):
+        piece = text[place : place + second.PIECE_LIMIT]
+        out = [0] * (2 * len(piece) + 2)
+        outcome = second.run_call(direction, run, table, piece, place + len(piece) == len(text), out)
+        if outcome.number not in (0, 1):
+            sys.exit("expected.py: a call answered %d" % outcome.number)
+        run = outcome.run
+        output += out[: outcome.written]
+    return output
+
+
+def main():
+    folder = sys.argv[1]
+    for name, page in (("ascii", "cp932"), ("japanese", "cp932"), ("latin", "cp1252"), ("damaged", "cp932")):
+        table = second.read_image_file(page + ".tbl", [os.path.join(HERE, "..", "tables")])
+        with open("%s/%s.bytes" % (folder, name), "rb") as f:
+            units = convert(second.DECODING, table, list(f.read()))
+        with open("%s/%s.decoded" % (folder, name), "wb") as f:
+            f.write(struct.pack("<%dH" % len(units), *units))
+        with open("%s/%s.units" % (folder, name), "rb") as f:
+            data = f.read()
+        text = list(struct.unpack("<%dH" % (len(data) // 2), data))
+        with open("%s/%s.encoded" % (folder, name), "wb") as f:
+            f.write(bytes(convert(second.ENCODING, table, text)))
+
+
+main()
