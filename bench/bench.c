@@ -214,6 +214,50 @@ static void agreement(const table_set *t, int direction, int peer)
         only_till, only_peer);
 }
 
+/* A row of the table: a text, a direction and a size of blocks in bytes. */
+typedef struct {
+    const char *name;
+    state s;
+    uint8_t *text, *out;
+    size_t size, block;
+    double best[PEERS];
+} cell;
+
+#define CELLS 16
+#define ROUNDS 4
+
+static size_t cell_pass(cell *c, int peer, int step)
+{
+    size_t unit = c->s.direction == ENCODE ? 2 : 1;
+    return pass(&c->s, peer, c->text, c->size / unit, c->block / unit, c->out, step);
+}
+
+/* Reads a row's text and compares each converter's output with the second converter's; peers only on sound text. */
+static int open_cell(cell *c, const char *folder, int k, int direction, size_t block)
+{
+    char name[4096];
+    size_t expected_size, wide = direction == ENCODE ? 1 : 2;
+    int differing = 0;
+    snprintf(name, sizeof name, "%s/%s.%s", folder, texts[k].name, direction == ENCODE ? "encoded" : "decoded");
+    uint8_t *expected = read_file(name, &expected_size);
+    snprintf(name, sizeof name, "%s/%s.%s", folder, texts[k].name, direction == ENCODE ? "units" : "bytes");
+    c->name = texts[k].name;
+    c->text = read_file(name, &c->size);
+    c->out = malloc(4 * c->size + 1024);
+    c->block = block;
+    open_state(&c->s, &pages[texts[k].page], direction);
+    for (int p = 0; p < PEERS; p++) {
+        size_t written = cell_pass(c, p, 1);
+        c->best[p] = 1e9;
+        if ((p == 0 || !texts[k].damaged) && (written * wide != expected_size || memcmp(c->out, expected, expected_size))) {
+            printf("%s: %s differs from the second converter\n", c->name, peer_names[p]);
+            differing = 1;
+        }
+    }
+    free(expected);
+    return differing;
+}
+
 int main(int argc, char **argv)
 {
     char name[4096];
@@ -234,54 +278,34 @@ int main(int argc, char **argv)
 
     printf("\nMB/s of input; in parentheses till's speed over the peer's (`!`: below 1.0, for iconv below 2.0):\n\n");
     printf("| Text | Direction | Block | till | iconv | ICU | encoding_rs |\n|---|---|---|---|---|---|---|\n");
-    int low = 0, differing = 0;
+    static cell cells[CELLS];
+    int n = 0, low = 0, differing = 0;
     for (int direction = 0; direction < 2; direction++)
-        for (int k = 0; k < 4; k++) {
-            size_t size, unit = direction == ENCODE ? 2 : 1;
-            snprintf(name, sizeof name, "%s/%s.%s", argv[1], texts[k].name, direction == ENCODE ? "units" : "bytes");
-            uint8_t *text = read_file(name, &size);
-            size_t units = size / unit;
-            uint8_t *outs[PEERS];
-            size_t written[PEERS], wide = direction == ENCODE ? 1 : 2, expected_size;
-            snprintf(name, sizeof name, "%s/%s.%s", argv[1], texts[k].name, direction == ENCODE ? "encoded" : "decoded");
-            uint8_t *expected = read_file(name, &expected_size);
-            state s;
-            open_state(&s, &pages[texts[k].page], direction);
-            for (size_t block = 512; block <= 65536; block *= 128) {
-                double best[PEERS];
+        for (int k = 0; k < 4; k++)
+            for (size_t block = 512; block <= 65536; block *= 128)
+                differing |= open_cell(&cells[n++], argv[1], k, direction, block);
+    /* several rounds over all cells, so that a busy second of the machine does not spoil one of them */
+    for (int round = 0; round < ROUNDS; round++)
+        for (int i = 0; i < CELLS; i++)
+            for (int turn = 0; turn < (passes + ROUNDS - 1) / ROUNDS; turn++)
                 for (int p = 0; p < PEERS; p++) {
-                    outs[p] = malloc(4 * size + 1024);
-                    written[p] = pass(&s, p, text, units, block / unit, outs[p], 1);
-                    best[p] = 1e9;
+                    double from = now();
+                    cell_pass(&cells[i], p, 0);
+                    double took = now() - from;
+                    if (took < cells[i].best[p])
+                        cells[i].best[p] = took;
                 }
-                for (int p = 0; p < (texts[k].damaged ? 1 : PEERS); p++)
-                    if (written[p] * wide != expected_size || memcmp(outs[p], expected, expected_size)) {
-                        printf("%s: %s differs from the second converter\n", texts[k].name, peer_names[p]);
-                        differing = 1;
-                    }
-                for (int turn = 0; turn < passes; turn++)
-                    for (int p = 0; p < PEERS; p++) {
-                        double from = now();
-                        pass(&s, p, text, units, block / unit, outs[p], 0);
-                        double took = now() - from;
-                        if (took < best[p])
-                            best[p] = took;
-                    }
-                printf("| %s | %s | %zu | %.0f |", texts[k].name, direction == ENCODE ? "encode" : "decode", block, (double)size / best[0] / 1e6);
-                for (int p = 1; p < PEERS; p++) {
-                    double ratio = best[p] / best[0];
-                    int mark = ratio < (p == 1 ? 2.0 : 1.0);
-                    low += mark;
-                    printf(" %.0f (%.2f%s) |", (double)size / best[p] / 1e6, ratio, mark ? " !" : "");
-                }
-                printf("\n");
-                fflush(stdout);
-                for (int p = 0; p < PEERS; p++)
-                    free(outs[p]);
-            }
-            free(text);
-            free(expected);
+    for (int i = 0; i < CELLS; i++) {
+        const cell *c = &cells[i];
+        printf("| %s | %s | %zu | %.0f |", c->name, c->s.direction == ENCODE ? "encode" : "decode", c->block, (double)c->size / c->best[0] / 1e6);
+        for (int p = 1; p < PEERS; p++) {
+            double ratio = c->best[p] / c->best[0];
+            int mark = ratio < (p == 1 ? 2.0 : 1.0);
+            low += mark;
+            printf(" %.0f (%.2f%s) |", (double)c->size / c->best[p] / 1e6, ratio, mark ? " !" : "");
         }
+        printf("\n");
+    }
     printf("\n%d ratios below their bound; outputs %s\n", low, differing ? "DIFFER" : "agree");
     return differing;
 }
