@@ -61,3 +61,10 @@ pub record SingleTaken (byte unit : ℕ) (out : List ℕ) (w : ℕ) (taken : Boo
 pub record SinglesTaken (singles piece out : List ℕ) (from at : ℕ) (out′ : List ℕ) (k : ℕ) : Type 0 where
   pub same : length out′ ≡ length out
   pub ran : (classes pairs : List ℕ) → ((byte : ℕ) → byte < 256 → isSingle (entry classes byte) ≡ true) → Ran (decoder classes singles pairs) piece out from at out′ (from + k) (at + k)
+
+-- how a decoding call goes on: 1 its piece was plain and is copied, 2 the page has only singles
+pub record Way (classes singles piece : List ℕ) (pending : Bool) (out : List ℕ) (way : ℕ) (out′ : List ℕ) : Type 0 where
+  pub plain : way ≡ 1 → (pending ≡ false) × ((pairs : List ℕ) → Plain (decoder classes singles pairs) piece out true out′)
+  pub single : way ≡ 2 → (pending ≡ false) × ((byte : ℕ) → byte < 256 → isSingle (entry classes byte) ≡ true)
+  pub left : (way ≡ 1 → ⊥) → out′ ≡ out
+  pub same : length out′ ≡ length out

@@ -6,6 +6,7 @@ ghost use Prim.Native.Nat.{ℕ, _<_};
 ghost use lib.ListN.{length};
 ghost use Rattle.codepage.specs.CodePage.{entry, isSingle, isLead};
 ghost use Rattle.engine.specs.Engine.{over};
+ghost use Rattle.engine.specs.Runs.{Way};
 ghost use Rattle.engine.specs.Steps.{summary, Ends, DecodeSizes, optional, decodeFed};
 use crate::Policy;
 use crate::plain;
@@ -137,6 +138,23 @@ fn decode_codes(
     s
 }
 
+// How a call goes on: 1 not at all, its piece was plain and is copied; 2 by singles; else by codes.
+fn way_of(pending: bool, classes: &[u8], singles: &[u16], piece: &[u8], out: &mut [u16]) -> u8
+    requires { ⌜ (length (now classes) ≡ 256) × (length (now singles) ≡ 256) ⌝ }
+    ensures { λ r. ⌜ Way (now (classes .entry)) (now (singles .entry)) (now (piece .entry)) pending (now (out .entry)) r (now (out .exit)) ⌝ }
+{
+    if pending {
+        return 0;
+    }
+    if plain::decode_plain(classes, singles, piece, out) {
+        return 1;
+    }
+    if codepage::profile::only_singles(classes) {
+        return 2;
+    }
+    0
+}
+
 pub fn decode_loop(
     policy: Policy,
     default: u16,
@@ -154,21 +172,8 @@ pub fn decode_loop(
     ensures { λ r. ⌜ r ≡ summary (decodeFed (now (classes .entry)) (now (singles .entry)) (now (pairs .entry)) policy default last (length (now (out .entry))) (optional pending lead) (now (piece .entry))) ⌝ }
     ensures { λ _. ⌜ now (out .exit) ≡ over (now (out .entry)) (decodeFed (now (classes .entry)) (now (singles .entry)) (now (pairs .entry)) policy default last (length (now (out .entry))) (optional pending lead) (now (piece .entry)) .output) ⌝ }
 {
-    if pending {
-        return decode_codes(
-            policy,
-            default,
-            classes,
-            singles,
-            pairs,
-            true,
-            lead,
-            piece,
-            last,
-            out,
-        );
-    }
-    if plain::decode_plain(classes, singles, piece, out) {
+    let way = way_of(pending, classes, singles, piece, out);
+    if way == 1 {
         return Progress {
             answer: 0,
             used: piece.len(),
@@ -176,7 +181,7 @@ pub fn decode_loop(
             flags: 0,
         };
     }
-    if codepage::profile::only_singles(classes) {
+    if way == 2 {
         return decode_singles(policy, default, classes, singles, pairs, piece, last, out);
     }
     decode_codes(
@@ -185,8 +190,8 @@ pub fn decode_loop(
         classes,
         singles,
         pairs,
-        false,
-        0,
+        pending,
+        lead,
         piece,
         last,
         out,
