@@ -15,9 +15,9 @@ ghost use Rattle.engine.specs.Policies.{policyAllowed};
 ghost use Rattle.convert.specs.Runs.{startOf, startedAs};
 ghost use Rattle.convert.specs.Calls.{runCall, Answered};
 use codepage::Numbers;
-use engine::decoder;
-use engine::encoder;
 use engine::policies;
+use loops::decoder;
+use loops::encoder;
 
 // The lead byte that was read at the end of a piece (document 01: the carried byte), or none.
 pub enum Pending {

@@ -16,10 +16,10 @@ use codepage::Numbers;
 use engine::Direction;
 use engine::Policy;
 use engine::counter;
-use engine::decoder;
-use engine::encoder;
 use engine::policies;
 use engine::progress::Progress;
+use loops::decoder;
+use loops::encoder;
 
 // The number of the first check that a text of `count` units fails, or 0.
 fn text_refusal(

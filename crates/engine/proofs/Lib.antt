@@ -8,5 +8,3 @@ pub mod CountLaws
 pub mod CodeLaws
 pub mod AnswerLaws
 pub mod BoundLaws
-pub mod RunLaws
-pub mod PlainLaws

@@ -1,4 +1,3 @@
 pub mod Policies
 pub mod Engine
 pub mod Steps
-pub mod Runs

@@ -58,6 +58,10 @@ fullAt s = record { answer = 2; used = s .used; written = s .written; flags = s 
 abbrev pub takenBy : (flag size : ℕ) → Progress → (count : ℕ) → Progress
 takenBy flag size s count = record { answer = 0; used = s .used + size; written = s .written + count; flags = bitOr (s .flags) flag }
 
+-- the progress after codes of some units were taken that set no flags
+abbrev pub movedTo : Progress → (size written : ℕ) → Progress
+movedTo s size written = record { answer = 0; used = s .used + size; written = written; flags = s .flags }
+
 -- The code k of n units is met after s, and r and out′ are what is left: r answers 0 and goes on, or it ends the call.
 pub record Took (k : Effect) (n : ℕ) (s : Progress) (out : List ℕ) (r : Progress) (out′ : List ℕ) : Type 0 where
   pub same : length out′ ≡ length out

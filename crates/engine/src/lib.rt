@@ -1,16 +1,12 @@
-// Taking code after code: policies and the loops of decoding, encoding and counting. (Document 01, "Policies and flags" and the
+// Taking code after code: policies, and the loops of counting. (Document 01, "Policies and flags" and the
 // first paragraph of "One call of a run".) The functions of the modules are inner: the run calls above call them on tables whose
 // shape was found good. They are no public calls.
 ghost use mathlib.Core.Path.{_≡_};
 ghost use Rattle.engine.specs.Policies.{standard};
 
 pub mod counter;
-pub mod decoder;
-pub mod encoder;
-mod plain;
 pub mod policies;
 pub mod progress;
-mod runs;
 
 // Decoding turns bytes into units, encoding units into bytes.
 pub enum Direction {

@@ -2,8 +2,7 @@
 ghost use mathlib.Core.Path.{_≡_};
 ghost use Prim.Native.Nat.{ℕ, _+_, _≤_, _<_, _^_};
 ghost use lib.ListN.{length};
-ghost use Rattle.engine.specs.Runs.{movedTo};
-ghost use Rattle.engine.specs.Steps.{unitEffect, byteEffect, stoppedBy, fullAt, takenBy, Took};
+ghost use Rattle.engine.specs.Steps.{unitEffect, byteEffect, stoppedBy, fullAt, takenBy, Took, movedTo};
 use crate::policies::CodeEffect;
 
 // The answer so far (0: going on), the units of the codes taken, what was written, and the flags set.

@@ -25,7 +25,7 @@ use Rattle.convert.proofs.finish.pending_after.Reads as pending-after-r
 use Rattle.convert.proofs.finish.pending_byte.Reads as pending-byte-reads
 use Rattle.convert.proofs.finish.refused.Reads as refused-reads
 use Rattle.convert.proofs.rules.refusal.Reads as refusal-reads
-use Rattle.engine.proofs.decoder.decode_loop.Reads as decode-loop-reads
+use Rattle.loops.proofs.decoder.decode_loop.Reads as decode-loop-reads
 
 -- src/lib.rt:161:9
 good-shape-requires : tie.Need-good-shape-requires

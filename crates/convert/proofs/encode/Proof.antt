@@ -16,7 +16,7 @@ use Rattle.convert.proofs.default_of_bytes.Reads as default-of-bytes-re
 use Rattle.convert.proofs.finish.accepted.Reads as accepted-reads
 use Rattle.convert.proofs.finish.refused.Reads as refused-reads
 use Rattle.convert.proofs.rules.refusal.Reads as refusal-reads
-use Rattle.engine.proofs.encoder.encode_loop.Reads as encode-loop-reads
+use Rattle.loops.proofs.encoder.encode_loop.Reads as encode-loop-reads
 
 -- src/lib.rt:220:9
 good-shape-requires : tie.Need-good-shape-requires

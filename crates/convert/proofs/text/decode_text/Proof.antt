@@ -12,7 +12,7 @@ use Rattle.convert.proofs.text.decode_text.Statement.{statement}
 use Rattle.convert.proofs.text.decode_text.Tie as tie
 use Rattle.convert.proofs.text.decode_text.Reads as reads
 use Rattle.convert.proofs.text.decode_text.Lts as lts
-use Rattle.engine.proofs.decoder.decode_loop.Reads as decode-loop-reads
+use Rattle.loops.proofs.decoder.decode_loop.Reads as decode-loop-reads
 use Rattle.convert.proofs.text.converted.Reads as converted-reads
 use Rattle.convert.proofs.text.refused_conversion.Reads as refused-conversion-reads
 use Rattle.convert.proofs.text.text_refusal.Reads as text-refusal-reads

@@ -11,7 +11,7 @@ use Rattle.convert.proofs.text.encode_text.Statement.{statement}
 use Rattle.convert.proofs.text.encode_text.Tie as tie
 use Rattle.convert.proofs.text.encode_text.Reads as reads
 use Rattle.convert.proofs.text.encode_text.Lts as lts
-use Rattle.engine.proofs.encoder.encode_loop.Reads as encode-loop-reads
+use Rattle.loops.proofs.encoder.encode_loop.Reads as encode-loop-reads
 use Rattle.convert.proofs.text.converted.Reads as converted-reads
 use Rattle.convert.proofs.text.refused_conversion.Reads as refused-conversion-reads
 use Rattle.convert.proofs.text.text_refusal.Reads as text-refusal-reads

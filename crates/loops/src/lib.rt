@@ -1,0 +1,6 @@
+// The loops of decoding and encoding. (Document 01, the first paragraph of "One call of a run".) The functions of the modules are
+// inner: the run calls above call them on tables whose shape was found good. They are no public calls.
+pub mod decoder;
+pub mod encoder;
+mod plain;
+mod runs;
