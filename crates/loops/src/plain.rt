@@ -56,11 +56,11 @@ fn bytes_below_80(piece: &[u8]) -> bool
     largest_byte(piece) < 0x80
 }
 
-// Whether every unit is below 80.
+// Whether every unit is below 80. The first of many are looked at first.
 fn units_below_80(piece: &[u16]) -> bool
     ensures { λ r. ⌜ (r ≡ true → AllBelow 0x80 (now (piece .entry))) ⌝ }
 {
-    if 64 < piece.len() {
+    if 256 < piece.len() {
         if 0x80 <= largest_unit(&piece[..64]) {
             return false;
         }
