@@ -108,6 +108,33 @@ def check_joined(options):
         expect(converter.play(script, FOLDERS) == expected, "the joined scripts answer otherwise")
 
 
+def joined_order(text, parts):
+    """The order in which all parts, by name, are joined to a text."""
+    order, at = [], 0
+    while at < len(text):
+        name = next((n for n in parts if n not in order and text.startswith(parts[n], at)), None)
+        expect(name is not None, f"from byte {at} on it is no script that is left")
+        order.append(name)
+        at += len(parts[name])
+    expect(sorted(order) == sorted(parts), "a script is missing")
+    return order
+
+
+def check_console_copies(options):
+    """The gate runs the console on all scripts joined, `initial` first, in a folder with their data and the tables."""
+    console = os.path.join(ROOT, "crates", "console")
+    parts = {name: read(os.path.join(SCRIPTS, name + ".in")) for name in script_names()}
+    order = joined_order(read(os.path.join(console, "stdin")), parts)
+    expect(order[0] == "initial", "initial is not the first script")
+    answers = b"".join(read(os.path.join(SCRIPTS, name + ".out")) for name in order)
+    expect(read(os.path.join(console, "stdout")) == answers, "crates/console/stdout is not the answers joined")
+    for path in sorted(glob.glob(os.path.join(console, "data", "*"))):
+        name = os.path.basename(path)
+        source = next((folder for folder in FOLDERS if os.path.exists(os.path.join(folder, name))), None)
+        expect(source is not None, f"crates/console/data/{name} is in neither folder")
+        expect(read(path) == read(os.path.join(source, name)), f"crates/console/data/{name} is another file")
+
+
 def check_long_lines(options):
     script = fixed_scripts.long_lines_script()
     complaints = script.complaints(converter.play(script.commands_file(), FOLDERS))
@@ -539,6 +566,7 @@ CHECKS = (
     ("page scripts, made anew", check_page_scripts),
     ("stored scripts played", check_play),
     ("stored scripts joined", check_joined),
+    ("the console's copies", check_console_copies),
     ("long lines", check_long_lines),
     ("last line", check_last_line),
     ("numbers covered", check_coverage),
