@@ -2,11 +2,10 @@
 // what it wrote.
 use checkpoint::Written;
 use codepage::Fault;
-use convert::Answer;
-use convert::Converted;
-use convert::Counted;
 use convert::Outcome;
-use convert::Totals;
+use oneshot::Converted;
+use oneshot::Counted;
+use oneshot::Totals;
 use script::print;
 use script::texts;
 
@@ -31,27 +30,10 @@ pub fn put_fault(fault: Fault, out: &mut [u8], at: usize) -> usize {
     }
 }
 
-// The number of a run call's answer.
-fn answer_number(answer: Answer) -> u64 {
-    match answer {
-        Answer::AllRead => 0,
-        Answer::LeadPending => 1,
-        Answer::OutputFull => 2,
-        Answer::Stopped => 3,
-        Answer::BadShape => 10,
-        Answer::PieceTooLong => 11,
-        Answer::InvalidRun => 12,
-        Answer::OtherRun => 13,
-        Answer::PendingNotLead => 14,
-        Answer::RunEnded => 15,
-        Answer::ReadLimit => 16,
-    }
-}
-
 // Number, read and written.
 pub fn put_outcome(outcome: Outcome, out: &mut [u8], at: usize) -> usize {
     let answer = outcome.answer;
-    let end = print::put_number(answer_number(answer), out, at);
+    let end = print::put_number(answer.number() as u64, out, at);
     let end = print::put_number(outcome.read as u64, out, end);
     print::put_number(outcome.written as u64, out, end)
 }

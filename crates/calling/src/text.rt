@@ -1,9 +1,9 @@
 // The commands on a text in one go.
 use crate::answers;
 use codepage::Numbers;
-use convert::Counted;
 use convert::Direction;
 use convert::Policy;
+use oneshot::Counted;
 use script::print;
 use script::texts;
 use script::words;
@@ -42,7 +42,7 @@ fn count_decoding(
     let start = piece.from;
     let end = piece.to;
     let numbers = state.numbers;
-    let counted = convert::text::count_units(
+    let counted = oneshot::count_units(
         policy,
         numbers,
         classes,
@@ -77,7 +77,7 @@ fn count_encoding(
     let start = piece.from;
     let end = piece.to;
     let numbers = state.numbers;
-    let counted = convert::text::count_bytes(
+    let counted = oneshot::count_bytes(
         policy,
         numbers,
         classes,
@@ -156,7 +156,7 @@ fn decode_text(
     at: usize,
 ) -> usize {
     texts::fill_units(room);
-    let converted = convert::text::decode_text(
+    let converted = oneshot::decode_text(
         policy,
         numbers,
         classes,
@@ -185,7 +185,7 @@ fn encode_text(
     at: usize,
 ) -> usize {
     texts::fill_bytes(room);
-    let converted = convert::text::encode_text(
+    let converted = oneshot::encode_text(
         policy,
         numbers,
         classes,

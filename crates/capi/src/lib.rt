@@ -7,14 +7,12 @@ ghost use lib.ListN.{length};
 ghost use Rattle.codepage.specs.CodePage.{firstFault};
 ghost use Rattle.engine.specs.declared.Direction.the-variants.{Decoding, Encoding};
 ghost use Rattle.convert.specs.Runs.{startedAs};
-ghost use Rattle.convert.specs.Calls.{numberOf};
 ghost use Rattle.checkpoint.specs.Line.{readOf, restoredAs, writtenAs};
 ghost use Rattle.capi.specs.Interface.{directionIn, directionOut, pendingIn, pendingOut, flagOut, isRun, runIn, runOut, noRun, tillPage, tillCall, TillAnswered, outcomeOut, refusedOut, startOut, tillStart, loadOut, tillSave, TillSavedAs, faultOut};
 use checkpoint::Restored;
 use checkpoint::Written;
 use codepage::Fault;
 use codepage::Numbers;
-use convert::Answer;
 use convert::Outcome;
 use convert::Pending;
 use convert::Run;
@@ -180,31 +178,13 @@ fn run_out(run: Run) -> TillRun
     }
 }
 
-fn number_out(answer: Answer) -> u8
-    ensures { λ r. ⌜ r ≡ numberOf answer ⌝ }
-{
-    match answer {
-        Answer::AllRead => 0,
-        Answer::LeadPending => 1,
-        Answer::OutputFull => 2,
-        Answer::Stopped => 3,
-        Answer::BadShape => 10,
-        Answer::PieceTooLong => 11,
-        Answer::InvalidRun => 12,
-        Answer::OtherRun => 13,
-        Answer::PendingNotLead => 14,
-        Answer::RunEnded => 15,
-        Answer::ReadLimit => 16,
-    }
-}
-
 fn outcome_out(o: Outcome) -> TillOutcome
     ensures { λ r. ⌜ r ≡ outcomeOut o ⌝ }
 {
     let answer = o.answer;
     let inner = o.run;
     let run = run_out(inner);
-    let number = number_out(answer);
+    let number = answer.number();
     TillOutcome {
         run,
         read: o.read,

@@ -11,7 +11,7 @@ use lib.Dec.{leb, ltb, eqb}
 use lib.ListN.{length, getD, take, drop, length-take, drop-of-length-le}
 use lib.Seq.{drop-cons, take-all}
 use borrow.Author.Tests.{eqb-true, eqb-false, leb-true, leb-false, ltb-true, ltb-false, eq-eqb, ne-eqb, le-leb, lt-leb, lt-ltb, le-ltb, not-true, not-false}
-use Rattle.codepage.specs.CodePage.{CodePage, pick, entry, isKnown, isLead, leads, leadsBelow, GoodShape, firstBad, badClass, badNumber, classFault, firstFault, isGood}
+use Rattle.codepage.specs.CodePage.{CodePage, pick, entry, isKnown, isLead, leads, leadsBelow, GoodShape, firstBad, badClass, badNumber, classFault, sizesFault, entriesFault, firstFault, isGood}
 use Rattle.codepage.specs.declared.Fault.{Fault}
 use Rattle.codepage.specs.declared.Fault.the-variants.{Good, Page, ClassesSize, SinglesSize, PairsSize, IndexSize, BlocksSize, Class, Lead, Number}
 
@@ -153,9 +153,53 @@ unfolding classFault
 class-fault cs byte true e = rw e
 class-fault cs byte false e = rw e
 
+-- what comes after the sizes counts exactly where the sizes hold
+abbrev chain : (a b c d e f g : Bool) → Fault → Fault
+chain a b c d e f g then = pick a Page (pick b ClassesSize (pick c SinglesSize (pick d PairsSize (pick e IndexSize (pick f BlocksSize (pick g BlocksSize then))))))
+
+chain-then : (a b c d e f g : Bool) (then : Fault) → chain a b c d e f g then ≡ pick (isGood (chain a b c d e f g Good)) then (chain a b c d e f g Good)
+chain-then true b c d e f g then = refl
+chain-then false true c d e f g then = refl
+chain-then false false true d e f g then = refl
+chain-then false false false true e f g then = refl
+chain-then false false false false true f g then = refl
+chain-then false false false false false true g then = refl
+chain-then false false false false false false true then = refl
+chain-then false false false false false false false then = refl
+
+pub sizes-then : (p : CodePage) (then : Fault) → sizesFault p then ≡ pick (isGood (sizesFault p Good)) then (sizesFault p Good)
+unfolding sizesFault
+sizes-then p then =
+    chain-then
+    (eqb (p .page) 0)
+    (not (eqb (length (p .classes)) 256))
+    (not (eqb (length (p .singles)) 256))
+    (not (eqb (length (p .pairs)) (256 * leads (p .classes))))
+    (not (eqb (length (p .index)) 256))
+    (not (eqb (length (p .blocks) % 256) 0))
+    (not (leb 1 (length (p .blocks) / 256) && leb (length (p .blocks) / 256) 256))
+    then
+
+-- where the sizes hold, classes have 256 entries
+pub sizes-classes : (p : CodePage) → isGood (sizesFault p Good) ≡ true → length (p .classes) ≡ 256
+unfolding sizesFault
+sizes-classes p e =
+    let s₁ = good-step (eqb (p .page) 0) Page _ refl e in
+    let s₂ = good-step (not (eqb (length (p .classes)) 256)) ClassesSize _ refl (s₁ .1) in
+    eqb-true _ _ (not-false _ (s₂ .0))
+
+-- the report in two parts
+pub report-bad : (p : CodePage) (fault : Fault) → fault ≡ sizesFault p Good → isGood fault ≡ false → fault ≡ firstFault p
+unfolding firstFault
+report-bad p fault e q = let none : isGood (sizesFault p Good) ≡ false = ap isGood (sym e) ∙ q in rw (sizes-then, none) e
+
+pub report-good : (p : CodePage) (fault : Fault) → isGood (sizesFault p Good) ≡ true → fault ≡ entriesFault (p .classes) (p .index) (length (p .blocks) / 256) → fault ≡ firstFault p
+unfolding firstFault
+report-good p fault q e = rw (sizes-then, q) e
+
 module _ (p : CodePage) where
   good-shape : isGood (firstFault p) ≡ true → GoodShape p
-  unfolding firstFault badClass badNumber
+  unfolding firstFault sizesFault entriesFault badClass badNumber
   good-shape e =
       let s₁ = good-step (eqb (p .page) 0) Page _ refl e in
       let s₂ = good-step (not (eqb (length (p .classes)) 256)) ClassesSize _ refl (s₁ .1) in
@@ -200,7 +244,7 @@ module _ (p : CodePage) where
   class-good k false e g h = rw (h, e)
 
   no-fault : GoodShape p → firstFault p ≡ Good
-  unfolding firstFault
+  unfolding firstFault sizesFault entriesFault
   no-fault g =
       let count = g .blocks .0 in
       let size : length (p .blocks) ≡ 256 * count = g .blocks .3 in

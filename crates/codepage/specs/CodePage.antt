@@ -92,10 +92,9 @@ badNumber count place number = leb count number
 unfoldable pub classFault : List ℕ → ℕ → Fault
 classFault classes byte = pick (isKnown (entry classes byte)) (Lead byte) (Class byte)
 
--- The first bad place: page, then the sizes in the order of the tables, then the first bad class or low lead, then the first
--- bad index number.
-unfoldable pub firstFault : CodePage → Fault
-firstFault p =
+-- page, then the sizes in the order of the tables; where all of them hold, what comes then
+unfoldable pub sizesFault : CodePage → (then : Fault) → Fault
+sizesFault p then =
     pick (eqb (p .page) 0) Page
     (pick (not (eqb (length (p .classes)) 256)) ClassesSize
     (pick (not (eqb (length (p .singles)) 256)) SinglesSize
@@ -103,9 +102,19 @@ firstFault p =
     (pick (not (eqb (length (p .index)) 256)) IndexSize
     (pick (not (eqb (length (p .blocks) % 256) 0)) BlocksSize
     (pick (not (leb 1 (length (p .blocks) / 256) && leb (length (p .blocks) / 256) 256)) BlocksSize
-    (pick (ltb (firstBad badClass 0 (p .classes)) 256) (classFault (p .classes) (firstBad badClass 0 (p .classes)))
-    (pick (ltb (firstBad (badNumber (length (p .blocks) / 256)) 0 (p .index)) 256) (Number (firstBad (badNumber (length (p .blocks) / 256)) 0 (p .index)))
-    Good))))))))
+    then))))))
+
+-- the first bad class or low lead, then the first index number that names none of so many blocks
+unfoldable pub entriesFault : (classes index : List ℕ) → (count : ℕ) → Fault
+entriesFault classes index count =
+    pick (ltb (firstBad badClass 0 classes) 256) (classFault classes (firstBad badClass 0 classes))
+    (pick (ltb (firstBad (badNumber count) 0 index) 256) (Number (firstBad (badNumber count) 0 index))
+    Good)
+
+-- The first bad place: page, then the sizes in the order of the tables, then the first bad class or low lead, then the first
+-- bad index number.
+unfoldable pub firstFault : CodePage → Fault
+firstFault p = sizesFault p (entriesFault (p .classes) (p .index) (length (p .blocks) / 256))
 
 abbrev pub isGood : Fault → Bool
 isGood Good = true

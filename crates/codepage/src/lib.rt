@@ -6,7 +6,8 @@ pub mod profile;
 ghost use mathlib.Core.Path.{_≡_};
 ghost use Prim.Native.Nat.{ℕ, _≤_};
 ghost use lib.ListN.{length};
-ghost use Rattle.codepage.specs.CodePage.{codePage, isSingle, isLead, isTrail, isKnown, leadsBelow, firstBad, badClass, badNumber, firstFault};
+ghost use Rattle.codepage.specs.CodePage.{codePage, isSingle, isLead, isTrail, isKnown, leadsBelow, firstBad, badClass, badNumber, sizesFault, entriesFault, firstFault, isGood};
+ghost use Rattle.codepage.specs.declared.Fault.the-variants.{Good};
 
 // The numbers of a table set.
 pub struct Numbers {
@@ -148,8 +149,8 @@ fn first_bad_number(index: &[u8], count: usize) -> usize
     place
 }
 
-// The shape report.
-pub fn shape_report(
+// The first fault of the page and the sizes, or good.
+fn size_fault(
     numbers: Numbers,
     classes: &[u8],
     singles: &[u16],
@@ -157,7 +158,7 @@ pub fn shape_report(
     index: &[u8],
     blocks: &[u16],
 ) -> Fault
-    ensures { λ r. ⌜ r ≡ firstFault (codePage numbers (now (classes .entry)) (now (singles .entry)) (now (pairs .entry)) (now (index .entry)) (now (blocks .entry))) ⌝ }
+    ensures { λ r. ⌜ r ≡ sizesFault (codePage numbers (now (classes .entry)) (now (singles .entry)) (now (pairs .entry)) (now (index .entry)) (now (blocks .entry))) Good ⌝ }
 {
     if numbers.page == 0 {
         return Fault::Page;
@@ -174,16 +175,24 @@ pub fn shape_report(
     if index.len() != 256 {
         return Fault::IndexSize;
     }
-    let count = blocks.len() / 256;
     if blocks.len() % 256 != 0 {
         return Fault::BlocksSize;
     }
+    let count = blocks.len() / 256;
     if count < 1 {
         return Fault::BlocksSize;
     }
     if 256 < count {
         return Fault::BlocksSize;
     }
+    Fault::Good
+}
+
+// The first bad class or low lead, then the first index number that names none of `count` blocks, or good.
+fn entry_fault(classes: &[u8], index: &[u8], count: usize) -> Fault
+    requires { ⌜ length (now classes) ≡ 256 ⌝ }
+    ensures { λ r. ⌜ r ≡ entriesFault (now (classes .entry)) (now (index .entry)) count ⌝ }
+{
     let byte = first_bad_class(classes);
     if byte < 256 {
         if is_known_class(classes[byte]) {
@@ -196,4 +205,39 @@ pub fn shape_report(
         return Fault::Number(place);
     }
     Fault::Good
+}
+
+fn is_good(fault: Fault) -> bool
+    ensures { λ r. ⌜ r ≡ isGood fault ⌝ }
+{
+    match fault {
+        Fault::Good => true,
+        Fault::Page => false,
+        Fault::ClassesSize => false,
+        Fault::SinglesSize => false,
+        Fault::PairsSize => false,
+        Fault::IndexSize => false,
+        Fault::BlocksSize => false,
+        Fault::Class(_) => false,
+        Fault::Lead(_) => false,
+        Fault::Number(_) => false,
+    }
+}
+
+// The shape report.
+pub fn shape_report(
+    numbers: Numbers,
+    classes: &[u8],
+    singles: &[u16],
+    pairs: &[u16],
+    index: &[u8],
+    blocks: &[u16],
+) -> Fault
+    ensures { λ r. ⌜ r ≡ firstFault (codePage numbers (now (classes .entry)) (now (singles .entry)) (now (pairs .entry)) (now (index .entry)) (now (blocks .entry))) ⌝ }
+{
+    let sizes = size_fault(numbers, classes, singles, pairs, index, blocks);
+    if !is_good(sizes) {
+        return sizes;
+    }
+    entry_fault(classes, index, blocks.len() / 256)
 }

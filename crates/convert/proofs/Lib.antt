@@ -2,6 +2,4 @@ pub mod CallLaws
 pub mod RunLaws
 pub mod RefusalLaws
 pub mod SampleRows
-pub mod TextLaws
-pub mod TextTheorems
 pub mod RoundTripLaws

@@ -1,6 +1,5 @@
 pub mod Runs
 pub mod Calls
-pub mod Texts
 pub mod RoundTrips
 pub mod Steps
 pub mod Sample

@@ -7,7 +7,6 @@ use Rattle.convert.specs.declared.Pending.{Pending}
 use Rattle.convert.specs.declared.Pending.the-variants.{Nothing, Byte}
 use Rattle.convert.specs.declared.Run.{Run}
 use Rattle.convert.specs.declared.Outcome.{Outcome}
-use Rattle.convert.specs.declared.Totals.{Totals}
 use Rattle.convert.specs.Calls.{numberOf, readOf, runAfter, endedAfter}
 
 -- a pending unit as a flag and a number
@@ -32,7 +31,3 @@ pub record Refused (number : ℕ) (run : Run) (r : Outcome) : Type 0 where
   pub read : r .read ≡ 0
   pub written : r .written ≡ 0
   pub run′ : r .run ≡ run
-
--- what a text gave, from the numbers of its loop
-abbrev pub totalsBy : Progress → Totals
-totalsBy s = record { flags = s .flags; read = s .used; written = s .written }

@@ -1,7 +1,6 @@
 // A conversion between code page bytes and UTF-16 units as a run that is fed in pieces. (Document 01.)
 mod finish;
 pub mod rules;
-pub mod text;
 
 ghost use mathlib.Core.Path.{_≡_};
 ghost use mathlib.Core.Bool.{true};
@@ -13,7 +12,7 @@ ghost use Rattle.codepage.specs.CodePage.{codePage};
 ghost use Rattle.engine.specs.declared.Direction.the-variants.{Decoding, Encoding};
 ghost use Rattle.engine.specs.Policies.{policyAllowed};
 ghost use Rattle.convert.specs.Runs.{startOf, startedAs};
-ghost use Rattle.convert.specs.Calls.{runCall, Answered};
+ghost use Rattle.convert.specs.Calls.{numberOf, runCall, Answered};
 use codepage::Numbers;
 use engine::policies;
 use loops::decoder;
@@ -77,41 +76,25 @@ pub struct Outcome {
     pub run: Run,
 }
 
-// What a text gave as a whole: the flags it set, the units read, and the units of output.
-pub struct Totals {
-    pub flags: u8,
-    pub read: usize,
-    pub written: usize,
-}
-
-// What counting answers.
-pub enum Counted {
-    // 0: all read.
-    All(Totals),
-    // 3: stopped by policy digit 0.
-    Stopped(Totals),
-    // 17: a policy digit is not allowed.
-    BadPolicy,
-    // 10: the shape of the tables is not good.
-    BadShape,
-    // 11: the text is over the limit.
-    TooLong,
-}
-
-// What the one-go call answers.
-pub enum Converted {
-    // 0: all read.
-    All(Totals),
-    // 2: the next code does not fit.
-    OutputFull(Totals),
-    // 3: stopped by policy digit 0.
-    Stopped(Totals),
-    // 17: a policy digit is not allowed.
-    BadPolicy,
-    // 10: the shape of the tables is not good.
-    BadShape,
-    // 11: the text is over the limit.
-    TooLong,
+impl Answer {
+    // The number that document 01 gives the answer.
+    pub fn number(self) -> u8
+        ensures { λ r. ⌜ r ≡ numberOf self ⌝ }
+    {
+        match self {
+            Answer::AllRead => 0,
+            Answer::LeadPending => 1,
+            Answer::OutputFull => 2,
+            Answer::Stopped => 3,
+            Answer::BadShape => 10,
+            Answer::PieceTooLong => 11,
+            Answer::InvalidRun => 12,
+            Answer::OtherRun => 13,
+            Answer::PendingNotLead => 14,
+            Answer::RunEnded => 15,
+            Answer::ReadLimit => 16,
+        }
+    }
 }
 
 impl Run {

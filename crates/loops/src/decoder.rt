@@ -6,14 +6,14 @@ ghost use Prim.Native.Nat.{ℕ, _<_};
 ghost use lib.ListN.{length};
 ghost use Rattle.codepage.specs.CodePage.{entry, isSingle, isLead};
 ghost use Rattle.engine.specs.Engine.{over};
-ghost use Rattle.loops.specs.Runs.{Way};
+ghost use Rattle.loops.specs.Ways.{Way};
 ghost use Rattle.engine.specs.Steps.{summary, Ends, DecodeSizes, optional, decodeFed};
-use crate::plain;
-use crate::runs;
 use engine::Policy;
 use engine::policies;
 use engine::progress;
 use engine::progress::Progress;
+use fastpath::plain;
+use fastpath::runs;
 
 // Pages that have only singles. Their pairs, and whether the call is the last, are asked nothing: they stand in the promise.
 fn decode_singles(

@@ -8,12 +8,12 @@ ghost use Rattle.engine.specs.declared.Direction.the-variants.{Encoding};
 ghost use Rattle.engine.specs.Policies.{policyAllowed};
 ghost use Rattle.engine.specs.Engine.{over};
 ghost use Rattle.engine.specs.Steps.{summary, encodeFed};
-use crate::plain;
-use crate::runs;
 use engine::Policy;
 use engine::policies;
 use engine::progress;
 use engine::progress::Progress;
+use fastpath::plain;
+use fastpath::runs;
 
 pub fn encode_loop(
     policy: Policy,

@@ -1,7 +1,4 @@
 // Messages: words and numbers written to a descriptor, and the meaning of each number that a call can refuse with.
-ghost use mathlib.Core.Path.{_≡_};
-ghost use Rattle.convert.specs.Calls.{numberOf};
-use convert::Answer;
 use libc::STDERR_FILENO;
 
 // Some bytes.
@@ -60,26 +57,7 @@ pub fn wrong(path: &[u8], what: &[u8]) {
     say(b"\n");
 }
 
-// The number of an answer.
-pub fn number_of(answer: Answer) -> u64
-    ensures { λ r. ⌜ r ≡ numberOf answer ⌝ }
-{
-    match answer {
-        Answer::AllRead => 0,
-        Answer::LeadPending => 1,
-        Answer::OutputFull => 2,
-        Answer::Stopped => 3,
-        Answer::BadShape => 10,
-        Answer::PieceTooLong => 11,
-        Answer::InvalidRun => 12,
-        Answer::OtherRun => 13,
-        Answer::PendingNotLead => 14,
-        Answer::RunEnded => 15,
-        Answer::ReadLimit => 16,
-    }
-}
-
-fn say_call_meaning(number: u64) {
+fn say_call_meaning(number: u8) {
     match number {
         10 => say(b"the shape of the tables is not good"),
         11 => say(b"the piece has over 65,536 units"),
@@ -92,7 +70,7 @@ fn say_call_meaning(number: u64) {
     }
 }
 
-fn say_meaning(number: u64) {
+fn say_meaning(number: u8) {
     match number {
         2 => say(b"the next code does not fit"),
         17 => say(b"the page is 0, or a policy digit is not allowed"),
@@ -103,9 +81,9 @@ fn say_meaning(number: u64) {
 }
 
 // Says the number that a call refused with, its meaning, and which file it is about.
-pub fn refuse(number: u64, path: &[u8]) {
+pub fn refuse(number: u8, path: &[u8]) {
     say(b"tillbox: error ");
-    say_number(number);
+    say_number(number as u64);
     say(b": ");
     say_meaning(number);
     say(b" (");

@@ -18,7 +18,7 @@ pub struct Turn {
 }
 
 // Whether a call with room enough was taken.
-fn is_taken(number: u64) -> bool {
+fn is_taken(number: u8) -> bool {
     if number == 2 {
         return false;
     }
@@ -29,7 +29,7 @@ fn is_taken(number: u64) -> bool {
 fn settled(outcome: Outcome, path: &[u8]) -> Turn {
     let answer = outcome.answer;
     let run = outcome.run;
-    let number = messages::number_of(answer);
+    let number = answer.number();
     if is_taken(number) {
         return Turn { run, failed: false };
     }

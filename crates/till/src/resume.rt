@@ -52,7 +52,7 @@ fn refusal(
     pairs: &[u16],
     index: &[u8],
     blocks: &[u16],
-) -> u64 {
+) -> u8 {
     match direction {
         Direction::Decoding => {
             let mut out = [0u16; 1];
@@ -69,7 +69,7 @@ fn refusal(
                 &mut out,
             );
             let answer = outcome.answer;
-            messages::number_of(answer)
+            answer.number()
         }
         Direction::Encoding => {
             let mut out = [0u8; 1];
@@ -86,7 +86,7 @@ fn refusal(
                 &mut out,
             );
             let answer = outcome.answer;
-            messages::number_of(answer)
+            answer.number()
         }
     }
 }

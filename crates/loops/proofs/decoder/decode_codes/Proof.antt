@@ -1,5 +1,5 @@
 use Rattle.engine.proofs.TurnLaws.{Loop, loop-start, turn-wait, turn-two, turn-one, stop-two, stop-one, end-none, end-wait, end-last}
-use Rattle.loops.proofs.RunLaws.{turn-ran}
+use Rattle.fastpath.proofs.RunLaws.{turn-ran}
 use Rattle.engine.proofs.DecodeLaws.{pair-room, decoded-one, decoded-two, decoder-waits, decoder-lead}
 use Rattle.engine.specs.Steps.{optional, decodeFed}
 use Rattle.engine.specs.Engine.{converter}
@@ -21,7 +21,7 @@ use Rattle.codepage.proofs.profile.leads_of.Reads as leads-of-reads
 use Rattle.engine.proofs.policies.decoded.Reads as decoded-reads
 use Rattle.engine.proofs.progress.moved.Reads as moved-reads
 use Rattle.engine.proofs.progress.take_units.Reads as take-units-reads
-use Rattle.loops.proofs.runs.run_of_codes.Reads as run-of-codes-reads
+use Rattle.fastpath.proofs.runs.run_of_codes.Reads as run-of-codes-reads
 
 abbrev Inv-loop : tie.InvT-loop
 Inv-loop policy default classes singles pairs pending lead piece last out₀ leads waits₀ first₀ s₀ i₀ out waits first s i =

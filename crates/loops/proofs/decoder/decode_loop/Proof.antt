@@ -1,4 +1,4 @@
-use Rattle.loops.proofs.PlainLaws.{plain-ends, ends-from, ends-for}
+use Rattle.fastpath.proofs.PlainLaws.{plain-ends, ends-from, ends-for}
 use Rattle.engine.specs.Steps.{optional, decodeFed}
 use Rattle.codepage.specs.Reading.{decoder}
 use lib.ListN.{length}

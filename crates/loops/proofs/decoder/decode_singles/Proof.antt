@@ -1,5 +1,5 @@
 use Rattle.engine.proofs.TurnLaws.{Loop, loop-start, turn-one, stop-one, end-none}
-use Rattle.loops.proofs.RunLaws.{turn-ran}
+use Rattle.fastpath.proofs.RunLaws.{turn-ran}
 use Rattle.engine.proofs.DecodeLaws.{decoded-one, decoder-waits}
 use Rattle.engine.specs.Steps.{decodeFed}
 use Rattle.engine.specs.Engine.{converter}
@@ -20,7 +20,7 @@ use Rattle.codepage.proofs.inner.byte_alone.Reads as byte-alone-reads
 use Rattle.engine.proofs.policies.decoded.Reads as decoded-reads
 use Rattle.engine.proofs.progress.moved.Reads as moved-reads
 use Rattle.engine.proofs.progress.take_units.Reads as take-units-reads
-use Rattle.loops.proofs.runs.run_of_singles.Reads as run-of-singles-reads
+use Rattle.fastpath.proofs.runs.run_of_singles.Reads as run-of-singles-reads
 
 abbrev Inv-loop : tie.InvT-loop
 Inv-loop policy default classes singles pairs piece last out₀ s₀ i₀ out s i =

@@ -1,4 +1,4 @@
-use Rattle.loops.proofs.PlainLaws.{plain-sure}
+use Rattle.fastpath.proofs.PlainLaws.{plain-sure}
 use native.Mathlib.Omega.{arith}
 use mathlib.Core.Path.{_≡_, refl}
 use borrow.Author.Needs.{needs}
@@ -7,7 +7,7 @@ use Rattle.loops.proofs.decoder.way_of.Tie as tie
 use Rattle.loops.proofs.decoder.way_of.Reads as reads
 use Rattle.loops.proofs.decoder.way_of.Lts as lts
 use Rattle.codepage.proofs.profile.only_singles.Reads as only-singles-reads
-use Rattle.loops.proofs.plain.decode_plain.Reads as decode-plain-reads
+use Rattle.fastpath.proofs.plain.decode_plain.Reads as decode-plain-reads
 
 -- src/decoder.rt:147:9
 returns : tie.Need-returns

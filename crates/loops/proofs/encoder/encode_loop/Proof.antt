@@ -1,6 +1,6 @@
 use Rattle.engine.proofs.TurnLaws.{Loop, loop-start, turn-one, stop-one, end-none}
-use Rattle.loops.proofs.RunLaws.{turn-ran}
-use Rattle.loops.proofs.PlainLaws.{plain-ends, ends-from}
+use Rattle.fastpath.proofs.RunLaws.{turn-ran}
+use Rattle.fastpath.proofs.PlainLaws.{plain-ends, ends-from}
 use Rattle.engine.proofs.EncodeLaws.{encoded-one, encoder-waits}
 use Rattle.engine.specs.Steps.{encodeFed}
 use Rattle.engine.specs.Engine.{converter}
@@ -16,11 +16,11 @@ use Rattle.loops.proofs.encoder.encode_loop.Tie as tie
 use Rattle.loops.proofs.encoder.encode_loop.Reads as reads
 use Rattle.loops.proofs.encoder.encode_loop.Lts as lts
 use Rattle.codepage.proofs.inner.unit_code.Reads as unit-code-reads
-use Rattle.loops.proofs.plain.encode_plain.Reads as encode-plain-reads
+use Rattle.fastpath.proofs.plain.encode_plain.Reads as encode-plain-reads
 use Rattle.engine.proofs.policies.encoded.Reads as encoded-reads
 use Rattle.engine.proofs.progress.moved.Reads as moved-reads
 use Rattle.engine.proofs.progress.take_bytes.Reads as take-bytes-reads
-use Rattle.loops.proofs.runs.run_of_coded.Reads as run-of-coded-reads
+use Rattle.fastpath.proofs.runs.run_of_coded.Reads as run-of-coded-reads
 
 abbrev Inv-loop : tie.InvT-loop
 Inv-loop policy default index blocks piece last out₀ s₀ i₀ out s i =

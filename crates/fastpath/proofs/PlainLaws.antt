@@ -1,0 +1,135 @@
+-- Laws of plain text: every unit of a piece is written as it is.
+use mathlib.Core.Bool.{Bool, true, false, true≢false, false≢true}
+use mathlib.Core.List.{List, [], _∷_, _++_}
+use mathlib.Core.Option.{Option, none, some}
+use mathlib.Core.Path.{_≡_, refl, sym, ap, _∙_, subst}
+use Prim.Native.Nat.{ℕ, zero, suc, _+_, _-_, _*_, _/_, _%_, _<_, _≤_}
+use native.Mathlib.Numerals.{add-one}
+use native.Mathlib.Omega.{arith}
+use lib.Dec.{leb}
+use lib.ListN.{length, getD, take, drop, set, length-set, take-append-drop}
+use lib.Seq.{take-suc, take-suc-set, drop-set-lt, drop-drop, take-length}
+use lib.Bits.{bitOr, or-zero-l, or-add-and, and-le-l, and-le-r}
+use borrow.Author.Tests.{le-leb, leb-true, leb-false}
+use Rattle.codepage.specs.CodePage.{entry, isLead}
+use Rattle.codepage.specs.Reading.{Reader, byteAlone, bytesOf, unitCode, decoder, encoder}
+use Rattle.codepage.specs.declared.Lookup.the-variants.{Found}
+use Rattle.engine.specs.declared.Policy.{Policy}
+use Rattle.engine.specs.Engine.{Effect, effectOf, Converter, converter, Room, limit, fits, less, Fed, halt, after, takeCode, feedFrom, over}
+use Rattle.engine.specs.declared.progress.Progress.{Progress}
+use Rattle.engine.specs.Steps.{summary, Ends}
+use Rattle.fastpath.specs.Runs.{AllBelow, Copied, allTaken, Plain}
+use Rattle.engine.proofs.EngineLaws.{take-fits, feed-one}
+use Rattle.engine.proofs.LoopLaws.{later}
+
+-- ---- the largest
+pub or-over : (a b : ℕ) → (a ≤ bitOr a b) × (b ≤ bitOr a b)
+or-over a b = (omega (arith, or-add-and a b, and-le-r a b), omega (arith, or-add-and a b, and-le-l a b))
+
+-- one more entry is not over the largest
+pub largest-more : (xs : List ℕ) (i m m′ : ℕ) → ((k : ℕ) → k < i → entry xs k ≤ m) → m ≤ m′ → entry xs i ≤ m′ → (k : ℕ) → k < i + 1 → entry xs k ≤ m′
+largest-more xs i m m′ all h e k b = by-place (leb (suc k) i) refl
+  where
+    by-place : (t : Bool) → leb (suc k) i ≡ t → entry xs k ≤ m′
+    by-place true q = let f = leb-true (suc k) i q in omega (arith, all k (omega (arith, f)), h)
+    by-place false q =
+        let f = leb-false (suc k) i q in
+        let at : k ≡ i = omega (arith, f, b) in
+        rw at e
+
+pub all-below : (bound m : ℕ) (xs : List ℕ) → ((k : ℕ) → k < length xs → entry xs k ≤ m) → m < bound → AllBelow bound xs
+all-below bound m xs all h k b = omega (arith, all k b)
+
+-- ---- copying
+pub copied-start : (piece before : List ℕ) → Copied piece before before 0
+copied-start piece before = record { same = refl; front = refl; back = refl }
+
+pub copied-at : {piece before out : List ℕ} {i j : ℕ} → Copied piece before out i → i ≡ j → Copied piece before out j
+copied-at {piece} {before} {out} c e = subst (λ (n : ℕ). Copied piece before out n) e c
+
+pub copied-one : (piece before out : List ℕ) (i : ℕ) → Copied piece before out i → i < length piece → i < length out → Copied piece before (set out i (entry piece i)) (i + 1)
+copied-one piece before out i c h f =
+    record {
+      same = length-set out i (entry piece i) ∙ c .same;
+      front = rw (add-one i, take-suc-set out i (entry piece i) f, take-suc piece i 0 h, c .front);
+      back = drop-set-lt (i + 1) out i (entry piece i) (omega arith) ∙ later i (i + 1) out before (omega arith) (c .back);
+    }
+
+pub copied-all : (piece before out : List ℕ) → Copied piece before out (length piece) → out ≡ over before piece
+unfolding over
+copied-all piece before out c = sym (take-append-drop (length piece) out) ∙ ap (λ (l : List ℕ). l ++ drop (length piece) out) (c .front ∙ take-length piece) ∙ ap (λ (l : List ℕ). piece ++ l) (c .back)
+
+-- ---- feeding
+-- a unit that is a code of its own, written as it is
+abbrev pub Same : Reader → ℕ → Type 0
+Same R a = (R .waits a ≡ false) × (R .one a ≡ Found a) × (R .writes a ≡ a ∷ [])
+
+one-more : (a : ℕ) (l : List ℕ) → after 1 (a ∷ []) 0 (allTaken l) ≡ allTaken (a ∷ l)
+unfolding after
+one-more a l = let e : 1 + length l ≡ suc (length l) = omega arith in rw (or-zero-l 0, e)
+
+plain-step : (R : Reader) (policy : Policy) (default : ℕ) (last : Bool) (room a : ℕ) (piece : List ℕ) → 1 ≤ room → Same R a
+    → feedFrom (converter R policy default) last (limit (room - 1)) none piece ≡ allTaken piece
+    → feedFrom (converter R policy default) last (limit room) none (a ∷ piece) ≡ allTaken (a ∷ piece)
+unfolding converter effectOf fits less
+plain-step R policy default last room a piece h s e =
+    let k : effectOf (R .writes) policy default a (R .one a) ≡ record { flag = 0; writes = a ∷ []; stops = false } =
+    ap (effectOf (R .writes) policy default a) (s .1) ∙ ap (λ (ys : List ℕ). record { flag = 0; writes = ys; stops = false }) (s .2) in
+    feed-one (converter R policy default) last (limit room) a piece (s .0)
+    ∙ ap (λ (k : Effect). takeCode (limit room) 1 k (feedFrom (converter R policy default) last (less (limit room) (length (k .writes))) none piece)) k
+    ∙ take-fits (limit room) 1 (record { flag = 0; writes = a ∷ []; stops = false }) (feedFrom (converter R policy default) last (limit (room - 1)) none piece) refl (le-leb 1 room h)
+    ∙ ap (after 1 (a ∷ []) 0) e
+    ∙ one-more a piece
+
+pub plain-fed : (R : Reader) (policy : Policy) (default : ℕ) (last : Bool) (room : ℕ) (piece : List ℕ) → length piece ≤ room → ((k : ℕ) → k < length piece → Same R (entry piece k))
+    → feedFrom (converter R policy default) last (limit room) none piece ≡ allTaken piece
+unfolding feedFrom halt
+plain-fed R policy default last room [] h all = refl
+plain-fed R policy default last room (a ∷ piece) h all =
+    plain-step R policy default last room a piece (omega arith) (all 0 (omega arith))
+    (plain-fed R policy default last (room - 1) piece (omega arith) (λ k b. all (suc k) (omega arith)))
+
+-- ---- the two directions
+pub plain-byte : (classes singles pairs : List ℕ) (byte : ℕ) → isLead (entry classes byte) ≡ false → byteAlone classes singles byte ≡ Found byte → Same (decoder classes singles pairs) byte
+unfolding decoder
+plain-byte classes singles pairs byte e q = (e, q, refl)
+
+pub plain-unit : (index blocks : List ℕ) (unit : ℕ) → unit < 0x80 → unitCode index blocks unit ≡ Found unit → Same (encoder index blocks) unit
+unfolding encoder bytesOf
+plain-unit index blocks unit h q = (refl, q, rw (le-leb unit 0xFF (omega arith)))
+
+pub plain-taken : (R : Reader) (piece out out′ : List ℕ) → length piece ≤ length out → ((k : ℕ) → k < length piece → Same R (entry piece k)) → Copied piece out out′ (length piece)
+    → Plain R piece out true out′
+plain-taken R piece out out′ h all c =
+    record {
+      fed = λ e policy default last. plain-fed R policy default last (length out) piece h all;
+      laid = λ e. copied-all piece out out′ c;
+      left = λ e. absurd (true≢false e);
+      same = c .same;
+    }
+
+pub plain-left : (R : Reader) (piece out : List ℕ) → Plain R piece out false out
+plain-left R piece out = record { fed = λ e. absurd (false≢true e); laid = λ e. absurd (false≢true e); left = λ e. refl; same = refl }
+
+-- a call whose piece was copied whole
+pub plain-ends : (R : Reader) (policy : Policy) (default : ℕ) (last : Bool) {piece out : List ℕ} {copied : Bool} {out′ : List ℕ} → Plain R piece out copied out′ → copied ≡ true
+    → Ends (feedFrom (converter R policy default) last (limit (length out)) none piece) out out′ (record { answer = 0; used = length piece; written = length piece; flags = 0 })
+unfolding summary
+plain-ends R policy default last {piece} {out} p e =
+    let fed = p .fed e policy default last in
+    record {
+      result = sym (ap summary fed);
+      laid = p .laid e ∙ ap (λ (F : Fed). over out (F .output)) (sym fed);
+      same = p .same;
+    }
+
+-- the same output, by another name
+pub ends-from : (F : ℕ → Fed) {out₁ out₀ out : List ℕ} {r : Progress} → Ends (F (length out₁)) out₁ out r → out₁ ≡ out₀ → Ends (F (length out₀)) out₀ out r
+ends-from F {out₁} {out₀} {out} {r} h e = subst (λ (l : List ℕ). Ends (F (length l)) l out r) e h
+
+-- what is pending, by its test
+pub ends-for : (F : Bool → Fed) {out₀ out : List ℕ} {r : Progress} {p q : Bool} → Ends (F q) out₀ out r → p ≡ q → Ends (F p) out₀ out r
+ends-for F {out₀} {out} {r} h e = subst (λ (b : Bool). Ends (F b) out₀ out r) (sym e) h
+
+pub plain-sure : {R : Reader} {piece out : List ℕ} {copied : Bool} {out′ : List ℕ} → Plain R piece out copied out′ → copied ≡ true → Plain R piece out true out′
+plain-sure {R} {piece} {out} {copied} {out′} p e = subst (λ (b : Bool). Plain R piece out b out′) e p

@@ -1,0 +1,177 @@
+-- Laws of counting and of the one-go call.
+use mathlib.Core.Bool.{Bool, true, false, true≢false}
+use mathlib.Core.List.{List, [], _∷_, _++_}
+use mathlib.Core.Logic.{_⊎_, inl, inr}
+use mathlib.Core.Option.{Option, none, some}
+use mathlib.Core.Path.{_≡_, refl, sym, ap, _∙_, subst}
+use Prim.Native.Nat.{ℕ, zero, suc, _+_, _*_, _<_, _≤_}
+use native.Mathlib.Omega.{arith}
+use lib.Dec.{leb, eqb}
+use lib.ListN.{length, take, drop}
+use lib.Seq.{take-at}
+use borrow.Author.Tests.{leb-true, eqb-true, eqb-false, eq-eqb, ne-eqb}
+use Rattle.codepage.specs.CodePage.{CodePage, pick, entry, GoodShape, firstFault, isGood}
+use Rattle.codepage.specs.Reading.{decoder, encoder}
+use Rattle.codepage.proofs.ShapeLaws.{shape-exact}
+use Rattle.engine.specs.declared.Direction.{Direction}
+use Rattle.engine.specs.declared.Direction.the-variants.{Decoding, Encoding}
+use Rattle.engine.specs.declared.Policy.{Policy}
+use Rattle.oneshot.specs.declared.Totals.{Totals}
+use Rattle.oneshot.specs.declared.Counted.{Counted}
+use Rattle.oneshot.specs.declared.Converted.{Converted}
+use Rattle.engine.specs.declared.progress.Progress.{Progress}
+use Rattle.engine.specs.Policies.{policyAllowed}
+use Rattle.engine.specs.Engine.{Effect, Converter, Room, limit, endless, fits, less, Fed, halt, after, stopAt, takeWhen, takeCode, feedFrom}
+use Rattle.convert.specs.Runs.{pieceLimit}
+use Rattle.convert.specs.Calls.{check}
+use Rattle.engine.specs.Engine.{converterOf, over}
+use Rattle.oneshot.specs.Texts.{textRefusal, Text, acceptedText, refusedText, textFed, textOf, countedNumber, countedTotals, convertedNumber, convertedTotals, totalsOrNone, CountedAs, ConvertedAs}
+use Rattle.oneshot.specs.Steps.{totalsBy}
+use Rattle.engine.specs.Steps.{summary, DecodeSizes}
+use Rattle.engine.proofs.EngineLaws.{Shape, shape-from, feed-wait, feed-one}
+use Rattle.convert.proofs.CallLaws.{index-high}
+
+-- ---- one of a few numbers
+pub third : (n a b c : ℕ) → (n ≡ a) ⊎ ((n ≡ b) ⊎ (n ≡ c)) → (n ≡ a → ⊥) → (n ≡ b → ⊥) → c ≡ n
+third n a b c (inl e) p q = absurd (p e)
+third n a b c (inr (inl e)) p q = absurd (q e)
+third n a b c (inr (inr e)) p q = sym e
+
+pub second : (n a b : ℕ) → (n ≡ a) ⊎ (n ≡ b) → (n ≡ a → ⊥) → b ≡ n
+second n a b (inl e) p = absurd (p e)
+second n a b (inr e) p = sym e
+
+-- ---- the refusals
+named-text : (b₁ b₂ b₃ : Bool) → (check 17 b₁ (check 10 b₂ (check 11 b₃ 0)) ≡ 0 → ⊥)
+    → (check 17 b₁ (check 10 b₂ (check 11 b₃ 0)) ≡ 10) ⊎ ((check 17 b₁ (check 10 b₂ (check 11 b₃ 0)) ≡ 11) ⊎ (check 17 b₁ (check 10 b₂ (check 11 b₃ 0)) ≡ 17))
+named-text false b₂ b₃ h = inr (inr refl)
+named-text true false b₃ h = inl refl
+named-text true true false h = inr (inl refl)
+named-text true true true h = absurd (h refl)
+
+pub text-named : (direction : Direction) (policy : Policy) (p : CodePage) (count n : ℕ) → n ≡ textRefusal direction policy p count → (n ≡ 0 → ⊥) → (n ≡ 10) ⊎ ((n ≡ 11) ⊎ (n ≡ 17))
+unfolding textRefusal
+text-named direction policy p count n e h =
+    subst (λ (k : ℕ). (k ≡ 10) ⊎ ((k ≡ 11) ⊎ (k ≡ 17))) (sym e) (named-text (policyAllowed direction policy) (isGood (firstFault p)) (leb count pieceLimit) (λ z. h (e ∙ z)))
+
+pub record TextAccepted (direction : Direction) (policy : Policy) (p : CodePage) (count : ℕ) : Type 0 where
+  pub policy-allowed : policyAllowed direction policy ≡ true
+  pub good : GoodShape p
+  pub short : count ≤ pieceLimit
+
+three-pass : (b₁ b₂ b₃ : Bool) → check 17 b₁ (check 10 b₂ (check 11 b₃ 0)) ≡ 0 → (b₁ ≡ true) × (b₂ ≡ true) × (b₃ ≡ true)
+three-pass false b₂ b₃ e = absurd (omega arith)
+three-pass true false b₃ e = absurd (omega arith)
+three-pass true true false e = absurd (omega arith)
+three-pass true true true e = (refl, refl, refl)
+
+pub text-accepted : (direction : Direction) (policy : Policy) (p : CodePage) (count : ℕ) → textRefusal direction policy p count ≡ 0 → TextAccepted direction policy p count
+unfolding textRefusal
+text-accepted direction policy p count e =
+    let t = three-pass (policyAllowed direction policy) (isGood (firstFault p)) (leb count pieceLimit) e in
+    record { policy-allowed = t .0; good = shape-exact p .0 (t .1); short = leb-true _ _ (t .2) }
+
+-- what the loops require
+pub decode-text-needs : (policy : Policy) (p : CodePage) (count : ℕ) → TextAccepted Decoding policy p count → DecodeSizes (p .classes) (p .singles) (p .pairs)
+decode-text-needs policy p count a = record { all-classes = a .good .classes; all-singles = a .good .singles; all-pairs = a .good .pairs; no-low-lead = a .good .low }
+
+pub encode-text-needs : (policy : Policy) (p : CodePage) (count : ℕ) → TextAccepted Encoding policy p count
+    → (policyAllowed Encoding policy ≡ true) × ((length (p .index) ≡ 256) × ((high : ℕ) → 256 * entry (p .index) high + 256 ≤ length (p .blocks)))
+encode-text-needs policy p count a = (
+  a .policy-allowed,
+  (a .good .index, λ high. index-high (p .index) (length (p .blocks)) high (a .good .index) (a .good .number) (omega (arith, a .good .blocks))),
+)
+
+-- ---- the answers of a call marked last
+one-of : (n : ℕ) → n ≤ 3 → (n ≡ 1 → ⊥) → (n ≡ 0) ⊎ ((n ≡ 2) ⊎ (n ≡ 3))
+one-of zero h e = inl refl
+one-of (suc zero) h e = absurd (e refl)
+one-of (suc (suc zero)) h e = inr (inl refl)
+one-of (suc (suc (suc zero))) h e = inr (inr refl)
+one-of (suc (suc (suc (suc n)))) h e = absurd (omega arith)
+
+pub text-answer : (direction : Direction) (policy : Policy) (p : CodePage) (room : Room) (text : List ℕ) (s : Progress) → s ≡ summary (textFed direction policy p room text)
+    → (s .answer ≡ 0) ⊎ ((s .answer ≡ 2) ⊎ (s .answer ≡ 3))
+unfolding textFed summary
+text-answer direction policy p room text s e =
+    let formed = shape-from (converterOf direction p policy) true room none text tt in
+    let answer : s .answer ≡ feedFrom (converterOf direction p policy) true room none text .answer = ap (λ (x : Progress). x .answer) e in
+    one-of (s .answer) (omega (arith, formed .known)) (λ z. true≢false (formed .holds (sym answer ∙ z) .2))
+
+-- with room that never ends no answer is 2
+never-code : (n : ℕ) (k : Effect) (f : Fed) (s : Bool) → (f .answer ≡ 2 → ⊥) → takeWhen s true n k f .answer ≡ 2 → ⊥
+unfolding takeWhen stopAt after
+never-code n k f true h e = omega arith
+never-code n k f false h e = h e
+
+never-one : (v : Converter) (last : Bool) (a : ℕ) (l : List ℕ) (t : Bool) → v .waits a ≡ t → (feedFrom v last endless none l .answer ≡ 2 → ⊥) → (feedFrom v last endless (some a) l .answer ≡ 2 → ⊥)
+    → feedFrom v last endless none (a ∷ l) .answer ≡ 2 → ⊥
+unfolding takeCode fits less
+never-one v last a l true e h₁ h₂ q = h₂ (sym (ap (λ (f : Fed). f .answer) (feed-wait v last endless a l e)) ∙ q)
+never-one v last a l false e h₁ h₂ q = never-code 1 (v .one a) _ (v .one a .stops) h₁ (sym (ap (λ (f : Fed). f .answer) (feed-one v last endless a l e)) ∙ q)
+
+pub never-full : (v : Converter) (last : Bool) (p : Option ℕ) (l : List ℕ) → feedFrom v last endless p l .answer ≡ 2 → ⊥
+unfolding feedFrom takeCode fits less halt
+never-full v last none [] e = omega arith
+never-full v true (some c) [] e = never-code 1 (v .one c) (halt 0) (v .one c .stops) (λ z. omega arith) e
+never-full v false (some c) [] e = omega arith
+never-full v last none (a ∷ l) e = never-one v last a l (v .waits a) refl (never-full v last none l) (never-full v last (some a) l) e
+never-full v last (some c) (b ∷ l) e = never-code 2 (v .two c b) _ (v .two c b .stops) (never-full v last none l) e
+
+pub count-answer : (direction : Direction) (policy : Policy) (p : CodePage) (text : List ℕ) (s : Progress) → s ≡ summary (textFed direction policy p endless text) → (s .answer ≡ 0) ⊎ (s .answer ≡ 3)
+unfolding textFed summary
+count-answer direction policy p text s e = by-case (text-answer direction policy p endless text s e)
+  where
+    by-case : (s .answer ≡ 0) ⊎ ((s .answer ≡ 2) ⊎ (s .answer ≡ 3)) → (s .answer ≡ 0) ⊎ (s .answer ≡ 3)
+    by-case (inl z) = inl z
+    by-case (inr (inl z)) = absurd (never-full (converterOf direction p policy) true none text (sym (ap (λ (x : Progress). x .answer) e) ∙ z))
+    by-case (inr (inr z)) = inr z
+
+-- ---- the promises
+module _ (direction : Direction) (policy : Policy) (p : CodePage) (text : List ℕ) where
+  pub counted-refused : (n : ℕ) (r : Counted) → n ≡ textRefusal direction policy p (length text) → (n ≡ 0 → ⊥) → (countedNumber r ≡ n) × (countedTotals r ≡ none)
+      → CountedAs (textOf direction policy p endless text) r
+  unfolding textOf refusedText
+  counted-refused n r e z w = rw (← e, ne-eqb _ _ z) (record { number = w .0; totals = w .1 })
+
+  pub counted-accepted : (s : Progress) (r : Counted) → textRefusal direction policy p (length text) ≡ 0 → s ≡ summary (textFed direction policy p endless text)
+      → (countedNumber r ≡ s .answer) × (countedTotals r ≡ some (totalsBy s)) → CountedAs (textOf direction policy p endless text) r
+  unfolding textOf acceptedText summary
+  counted-accepted s r z e w =
+      let accepted : eqb (textRefusal direction policy p (length text)) 0 ≡ true = eq-eqb _ _ z in
+      rw accepted (record { number = w .0 ∙ ap (λ (x : Progress). x .answer) e; totals = w .1 ∙ ap (λ (x : Progress). some (totalsBy x)) e })
+
+  pub converted-refused : (n : ℕ) (r : Converted) (before : List ℕ) → n ≡ textRefusal direction policy p (length text) → (n ≡ 0 → ⊥) → (convertedNumber r ≡ n) × (convertedTotals r ≡ none)
+      → ConvertedAs (textOf direction policy p (limit (length before)) text) r before before
+  unfolding textOf refusedText over
+  converted-refused n r before e z w = rw (← e, ne-eqb _ _ z) (record { number = w .0; totals = w .1; lent = refl })
+
+  pub converted-accepted : (s : Progress) (r : Converted) (before after : List ℕ) → textRefusal direction policy p (length text) ≡ 0
+      → s ≡ summary (textFed direction policy p (limit (length before)) text) → after ≡ over before (textFed direction policy p (limit (length before)) text .output)
+      → (convertedNumber r ≡ s .answer) × (convertedTotals r ≡ some (totalsBy s)) → ConvertedAs (textOf direction policy p (limit (length before)) text) r before after
+  unfolding textOf acceptedText summary
+  converted-accepted s r before after z e f w =
+      let accepted : eqb (textRefusal direction policy p (length text)) 0 ≡ true = eq-eqb _ _ z in
+      rw accepted (record { number = w .0 ∙ ap (λ (x : Progress). x .answer) e; totals = w .1 ∙ ap (λ (x : Progress). some (totalsBy x)) e; lent = f })
+
+  -- written is the output's length
+  pub written-is : (room : Room) → totalsOrNone (textOf direction policy p room text .totals) .written ≡ length (textOf direction policy p room text .output)
+  unfolding textOf acceptedText refusedText
+  written-is room = by-test (eqb (textRefusal direction policy p (length text)) 0)
+    where
+      by-test : (t : Bool)
+          → totalsOrNone (pick t (acceptedText (textFed direction policy p room text)) (refusedText (textRefusal direction policy p (length text))) .totals) .written
+          ≡ length (pick t (acceptedText (textFed direction policy p room text)) (refusedText (textRefusal direction policy p (length text))) .output)
+      by-test true = refl
+      by-test false = refl
+
+-- the filled part is what was written
+pub filled-is : (t : Text) (r : Converted) (before after : List ℕ) → ConvertedAs t r before after → totalsOrNone (t .totals) .written ≡ length (t .output) → (n : ℕ) → n ≡ totalsOrNone (convertedTotals r) .written
+    → take n after ≡ t .output
+unfolding over
+filled-is t r before after w e n q =
+    rw (w .lent) (take-at (t .output) (drop (length (t .output)) before) n (sym (q ∙ ap (λ (o : Option Totals). totalsOrNone o .written) (w .totals) ∙ e)))
+
+pub filled-count : (t : Text) (r : Converted) (before after : List ℕ) → ConvertedAs t r before after → totalsOrNone (t .totals) .written ≡ length (t .output) → (n : ℕ) → n ≡ totalsOrNone (convertedTotals r) .written
+    → n ≡ length (take n after)
+filled-count t r before after w e n q = q ∙ ap (λ (o : Option Totals). totalsOrNone o .written) (w .totals) ∙ e ∙ sym (ap length (filled-is t r before after w e n q))
