@@ -18,7 +18,7 @@ use Rattle.engine.specs.declared.Policy.{Policy}
 use Rattle.engine.specs.declared.progress.Progress.{Progress}
 use Rattle.engine.specs.Engine.{Effect, effectOf, Converter, converter, Room, limit, fits, less, Fed, halt, after, takeCode, feedFrom, over}
 use Rattle.engine.specs.Steps.{sofar, takenBy, Took, movedTo, optional}
-use Rattle.fastpath.specs.Runs.{Ran, SingleTaken, SinglesTaken}
+use Rattle.fastpath.specs.Runs.{Ran, SinglesTaken}
 use Rattle.codepage.proofs.ProfileLaws.{single-no-lead}
 use Rattle.engine.proofs.LoopLaws.{Going, later, took-fits}
 use Rattle.engine.proofs.TurnLaws.{Loop, one-step, two-step, wait-step}
@@ -202,25 +202,29 @@ pub single-found : (classes singles : List ℕ) (byte : ℕ) → isSingle (entry
 unfolding byteAlone lookup
 single-found classes singles byte e n = rw (e, ne-eqb (entry singles byte) 0xFFFF n)
 
-module _ {singles piece out : List ℕ} {from at : ℕ} {out₁ : List ℕ} {k : ℕ} (r : SinglesTaken singles piece out from at out₁ k) (i w : ℕ) {taken : Bool} {out₂ : List ℕ} (t : SingleTaken (entry piece i) (entry singles (entry piece i)) out₁ w taken out₂) where
-  pub single-step : taken ≡ true → i ≡ from + k → w ≡ at + k → i < length piece → w < length out₁ → SinglesTaken singles piece out from at out₂ (k + 1)
-  single-step e p q h f =
-      record {
-        same = ap length (t .laid e) ∙ length-set out₁ w (entry singles (entry piece i)) ∙ r .same;
-        ran = λ classes pairs all.
-            let single = all (entry piece i) (t .small) in
-            let here : Ran (decoder classes singles pairs) piece out from at out₁ i w = ran-at (r .ran classes pairs all) (sym p) (sym q) in
-            ran-at
-            (subst (λ (l : List ℕ). Ran (decoder classes singles pairs) piece out from at l (i + 1) (w + 1)) (sym (t .laid e))
-            (ran-single classes singles pairs here (entry singles (entry piece i)) f h (single-no-lead (entry classes (entry piece i)) single) (single-found classes singles (entry piece i) single (t .there e))))
-            (omega (arith, p)) (omega (arith, q));
-      }
-
-  pub single-left : taken ≡ false → SinglesTaken singles piece out from at out₂ k
-  single-left e = subst (λ (l : List ℕ). SinglesTaken singles piece out from at l k) (sym (t .left e)) r
+-- one byte that has a character
+pub singles-one : (singles piece out : List ℕ) (i w : ℕ) → i < length piece → w < length out → entry piece i < 256 → (entry singles (entry piece i) ≡ 0xFFFF → ⊥)
+    → SinglesTaken singles piece out i w (set out w (entry singles (entry piece i))) 1
+singles-one singles piece out i w h f small n =
+    record {
+      same = length-set out w (entry singles (entry piece i));
+      ran = λ classes pairs all.
+          let single = all (entry piece i) small in
+          ran-single classes singles pairs (ran-start (omega arith) (omega arith)) (entry singles (entry piece i)) f h (single-no-lead (entry classes (entry piece i)) single)
+          (single-found classes singles (entry piece i) single n);
+    }
 
 pub singles-start : (singles piece out : List ℕ) (from at : ℕ) → from ≤ length piece → at ≤ length out → SinglesTaken singles piece out from at out 0
 singles-start singles piece out from at h f = record { same = refl; ran = λ classes pairs all. ran-at (ran-start h f) (omega arith) (omega arith) }
 
 pub singles-at : {singles piece out : List ℕ} {from at : ℕ} {out₁ : List ℕ} {k j : ℕ} → SinglesTaken singles piece out from at out₁ k → k ≡ j → SinglesTaken singles piece out from at out₁ j
 singles-at {singles} {piece} {out} {from} {at} {out₁} r e = subst (λ (n : ℕ). SinglesTaken singles piece out from at out₁ n) e r
+
+-- two runs of singles, one after the other
+pub singles-join : {singles piece out : List ℕ} {from at : ℕ} {out₁ : List ℕ} {k : ℕ} {out₂ : List ℕ} {j : ℕ} → SinglesTaken singles piece out from at out₁ k → SinglesTaken singles piece out₁ (from + k) (at + k) out₂ j
+    → SinglesTaken singles piece out from at out₂ (k + j)
+singles-join r t =
+    record {
+      same = t .same ∙ r .same;
+      ran = λ classes pairs all. ran-at (ran-join (r .ran classes pairs all) (t .ran classes pairs all)) (omega arith) (omega arith);
+    }

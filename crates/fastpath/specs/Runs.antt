@@ -46,13 +46,6 @@ pub record Ran (R : Reader) (piece out : List ℕ) (i w : ℕ) (out′ : List �
       → sofar s out (feedFrom (converter R policy default) last (limit (length out - w)) none (drop i piece))
       ≡ sofar (movedTo s (i′ - i) w′) out′ (feedFrom (converter R policy default) last (limit (length out′ - w′)) none (drop i′ piece))
 
--- a byte's unit is written, if it is not FFFF
-pub record SingleTaken (byte unit : ℕ) (out : List ℕ) (w : ℕ) (taken : Bool) (out′ : List ℕ) : Type 0 where
-  pub small : byte < 256
-  pub there : taken ≡ true → unit ≡ 0xFFFF → ⊥
-  pub laid : taken ≡ true → out′ ≡ set out w unit
-  pub left : taken ≡ false → out′ ≡ out
-
 -- k bytes of a page that has only singles were taken, whatever its classes and pairs
 pub record SinglesTaken (singles piece out : List ℕ) (from at : ℕ) (out′ : List ℕ) (k : ℕ) : Type 0 where
   pub same : length out′ ≡ length out

@@ -7,7 +7,7 @@ ghost use Rattle.codepage.specs.CodePage.{pick, entry};
 ghost use Rattle.codepage.specs.Profile.{LeadsAt};
 ghost use Rattle.codepage.specs.Reading.{bytesOf, decoder, encoder};
 ghost use Rattle.engine.specs.Steps.{DecodeSizes};
-ghost use Rattle.fastpath.specs.Runs.{Ran, SingleTaken, SinglesTaken};
+ghost use Rattle.fastpath.specs.Runs.{Ran, SinglesTaken};
 use codepage::profile::Leads;
 
 // How far a run came: in the piece, and in the output.
@@ -25,18 +25,42 @@ fn smaller(a: usize, b: usize) -> usize
     b
 }
 
-// One byte of a page that has only singles, if it has a character.
-fn take_single(singles: &[u16], piece: &[u8], i: usize, out: &mut [u16], w: usize) -> bool
-    requires { ⌜ (length (now singles) ≡ 256) × (i < length (now piece)) × (w < length (now out)) ⌝ }
-    ensures { λ r. ⌜ SingleTaken (entry (now (piece .entry)) i) (entry (now (singles .entry)) (entry (now (piece .entry)) i)) (now (out .entry)) w r (now (out .exit)) ⌝ }
+// The next byte of a page that has only singles, if it has a character: how many bytes were taken, 0 or 1.
+fn take_one(singles: &[u16], piece: &[u8], i: usize, out: &mut [u16], w: usize) -> usize
+    requires { ⌜ (length (now singles) ≡ 256) × (i + 1 ≤ length (now piece)) × (w + 1 ≤ length (now out)) ⌝ }
+    ensures { λ r. ⌜ (r ≤ 1) × SinglesTaken (now (singles .entry)) (now (piece .entry)) (now (out .entry)) i w (now (out .exit)) r ⌝ }
 {
     let at = piece[i] as usize;
     let unit = singles[at];
     if unit == 0xFFFF {
-        return false;
+        return 0;
     }
     out[w] = unit;
-    true
+    1
+}
+
+// The next two bytes: how many were taken.
+fn take_two(singles: &[u16], piece: &[u8], i: usize, out: &mut [u16], w: usize) -> usize
+    requires { ⌜ (length (now singles) ≡ 256) × (i + 2 ≤ length (now piece)) × (w + 2 ≤ length (now out)) ⌝ }
+    ensures { λ r. ⌜ (r ≤ 2) × SinglesTaken (now (singles .entry)) (now (piece .entry)) (now (out .entry)) i w (now (out .exit)) r ⌝ }
+{
+    let taken = take_one(singles, piece, i, out, w);
+    if taken < 1 {
+        return taken;
+    }
+    1 + take_one(singles, piece, i + 1, out, w + 1)
+}
+
+// The next four bytes: how many were taken.
+fn take_four(singles: &[u16], piece: &[u8], i: usize, out: &mut [u16], w: usize) -> usize
+    requires { ⌜ (length (now singles) ≡ 256) × (i + 4 ≤ length (now piece)) × (w + 4 ≤ length (now out)) ⌝ }
+    ensures { λ r. ⌜ (r ≤ 4) × SinglesTaken (now (singles .entry)) (now (piece .entry)) (now (out .entry)) i w (now (out .exit)) r ⌝ }
+{
+    let taken = take_two(singles, piece, i, out, w);
+    if taken < 2 {
+        return taken;
+    }
+    2 + take_two(singles, piece, i + 2, out, w + 2)
 }
 
 // Bytes of a page that has only singles: how many were taken.
@@ -53,17 +77,9 @@ pub fn run_of_singles(
     let n = smaller(piece.len() - from, out.len() - at);
     let mut k = 0;
     while 4 <= n - k {
-        if !take_single(singles, piece, from + k, out, at + k) {
-            return k;
-        }
-        if !take_single(singles, piece, from + k + 1, out, at + k + 1) {
-            return k + 1;
-        }
-        if !take_single(singles, piece, from + k + 2, out, at + k + 2) {
-            return k + 2;
-        }
-        if !take_single(singles, piece, from + k + 3, out, at + k + 3) {
-            return k + 3;
+        let taken = take_four(singles, piece, from + k, out, at + k);
+        if taken < 4 {
+            return k + taken;
         }
         k += 4;
     }

@@ -1,11 +1,10 @@
 use native.Mathlib.Omega.{arith}
-use mathlib.Core.Bool.{true≢false, false≢true}
-use mathlib.Core.Path.{_≡_, refl}
 use borrow.Author.Needs.{needs}
-use Rattle.fastpath.proofs.runs.take_single.Statement.{statement}
-use Rattle.fastpath.proofs.runs.take_single.Tie as tie
-use Rattle.fastpath.proofs.runs.take_single.Reads as reads
-use Rattle.fastpath.proofs.runs.take_single.Lts as lts
+use Rattle.fastpath.proofs.RunLaws.{singles-start, singles-one}
+use Rattle.fastpath.proofs.runs.take_one.Statement.{statement}
+use Rattle.fastpath.proofs.runs.take_one.Tie as tie
+use Rattle.fastpath.proofs.runs.take_one.Reads as reads
+use Rattle.fastpath.proofs.runs.take_one.Lts as lts
 
 -- src/runs.rt:33:14
 shared-slice-read-at : tie.Need-shared-slice-read-at
@@ -25,7 +24,7 @@ shared-slice-read-unit c = omega (arith, c .before .shared-slice-known .given (c
 
 -- src/runs.rt:36:9
 returns : tie.Need-returns
-returns c = record { small = omega (arith, c .before .before .shared-slice-known .given (c .before .before .before .args .i)); there = λ e. absurd (false≢true e); laid = λ e. absurd (false≢true e); left = λ e. refl }
+returns c = (omega arith, singles-start _ _ _ _ _ (omega arith) (omega arith))
 
 -- src/runs.rt:38:5
 mul-out : tie.Need-mul-out
@@ -41,10 +40,13 @@ same-length c = search needs
 
 -- src/runs.rt:29:1
 returns-2 : tie.Need-returns-2
-returns-2 c = record { small = omega (arith, c .before .before .shared-slice-known .given (c .before .before .before .args .i)); there = λ e. c .if1 .left; laid = λ e. refl; left = λ e. absurd (true≢false e) }
+returns-2 c = (
+  omega arith,
+  singles-one _ _ _ _ _ (omega arith) (omega arith) (omega (arith, c .before .before .shared-slice-known .given (c .before .before .before .args .i))) (c .if1 .left),
+)
 
-pub take-single-spec : {M : Type 1} → statement M
-take-single-spec =
+pub take-one-spec : {M : Type 1} → statement M
+take-one-spec =
     tie.close
     (tie.spec
     shared-slice-read-at
