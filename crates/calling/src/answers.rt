@@ -6,7 +6,6 @@ use convert::Outcome;
 use oneshot::Converted;
 use oneshot::Counted;
 use oneshot::Totals;
-use script::print;
 use script::texts;
 
 fn put_place(word: &[u8], place: usize, out: &mut [u8], at: usize) -> usize {

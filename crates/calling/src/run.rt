@@ -1,12 +1,10 @@
 // The commands on the run in hand, and the shape report.
 use crate::answers;
 use convert::Outcome;
-use script::print;
+use script::state::Next;
+use script::state::State;
 use script::texts;
 use script::words;
-use setting::refuse;
-use setting::state::Next;
-use setting::state::State;
 
 // `shape`.
 pub fn shape(
@@ -22,7 +20,10 @@ pub fn shape(
     at: usize,
 ) -> Next {
     if !words::at_end(line, from) {
-        return refuse(state, out, at);
+        return Next {
+            state,
+            at: print::put_refusal(out, at),
+        };
     }
     let numbers = state.numbers;
     let fault = codepage::shape_report(numbers, classes, singles, pairs, index, blocks);
@@ -135,7 +136,10 @@ pub fn decode(
     let mark = words::mark_at(line, piece.next);
     let size = words::number_at(line, mark.next, words::UNITS_ROOM);
     if !words::at_end(line, size.next) {
-        return refuse(state, out, at);
+        return Next {
+            state,
+            at: print::put_refusal(out, at),
+        };
     }
     let start = piece.from;
     let end = piece.to;
@@ -174,7 +178,10 @@ pub fn encode(
     let mark = words::mark_at(line, piece.next);
     let size = words::number_at(line, mark.next, words::BYTES_ROOM);
     if !words::at_end(line, size.next) {
-        return refuse(state, out, at);
+        return Next {
+            state,
+            at: print::put_refusal(out, at),
+        };
     }
     let start = piece.from;
     let end = piece.to;
@@ -216,7 +223,10 @@ pub fn save(
 ) -> Next {
     let size = words::number_at(line, from, words::BYTES_ROOM);
     if !words::at_end(line, size.next) {
-        return refuse(state, out, at);
+        return Next {
+            state,
+            at: print::put_refusal(out, at),
+        };
     }
     let room = texts::front_bytes(size.value as usize, lent);
     save_run(state, &mut lent[..room], out, at)

@@ -4,12 +4,10 @@ use codepage::Numbers;
 use convert::Direction;
 use convert::Policy;
 use oneshot::Counted;
-use script::print;
+use script::state::Next;
+use script::state::State;
 use script::texts;
 use script::words;
-use setting::refuse;
-use setting::state::Next;
-use setting::state::State;
 
 fn answer_count(counted: Counted, state: State, out: &mut [u8], at: usize) -> Next {
     let end = print::put(b"count", out, at);
@@ -37,7 +35,10 @@ fn count_decoding(
 ) -> Next {
     let piece = words::piece_at(line, from, text.len());
     if !words::at_end(line, piece.next) {
-        return refuse(state, out, at);
+        return Next {
+            state,
+            at: print::put_refusal(out, at),
+        };
     }
     let start = piece.from;
     let end = piece.to;
@@ -72,7 +73,10 @@ fn count_encoding(
 ) -> Next {
     let piece = words::piece_at(line, from, text.len());
     if !words::at_end(line, piece.next) {
-        return refuse(state, out, at);
+        return Next {
+            state,
+            at: print::put_refusal(out, at),
+        };
     }
     let start = piece.from;
     let end = piece.to;
@@ -219,7 +223,10 @@ fn convert_decoding(
     let piece = words::piece_at(line, from, text.len());
     let size = words::number_at(line, piece.next, words::UNITS_ROOM);
     if !words::at_end(line, size.next) {
-        return refuse(state, out, at);
+        return Next {
+            state,
+            at: print::put_refusal(out, at),
+        };
     }
     let start = piece.from;
     let end = piece.to;
@@ -260,7 +267,10 @@ fn convert_encoding(
     let piece = words::piece_at(line, from, text.len());
     let size = words::number_at(line, piece.next, words::BYTES_ROOM);
     if !words::at_end(line, size.next) {
-        return refuse(state, out, at);
+        return Next {
+            state,
+            at: print::put_refusal(out, at),
+        };
     }
     let start = piece.from;
     let end = piece.to;

@@ -1,3 +1,2 @@
 pub mod ShapeLaws
 pub mod MarkLaws
-pub mod ProfileLaws

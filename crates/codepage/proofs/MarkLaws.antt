@@ -10,8 +10,7 @@ use lib.Dec.{leb, ltb, eqb}
 use lib.ListN.{length, take}
 use borrow.Author.Tests.{ltb-true, ltb-false, lt-ltb, le-ltb, leb-true, le-leb, eq-eqb, ne-eqb, eqb-true, eqb-false, not-true, not-false}
 use Rattle.codepage.specs.CodePage.{CodePage, GoodShape, pick, entry, isKnown, isLead, leads, leadsBelow, badClass, firstFault, isGood}
-use Rattle.codepage.specs.Marks.{markOf, Marked, Largest, goodSizes}
-use Rattle.codepage.specs.Profile.{NoLowLead}
+use Rattle.codepage.specs.Marks.{markOf, Marked, Largest, goodSizes, NoLowLead}
 use Rattle.codepage.proofs.ShapeLaws.{and-left, and-right, or-left-false, or-right-false, count-lead, count-other, below-all, shape-exact}
 
 -- ---- counting

@@ -1,4 +1,3 @@
 pub mod CodePage
 pub mod Reading
 pub mod Marks
-pub mod Profile

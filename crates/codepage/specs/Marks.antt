@@ -5,7 +5,7 @@ use mathlib.Core.Logic.{_⊎_}
 use mathlib.Core.Path.{_≡_}
 use Prim.Native.Nat.{ℕ, _<_, _≤_, _/_, _%_}
 use lib.Dec.{leb, eqb}
-use Rattle.codepage.specs.CodePage.{entry}
+use Rattle.codepage.specs.CodePage.{entry, isLead}
 
 -- 1 for a place that has something, else 0
 abbrev pub markOf : Bool → ℕ
@@ -25,3 +25,7 @@ pub record Largest (xs : List ℕ) (to most : ℕ) : Type 0 where
 -- the sizes of a good shape, but for the pairs'
 unfoldable pub goodSizes : (classes singles index blocks : ℕ) → Bool
 goodSizes classes singles index blocks = eqb classes 256 && eqb singles 256 && eqb index 256 && eqb (blocks % 256) 0 && leb 1 (blocks / 256) && leb (blocks / 256) 256
+
+-- no lead is below 80
+abbrev pub NoLowLead : List ℕ → Type 0
+NoLowLead classes = (byte : ℕ) → byte < 0x80 → isLead (entry classes byte) ≡ false

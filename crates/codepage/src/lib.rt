@@ -1,12 +1,11 @@
 // A code page as lent tables: its shape, and the shape report. (Document 01, "The table set".)
-pub mod inner;
-mod marks;
-pub mod profile;
+pub mod marks;
+pub mod shape;
 
 ghost use mathlib.Core.Path.{_≡_};
 ghost use Prim.Native.Nat.{ℕ, _≤_};
 ghost use lib.ListN.{length};
-ghost use Rattle.codepage.specs.CodePage.{codePage, isSingle, isLead, isTrail, isKnown, leadsBelow, firstBad, badClass, badNumber, sizesFault, entriesFault, firstFault, isGood};
+ghost use Rattle.codepage.specs.CodePage.{codePage, isSingle, isLead, isTrail, isKnown, firstBad, badClass, badNumber, sizesFault, entriesFault, firstFault, isGood};
 ghost use Rattle.codepage.specs.declared.Fault.the-variants.{Good};
 
 // The numbers of a table set.
@@ -49,7 +48,7 @@ pub enum Lookup {
 }
 
 // Whether a class is that of a lead byte.
-fn is_lead_class(class: u8) -> bool
+pub fn is_lead_class(class: u8) -> bool
     ensures { λ r. ⌜ r ≡ isLead class ⌝ }
 {
     if class == 2 {
@@ -59,7 +58,7 @@ fn is_lead_class(class: u8) -> bool
 }
 
 // Whether a class is that of a single byte.
-fn is_single_class(class: u8) -> bool
+pub fn is_single_class(class: u8) -> bool
     ensures { λ r. ⌜ r ≡ isSingle class ⌝ }
 {
     if class == 1 {
@@ -69,7 +68,7 @@ fn is_single_class(class: u8) -> bool
 }
 
 // Whether a class is that of a byte that may be second.
-fn is_trail_class(class: u8) -> bool
+pub fn is_trail_class(class: u8) -> bool
     ensures { λ r. ⌜ r ≡ isTrail class ⌝ }
 {
     4 <= class
@@ -99,20 +98,6 @@ fn is_bad_class(byte: usize, class: u8) -> bool
         return is_lead_class(class);
     }
     false
-}
-
-// The number of lead bytes below a byte. The loop has no branch, so that it runs over many entries at a time.
-fn leads_below(classes: &[u8], byte: usize) -> usize
-    requires { ⌜ (byte ≤ 256) × (byte ≤ length (now classes)) ⌝ }
-    ensures { λ r. ⌜ r ≡ leadsBelow (now (classes .entry)) byte ⌝ }
-{
-    let mut count: u16 = 0;
-    let mut i = 0;
-    while i < byte {
-        count += marks::lead_mark(classes[i]) as u16;
-        i += 1;
-    }
-    count as usize
 }
 
 // The first byte with a bad class, or the number of classes where there is none.
@@ -169,7 +154,7 @@ fn size_fault(
     if singles.len() != 256 {
         return Fault::SinglesSize;
     }
-    if pairs.len() != 256 * leads_below(classes, 256) {
+    if pairs.len() != 256 * marks::leads_below(classes, 256) {
         return Fault::PairsSize;
     }
     if index.len() != 256 {

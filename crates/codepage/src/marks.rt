@@ -1,4 +1,5 @@
-// The shape test of a call: loops without a break, so that they run over many entries at a time. The report keeps its own.
+// Marks and counts over the tables: loops without a break, so that they run over many entries at a time. The report has its own,
+// but for counting lead bytes. The functions are inner: they are no public calls.
 ghost use mathlib.Core.Path.{_≡_};
 ghost use mathlib.Core.Bool.{true, false};
 ghost use Prim.Native.Nat.{ℕ, _+_, _≤_, _<_};
@@ -112,4 +113,18 @@ pub fn high_leads(classes: &[u8]) -> u8
         i += 1;
     }
     count
+}
+
+// The number of lead bytes below a byte. The loop has no branch, so that it runs over many entries at a time.
+pub fn leads_below(classes: &[u8], byte: usize) -> usize
+    requires { ⌜ (byte ≤ 256) × (byte ≤ length (now classes)) ⌝ }
+    ensures { λ r. ⌜ r ≡ leadsBelow (now (classes .entry)) byte ⌝ }
+{
+    let mut count: u16 = 0;
+    let mut i = 0;
+    while i < byte {
+        count += lead_mark(classes[i]) as u16;
+        i += 1;
+    }
+    count as usize
 }

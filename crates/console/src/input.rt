@@ -2,7 +2,6 @@
 ghost use Prim.Native.Nat.{_≤_};
 ghost use lib.ListN.{length};
 use libc::STDIN_FILENO;
-use script::print;
 
 // The unread part of the block, the length of the line that was gathered, and whether a line feed ended it.
 pub struct Cursor {

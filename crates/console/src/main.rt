@@ -5,9 +5,9 @@ mod input;
 mod output;
 
 use input::Cursor;
+use script::state;
+use script::state::Next;
 use script::texts;
-use setting::state;
-use setting::state::Next;
 
 // The tables have room for one element too many, and so have the texts, the rooms and the line. A proved loop has to end, and
 // nothing says that the input does: so the loop counts its turns, up to a number that no run reaches.

@@ -141,7 +141,7 @@ pub fn decode(
 ) -> Outcome
     ensures { λ r. ⌜ Answered (runCall Decoding run (codePage numbers (now (classes .entry)) (now (singles .entry)) (now (pairs .entry)) (now (index .entry)) (now (blocks .entry))) (now (piece .entry)) last (length (now (out .entry)))) r (now (out .entry)) (now (out .exit)) ⌝ }
 {
-    if !codepage::inner::good_shape(numbers, classes, singles, pairs, index, blocks) {
+    if !codepage::shape::good_shape(numbers, classes, singles, pairs, index, blocks) {
         return finish::refused(10, run);
     }
     let number = rules::refusal(
@@ -200,7 +200,7 @@ pub fn encode(
 ) -> Outcome
     ensures { λ r. ⌜ Answered (runCall Encoding run (codePage numbers (now (classes .entry)) (now (singles .entry)) (now (pairs .entry)) (now (index .entry)) (now (blocks .entry))) (now (piece .entry)) last (length (now (out .entry)))) r (now (out .entry)) (now (out .exit)) ⌝ }
 {
-    if !codepage::inner::good_shape(numbers, classes, singles, pairs, index, blocks) {
+    if !codepage::shape::good_shape(numbers, classes, singles, pairs, index, blocks) {
         return finish::refused(10, run);
     }
     let number = rules::refusal(

@@ -120,7 +120,7 @@ fn pending_is_lead(pending: Pending, classes: &[u8]) -> bool
 {
     match pending {
         Pending::Nothing => true,
-        Pending::Byte(byte) => codepage::inner::is_lead(classes, byte),
+        Pending::Byte(byte) => lookup::is_lead(classes, byte),
     }
 }
 

@@ -8,7 +8,7 @@ use Prim.Native.Nat.{ℕ, _+_, _-_, _*_, _/_, _%_, _<_, _≤_}
 use lib.Dec.{eqb}
 use lib.ListN.{length, take, drop}
 use Rattle.codepage.specs.CodePage.{pick, leads}
-use Rattle.codepage.specs.Profile.{NoLowLead}
+use Rattle.codepage.specs.Marks.{NoLowLead}
 use Rattle.engine.specs.declared.policies.Action.{Action}
 use Rattle.engine.specs.declared.policies.Action.the-variants.{Stop, Skip, Write}
 use Rattle.engine.specs.declared.policies.CodeEffect.{CodeEffect}

@@ -59,7 +59,7 @@ pub fn count_decoded(
     requires { ⌜ DecodeSizes (now classes) (now singles) (now pairs) ⌝ }
     ensures { λ r. ⌜ r ≡ summary (feedFrom (converter (decoder (now (classes .entry)) (now (singles .entry)) (now (pairs .entry))) policy default) true endless none (now (text .entry))) ⌝ }
 {
-    let leads = codepage::profile::leads_of(classes);
+    let leads = lookup::profile::leads_of(classes);
     let mut waits = false;
     let mut first: u8 = 0;
     let mut s = Progress {
@@ -72,7 +72,7 @@ pub fn count_decoded(
     while i < text.len() {
         let byte = text[i];
         if waits {
-            let code = codepage::inner::byte_pair(classes, pairs, leads, first, byte);
+            let code = lookup::byte_pair(classes, pairs, leads, first, byte);
             let d = policies::decoded(policy, default, first, code);
             s = count_code(d, 2, units_written(d), s);
             if s.answer != 0 {
@@ -80,12 +80,12 @@ pub fn count_decoded(
             }
             waits = false;
             i += 1;
-        } else if codepage::inner::is_lead(classes, byte) {
+        } else if lookup::is_lead(classes, byte) {
             waits = true;
             first = byte;
             i += 1;
         } else {
-            let code = codepage::inner::byte_alone(classes, singles, byte);
+            let code = lookup::byte_alone(classes, singles, byte);
             let d = policies::decoded(policy, default, byte, code);
             s = count_code(d, 1, units_written(d), s);
             if s.answer != 0 {
@@ -95,7 +95,7 @@ pub fn count_decoded(
         }
     }
     if waits {
-        let code = codepage::inner::byte_alone(classes, singles, first);
+        let code = lookup::byte_alone(classes, singles, first);
         let d = policies::decoded(policy, default, first, code);
         return count_code(d, 1, units_written(d), s);
     }
@@ -122,7 +122,7 @@ pub fn count_encoded(
     };
     let mut i = 0;
     while i < text.len() {
-        let code = codepage::inner::unit_code(index, blocks, text[i]);
+        let code = lookup::unit_code(index, blocks, text[i]);
         let d = policies::encoded(policy, default, code);
         s = count_code(d, 1, bytes_written(d), s);
         if s.answer != 0 {

@@ -19,7 +19,7 @@ use Rattle.engine.specs.declared.progress.Progress.{Progress}
 use Rattle.engine.specs.Engine.{Effect, effectOf, Converter, converter, Room, limit, fits, less, Fed, halt, after, takeCode, feedFrom, over}
 use Rattle.engine.specs.Steps.{sofar, takenBy, Took, movedTo, optional}
 use Rattle.fastpath.specs.Runs.{Ran, SinglesTaken}
-use Rattle.codepage.proofs.ProfileLaws.{single-no-lead}
+use Rattle.lookup.proofs.ProfileLaws.{single-no-lead}
 use Rattle.engine.proofs.LoopLaws.{Going, later, took-fits}
 use Rattle.engine.proofs.TurnLaws.{Loop, one-step, two-step, wait-step}
 

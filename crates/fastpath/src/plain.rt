@@ -153,7 +153,7 @@ pub fn decode_plain(classes: &[u8], singles: &[u16], piece: &[u8], out: &mut [u1
     if !bytes_below_80(piece) {
         return false;
     }
-    if !codepage::profile::plain_bytes(classes, singles) {
+    if !lookup::profile::plain_bytes(classes, singles) {
         return false;
     }
     widen(piece, out);
@@ -172,7 +172,7 @@ pub fn encode_plain(index: &[u8], blocks: &[u16], piece: &[u16], out: &mut [u8])
     if !units_below_80(piece) {
         return false;
     }
-    if !codepage::profile::plain_units(index, blocks) {
+    if !lookup::profile::plain_units(index, blocks) {
         return false;
     }
     narrow(piece, out);

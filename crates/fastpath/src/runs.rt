@@ -4,11 +4,11 @@ ghost use Prim.Native.Nat.{ℕ, _+_, _*_, _/_, _%_, _≤_, _<_};
 ghost use lib.Dec.{leb};
 ghost use lib.ListN.{length};
 ghost use Rattle.codepage.specs.CodePage.{pick, entry};
-ghost use Rattle.codepage.specs.Profile.{LeadsAt};
+ghost use Rattle.lookup.specs.Profile.{LeadsAt};
 ghost use Rattle.codepage.specs.Reading.{bytesOf, decoder, encoder};
 ghost use Rattle.engine.specs.Steps.{DecodeSizes};
 ghost use Rattle.fastpath.specs.Runs.{Ran, SinglesTaken};
-use codepage::profile::Leads;
+use lookup::profile::Leads;
 
 // How far a run came: in the piece, and in the output.
 pub struct Place {
@@ -107,8 +107,8 @@ pub fn run_of_codes(
     let mut k = 0;
     while k < n {
         let byte = piece[i];
-        if codepage::inner::is_lead(classes, byte) {
-            let unit = codepage::inner::pair_unit(classes, pairs, leads, byte, piece[i + 1]);
+        if lookup::is_lead(classes, byte) {
+            let unit = lookup::pair_unit(classes, pairs, leads, byte, piece[i + 1]);
             if unit == 0xFFFF {
                 return Place {
                     read: i,
@@ -119,7 +119,7 @@ pub fn run_of_codes(
             i += 2;
             k += 1;
         } else {
-            let unit = codepage::inner::single_unit(classes, singles, byte);
+            let unit = lookup::single_unit(classes, singles, byte);
             if unit == 0xFFFF {
                 return Place {
                     read: i,
@@ -154,7 +154,7 @@ fn run_of_bytes(
     let n = smaller(piece.len() - from, out.len() - at);
     let mut k = 0;
     while k < n {
-        let code = codepage::inner::code_of(index, blocks, piece[from + k]);
+        let code = lookup::code_of(index, blocks, piece[from + k]);
         if 0x100 <= code {
             return k;
         }
@@ -213,7 +213,7 @@ fn run_of_units(
     let mut k = 0;
     let mut w = at;
     while k < n {
-        let code = codepage::inner::code_of(index, blocks, piece[from + k]);
+        let code = lookup::code_of(index, blocks, piece[from + k]);
         if code == 0xFFFF {
             return Place {
                 read: from + k,

@@ -42,7 +42,7 @@ fn decode_singles(
         s = progress::moved(s, count, s.written + count);
         i += count;
         if i < piece.len() {
-            let code = codepage::inner::byte_alone(classes, singles, piece[i]);
+            let code = lookup::byte_alone(classes, singles, piece[i]);
             let d = policies::decoded(policy, default, piece[i], code);
             s = progress::take_units(d, 1, s, out);
             if s.answer != 0 {
@@ -71,7 +71,7 @@ fn decode_codes(
     requires { ⌜ (pending ≡ true → isLead (entry (now classes) lead) ≡ true) ⌝ }
     ensures { λ r. ⌜ Ends (decodeFed (now (classes .entry)) (now (singles .entry)) (now (pairs .entry)) policy default last (length (now (out .entry))) (optional pending lead) (now (piece .entry))) (now (out .entry)) (now (out .exit)) r ⌝ }
 {
-    let leads = codepage::profile::leads_of(classes);
+    let leads = lookup::profile::leads_of(classes);
     let mut waits = pending;
     let mut first = lead;
     let mut s = Progress {
@@ -83,7 +83,7 @@ fn decode_codes(
     let mut i = 0;
     while i < piece.len() {
         if waits {
-            let code = codepage::inner::byte_pair(classes, pairs, leads, first, piece[i]);
+            let code = lookup::byte_pair(classes, pairs, leads, first, piece[i]);
             let d = policies::decoded(policy, default, first, code);
             s = progress::take_units(d, 2, s, out);
             if s.answer != 0 {
@@ -106,12 +106,12 @@ fn decode_codes(
             i = place.read;
             if i < piece.len() {
                 let byte = piece[i];
-                if codepage::inner::is_lead(classes, byte) {
+                if lookup::is_lead(classes, byte) {
                     waits = true;
                     first = byte;
                     i += 1;
                 } else {
-                    let code = codepage::inner::byte_alone(classes, singles, byte);
+                    let code = lookup::byte_alone(classes, singles, byte);
                     let d = policies::decoded(policy, default, byte, code);
                     s = progress::take_units(d, 1, s, out);
                     if s.answer != 0 {
@@ -124,7 +124,7 @@ fn decode_codes(
     }
     if waits {
         if last {
-            let code = codepage::inner::byte_alone(classes, singles, first);
+            let code = lookup::byte_alone(classes, singles, first);
             let d = policies::decoded(policy, default, first, code);
             return progress::take_units(d, 1, s, out);
         }
@@ -149,7 +149,7 @@ fn way_of(pending: bool, classes: &[u8], singles: &[u16], piece: &[u8], out: &mu
     if plain::decode_plain(classes, singles, piece, out) {
         return 1;
     }
-    if codepage::profile::only_singles(classes) {
+    if lookup::profile::only_singles(classes) {
         return 2;
     }
     0

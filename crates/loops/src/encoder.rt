@@ -50,7 +50,7 @@ pub fn encode_loop(
         s = progress::moved(s, place.read - i, place.written);
         i = place.read;
         if i < piece.len() {
-            let code = codepage::inner::unit_code(index, blocks, piece[i]);
+            let code = lookup::unit_code(index, blocks, piece[i]);
             let d = policies::encoded(policy, default, code);
             s = progress::take_bytes(d, s, out);
             if s.answer != 0 {

@@ -72,7 +72,7 @@ fn text_refusal(
     if !policies::allowed(direction, policy) {
         return 17;
     }
-    if !codepage::inner::good_shape(numbers, classes, singles, pairs, index, blocks) {
+    if !codepage::shape::good_shape(numbers, classes, singles, pairs, index, blocks) {
         return 10;
     }
     if Run::PIECE_LIMIT < count {

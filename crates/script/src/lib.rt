@@ -1,4 +1,5 @@
-// What the tester's console reads and writes: the words of a line, the texts, and the answers. (docs/CONSOLE.md.)
-pub mod print;
+// What the tester's console reads and holds: the words of a line, its command, the texts, and the state. (docs/CONSOLE.md.)
+pub mod command;
+pub mod state;
 pub mod texts;
 pub mod words;

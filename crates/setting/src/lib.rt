@@ -1,5 +1,4 @@
 // The console's commands that set what it holds: the table set, the texts and the run in hand. (docs/CONSOLE.md.)
-pub mod state;
 
 ghost use Rattle.io.specs.Counts.{Counts};
 use checkpoint::Restored;
@@ -8,19 +7,12 @@ use convert::Run;
 use convert::Started;
 use image::Loaded;
 use image::Sizes;
-use script::print;
+use script::command;
+use script::command::Command;
+use script::state::Next;
+use script::state::State;
 use script::texts;
 use script::words;
-use state::Next;
-use state::State;
-
-// A line that is no command is answered `?` and changes nothing.
-pub fn refuse(state: State, out: &mut [u8], at: usize) -> Next {
-    Next {
-        state,
-        at: print::put(b"?\n", out, at),
-    }
-}
 
 // The bytes of a file, as far as they fit; none where it can't be read.
 fn read_file(name: &[u8], file: &mut [u8]) -> usize
@@ -82,7 +74,7 @@ fn answer_table(loaded: Loaded, state: State, out: &mut [u8], at: usize) -> Next
 }
 
 // `table FILE`.
-pub fn table(
+fn table(
     line: &[u8],
     from: usize,
     state: State,
@@ -96,7 +88,10 @@ pub fn table(
 ) -> Next {
     let name = words::name_at(line, from);
     if !words::at_end(line, name.next) {
-        return refuse(state, out, at);
+        return Next {
+            state,
+            at: print::put_refusal(out, at),
+        };
     }
     let start = name.from;
     let end = name.to;
@@ -123,7 +118,7 @@ fn put_units_count(count: usize, state: State, out: &mut [u8], at: usize) -> Nex
 }
 
 // `bytes HEX`.
-pub fn bytes(
+fn set_bytes(
     line: &[u8],
     from: usize,
     state: State,
@@ -133,7 +128,10 @@ pub fn bytes(
 ) -> Next {
     let digits = words::bytes_at(line, from);
     if !words::at_end(line, digits.next) {
-        return refuse(state, out, at);
+        return Next {
+            state,
+            at: print::put_refusal(out, at),
+        };
     }
     let start = digits.from;
     let end = digits.to;
@@ -143,7 +141,7 @@ pub fn bytes(
 }
 
 // `units HEX`.
-pub fn units(
+fn set_units(
     line: &[u8],
     from: usize,
     state: State,
@@ -153,7 +151,10 @@ pub fn units(
 ) -> Next {
     let digits = words::units_at(line, from);
     if !words::at_end(line, digits.next) {
-        return refuse(state, out, at);
+        return Next {
+            state,
+            at: print::put_refusal(out, at),
+        };
     }
     let start = digits.from;
     let end = digits.to;
@@ -163,7 +164,7 @@ pub fn units(
 }
 
 // `fillbytes COUNT HEX`.
-pub fn fill_bytes(
+fn fill_bytes(
     line: &[u8],
     from: usize,
     state: State,
@@ -174,12 +175,18 @@ pub fn fill_bytes(
     let size = words::number_at(line, from, words::TEXT_LIMIT as u64);
     let digits = words::bytes_at(line, size.next);
     if !words::at_end(line, digits.next) {
-        return refuse(state, out, at);
+        return Next {
+            state,
+            at: print::put_refusal(out, at),
+        };
     }
     let start = digits.from;
     let end = digits.to;
     if start == end {
-        return refuse(state, out, at);
+        return Next {
+            state,
+            at: print::put_refusal(out, at),
+        };
     }
     let count = texts::front_bytes(size.value as usize, text);
     texts::repeat_bytes(&line[start..end], &mut text[..count]);
@@ -187,7 +194,7 @@ pub fn fill_bytes(
 }
 
 // `fillunits COUNT HEX`.
-pub fn fill_units(
+fn fill_units(
     line: &[u8],
     from: usize,
     state: State,
@@ -198,12 +205,18 @@ pub fn fill_units(
     let size = words::number_at(line, from, words::TEXT_LIMIT as u64);
     let digits = words::units_at(line, size.next);
     if !words::at_end(line, digits.next) {
-        return refuse(state, out, at);
+        return Next {
+            state,
+            at: print::put_refusal(out, at),
+        };
     }
     let start = digits.from;
     let end = digits.to;
     if start == end {
-        return refuse(state, out, at);
+        return Next {
+            state,
+            at: print::put_refusal(out, at),
+        };
     }
     let count = texts::front_units(size.value as usize, text);
     texts::repeat_units(&line[start..end], &mut text[..count]);
@@ -211,12 +224,15 @@ pub fn fill_units(
 }
 
 // `start D PAGE POLICY`.
-pub fn start(line: &[u8], from: usize, state: State, out: &mut [u8], at: usize) -> Next {
+fn start(line: &[u8], from: usize, state: State, out: &mut [u8], at: usize) -> Next {
     let letter = words::direction_at(line, from);
     let page = words::number_at(line, letter.next, 65535);
     let digits = words::policy_at(line, page.next);
     if !words::at_end(line, digits.next) {
-        return refuse(state, out, at);
+        return Next {
+            state,
+            at: print::put_refusal(out, at),
+        };
     }
     let direction = letter.value;
     let policy = digits.value;
@@ -237,10 +253,13 @@ pub fn start(line: &[u8], from: usize, state: State, out: &mut [u8], at: usize) 
 }
 
 // `run D PAGE S P I CARRIED FLAGS READ WRITTEN on`.
-pub fn run(line: &[u8], from: usize, state: State, out: &mut [u8], at: usize) -> Next {
+fn run(line: &[u8], from: usize, state: State, out: &mut [u8], at: usize) -> Next {
     let record = words::run_at(line, from);
     if !words::at_end(line, record.next) {
-        return refuse(state, out, at);
+        return Next {
+            state,
+            at: print::put_refusal(out, at),
+        };
     }
     let run = record.value;
     let end = print::put(b"run", out, at);
@@ -273,7 +292,7 @@ fn answer_load(restored: Restored, state: State, out: &mut [u8], at: usize) -> N
 }
 
 // `load HEX`.
-pub fn load(
+fn load(
     line: &[u8],
     from: usize,
     state: State,
@@ -283,11 +302,90 @@ pub fn load(
 ) -> Next {
     let digits = words::bytes_at(line, from);
     if !words::at_end(line, digits.next) {
-        return refuse(state, out, at);
+        return Next {
+            state,
+            at: print::put_refusal(out, at),
+        };
     }
     let start = digits.from;
     let end = digits.to;
     let count = texts::front_bytes((end - start) / 2, buffer);
     let restored = load_line(&line[start..end], &mut buffer[..count]);
     answer_load(restored, state, out, at)
+}
+
+// Each of these runs the commands whose slices it has, and does nothing for any other command.
+
+// Runs the command that sets the table set.
+pub fn run_table(
+    command: Command,
+    line: &[u8],
+    next: Next,
+    classes: &mut [u8],
+    singles: &mut [u16],
+    pairs: &mut [u16],
+    index: &mut [u8],
+    blocks: &mut [u16],
+    out: &mut [u8],
+) -> Next {
+    let Command::Table = command else {
+        return next;
+    };
+    let state = next.state;
+    table(
+        line,
+        command::second(line),
+        state,
+        classes,
+        singles,
+        pairs,
+        index,
+        blocks,
+        out,
+        next.at,
+    )
+}
+
+// Runs a command that sets a text.
+pub fn run_text(
+    command: Command,
+    line: &[u8],
+    next: Next,
+    bytes: &mut [u8],
+    units: &mut [u16],
+    out: &mut [u8],
+) -> Next {
+    let state = next.state;
+    let at = next.at;
+    let from = command::second(line);
+    match command {
+        Command::Bytes => set_bytes(line, from, state, bytes, out, at),
+        Command::Units => set_units(line, from, state, units, out, at),
+        Command::FillBytes => fill_bytes(line, from, state, bytes, out, at),
+        Command::FillUnits => fill_units(line, from, state, units, out, at),
+        _ => Next { state, at },
+    }
+}
+
+// Runs a command that sets the run in hand, or refuses a line that is no command.
+pub fn run_run(
+    command: Command,
+    line: &[u8],
+    next: Next,
+    buffer: &mut [u8],
+    out: &mut [u8],
+) -> Next {
+    let state = next.state;
+    let at = next.at;
+    let from = command::second(line);
+    match command {
+        Command::Start => start(line, from, state, out, at),
+        Command::Run => run(line, from, state, out, at),
+        Command::Load => load(line, from, state, buffer, out, at),
+        Command::Unknown => Next {
+            state,
+            at: print::put_refusal(out, at),
+        },
+        _ => Next { state, at },
+    }
 }

@@ -7,7 +7,7 @@ use Rattle.codepage.proofs.size_fault.Statement.{statement}
 use Rattle.codepage.proofs.size_fault.Tie as tie
 use Rattle.codepage.proofs.size_fault.Reads as reads
 use Rattle.codepage.proofs.size_fault.Lts as lts
-use Rattle.codepage.proofs.leads_below.Reads as leads-below-reads
+use Rattle.codepage.proofs.marks.leads_below.Reads as leads-below-reads
 
 -- src/lib.rt:164:9
 returns : tie.Need-returns

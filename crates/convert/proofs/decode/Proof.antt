@@ -18,7 +18,7 @@ use Rattle.convert.proofs.decode.Statement.{statement}
 use Rattle.convert.proofs.decode.Tie as tie
 use Rattle.convert.proofs.decode.Reads as reads
 use Rattle.convert.proofs.decode.Lts as lts
-use Rattle.codepage.proofs.inner.good_shape.Reads as good-shape-reads
+use Rattle.codepage.proofs.shape.good_shape.Reads as good-shape-reads
 use Rattle.convert.proofs.finish.accepted.Reads as accepted-reads
 use Rattle.convert.proofs.finish.has_pending.Reads as has-pending-reads
 use Rattle.convert.proofs.finish.pending_after.Reads as pending-after-reads

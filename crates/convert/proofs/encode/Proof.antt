@@ -11,7 +11,7 @@ use Rattle.convert.proofs.encode.Statement.{statement}
 use Rattle.convert.proofs.encode.Tie as tie
 use Rattle.convert.proofs.encode.Reads as reads
 use Rattle.convert.proofs.encode.Lts as lts
-use Rattle.codepage.proofs.inner.good_shape.Reads as good-shape-reads
+use Rattle.codepage.proofs.shape.good_shape.Reads as good-shape-reads
 use Rattle.convert.proofs.default_of_bytes.Reads as default-of-bytes-reads
 use Rattle.convert.proofs.finish.accepted.Reads as accepted-reads
 use Rattle.convert.proofs.finish.refused.Reads as refused-reads

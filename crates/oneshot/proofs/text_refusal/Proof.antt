@@ -6,7 +6,7 @@ use Rattle.oneshot.proofs.text_refusal.Statement.{statement}
 use Rattle.oneshot.proofs.text_refusal.Tie as tie
 use Rattle.oneshot.proofs.text_refusal.Reads as reads
 use Rattle.oneshot.proofs.text_refusal.Lts as lts
-use Rattle.codepage.proofs.inner.good_shape.Reads as good-shape-reads
+use Rattle.codepage.proofs.shape.good_shape.Reads as good-shape-reads
 use Rattle.engine.proofs.policies.allowed.Reads as allowed-reads
 
 -- src/lib.rt:38:9

@@ -3,7 +3,7 @@ use Rattle.convert.proofs.rules.pending_is_lead.Statement.{statement}
 use Rattle.convert.proofs.rules.pending_is_lead.Tie as tie
 use Rattle.convert.proofs.rules.pending_is_lead.Reads as reads
 use Rattle.convert.proofs.rules.pending_is_lead.Lts as lts
-use Rattle.codepage.proofs.inner.is_lead.Reads as is-lead-reads
+use Rattle.lookup.proofs.is_lead.Reads as is-lead-reads
 
 -- src/rules.rt:122:29
 enum-told : tie.Need-enum-told

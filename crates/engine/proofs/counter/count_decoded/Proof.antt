@@ -13,10 +13,10 @@ use Rattle.engine.proofs.counter.count_decoded.Statement.{statement}
 use Rattle.engine.proofs.counter.count_decoded.Tie as tie
 use Rattle.engine.proofs.counter.count_decoded.Reads as reads
 use Rattle.engine.proofs.counter.count_decoded.Lts as lts
-use Rattle.codepage.proofs.inner.byte_alone.Reads as byte-alone-reads
-use Rattle.codepage.proofs.inner.byte_pair.Reads as byte-pair-reads
-use Rattle.codepage.proofs.inner.is_lead.Reads as is-lead-reads
-use Rattle.codepage.proofs.profile.leads_of.Reads as leads-of-reads
+use Rattle.lookup.proofs.byte_alone.Reads as byte-alone-reads
+use Rattle.lookup.proofs.byte_pair.Reads as byte-pair-reads
+use Rattle.lookup.proofs.is_lead.Reads as is-lead-reads
+use Rattle.lookup.proofs.profile.leads_of.Reads as leads-of-reads
 use Rattle.engine.proofs.counter.count_code.Reads as count-code-reads
 use Rattle.engine.proofs.counter.units_written.Reads as units-written-reads
 use Rattle.engine.proofs.policies.decoded.Reads as decoded-reads

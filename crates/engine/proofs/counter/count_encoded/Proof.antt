@@ -13,7 +13,7 @@ use Rattle.engine.proofs.counter.count_encoded.Statement.{statement}
 use Rattle.engine.proofs.counter.count_encoded.Tie as tie
 use Rattle.engine.proofs.counter.count_encoded.Reads as reads
 use Rattle.engine.proofs.counter.count_encoded.Lts as lts
-use Rattle.codepage.proofs.inner.unit_code.Reads as unit-code-reads
+use Rattle.lookup.proofs.unit_code.Reads as unit-code-reads
 use Rattle.engine.proofs.counter.bytes_written.Reads as bytes-written-reads
 use Rattle.engine.proofs.counter.count_code.Reads as count-code-reads
 use Rattle.engine.proofs.policies.encoded.Reads as encoded-reads

@@ -8,7 +8,7 @@ use Rattle.fastpath.proofs.plain.decode_plain.Statement.{statement}
 use Rattle.fastpath.proofs.plain.decode_plain.Tie as tie
 use Rattle.fastpath.proofs.plain.decode_plain.Reads as reads
 use Rattle.fastpath.proofs.plain.decode_plain.Lts as lts
-use Rattle.codepage.proofs.profile.plain_bytes.Reads as plain-bytes-reads
+use Rattle.lookup.proofs.profile.plain_bytes.Reads as plain-bytes-reads
 use Rattle.fastpath.proofs.plain.bytes_below_80.Reads as bytes-below-80-reads
 use Rattle.fastpath.proofs.plain.widen.Reads as widen-reads
 

@@ -8,7 +8,7 @@ use Rattle.fastpath.proofs.plain.encode_plain.Statement.{statement}
 use Rattle.fastpath.proofs.plain.encode_plain.Tie as tie
 use Rattle.fastpath.proofs.plain.encode_plain.Reads as reads
 use Rattle.fastpath.proofs.plain.encode_plain.Lts as lts
-use Rattle.codepage.proofs.profile.plain_units.Reads as plain-units-reads
+use Rattle.lookup.proofs.profile.plain_units.Reads as plain-units-reads
 use Rattle.fastpath.proofs.plain.narrow.Reads as narrow-reads
 use Rattle.fastpath.proofs.plain.units_below_80.Reads as units-below-80-reads
 

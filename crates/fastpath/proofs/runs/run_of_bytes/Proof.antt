@@ -10,7 +10,7 @@ use Rattle.fastpath.proofs.runs.run_of_bytes.Statement.{statement}
 use Rattle.fastpath.proofs.runs.run_of_bytes.Tie as tie
 use Rattle.fastpath.proofs.runs.run_of_bytes.Reads as reads
 use Rattle.fastpath.proofs.runs.run_of_bytes.Lts as lts
-use Rattle.codepage.proofs.inner.code_of.Reads as code-of-reads
+use Rattle.lookup.proofs.code_of.Reads as code-of-reads
 use Rattle.fastpath.proofs.runs.smaller.Reads as smaller-reads
 
 abbrev Inv-loop : tie.InvT-loop

@@ -11,9 +11,9 @@ use Rattle.fastpath.proofs.runs.run_of_codes.Statement.{statement}
 use Rattle.fastpath.proofs.runs.run_of_codes.Tie as tie
 use Rattle.fastpath.proofs.runs.run_of_codes.Reads as reads
 use Rattle.fastpath.proofs.runs.run_of_codes.Lts as lts
-use Rattle.codepage.proofs.inner.is_lead.Reads as is-lead-reads
-use Rattle.codepage.proofs.inner.pair_unit.Reads as pair-unit-reads
-use Rattle.codepage.proofs.inner.single_unit.Reads as single-unit-reads
+use Rattle.lookup.proofs.is_lead.Reads as is-lead-reads
+use Rattle.lookup.proofs.pair_unit.Reads as pair-unit-reads
+use Rattle.lookup.proofs.single_unit.Reads as single-unit-reads
 use Rattle.fastpath.proofs.runs.smaller.Reads as smaller-reads
 
 abbrev Inv-loop : tie.InvT-loop

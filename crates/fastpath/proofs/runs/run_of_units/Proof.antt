@@ -10,7 +10,7 @@ use Rattle.fastpath.proofs.runs.run_of_units.Statement.{statement}
 use Rattle.fastpath.proofs.runs.run_of_units.Tie as tie
 use Rattle.fastpath.proofs.runs.run_of_units.Reads as reads
 use Rattle.fastpath.proofs.runs.run_of_units.Lts as lts
-use Rattle.codepage.proofs.inner.code_of.Reads as code-of-reads
+use Rattle.lookup.proofs.code_of.Reads as code-of-reads
 use Rattle.fastpath.proofs.runs.byte_count.Reads as byte-count-reads
 use Rattle.fastpath.proofs.runs.first_byte.Reads as first-byte-reads
 use Rattle.fastpath.proofs.runs.second_byte.Reads as second-byte-reads

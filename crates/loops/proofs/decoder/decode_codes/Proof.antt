@@ -14,10 +14,10 @@ use Rattle.loops.proofs.decoder.decode_codes.Statement.{statement}
 use Rattle.loops.proofs.decoder.decode_codes.Tie as tie
 use Rattle.loops.proofs.decoder.decode_codes.Reads as reads
 use Rattle.loops.proofs.decoder.decode_codes.Lts as lts
-use Rattle.codepage.proofs.inner.byte_alone.Reads as byte-alone-reads
-use Rattle.codepage.proofs.inner.byte_pair.Reads as byte-pair-reads
-use Rattle.codepage.proofs.inner.is_lead.Reads as is-lead-reads
-use Rattle.codepage.proofs.profile.leads_of.Reads as leads-of-reads
+use Rattle.lookup.proofs.byte_alone.Reads as byte-alone-reads
+use Rattle.lookup.proofs.byte_pair.Reads as byte-pair-reads
+use Rattle.lookup.proofs.is_lead.Reads as is-lead-reads
+use Rattle.lookup.proofs.profile.leads_of.Reads as leads-of-reads
 use Rattle.engine.proofs.policies.decoded.Reads as decoded-reads
 use Rattle.engine.proofs.progress.moved.Reads as moved-reads
 use Rattle.engine.proofs.progress.take_units.Reads as take-units-reads

@@ -3,7 +3,7 @@ use Rattle.fastpath.proofs.RunLaws.{turn-ran}
 use Rattle.engine.proofs.DecodeLaws.{decoded-one, decoder-waits}
 use Rattle.engine.specs.Steps.{decodeFed}
 use Rattle.engine.specs.Engine.{converter}
-use Rattle.codepage.proofs.ProfileLaws.{single-no-lead}
+use Rattle.lookup.proofs.ProfileLaws.{single-no-lead}
 use Rattle.codepage.specs.Reading.{decoder}
 use lib.ListN.{length, getD}
 use Prim.Native.Nat.{ℕ, _-_, _+_}
@@ -16,7 +16,7 @@ use Rattle.loops.proofs.decoder.decode_singles.Statement.{statement}
 use Rattle.loops.proofs.decoder.decode_singles.Tie as tie
 use Rattle.loops.proofs.decoder.decode_singles.Reads as reads
 use Rattle.loops.proofs.decoder.decode_singles.Lts as lts
-use Rattle.codepage.proofs.inner.byte_alone.Reads as byte-alone-reads
+use Rattle.lookup.proofs.byte_alone.Reads as byte-alone-reads
 use Rattle.engine.proofs.policies.decoded.Reads as decoded-reads
 use Rattle.engine.proofs.progress.moved.Reads as moved-reads
 use Rattle.engine.proofs.progress.take_units.Reads as take-units-reads

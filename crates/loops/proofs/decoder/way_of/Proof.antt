@@ -6,7 +6,7 @@ use Rattle.loops.proofs.decoder.way_of.Statement.{statement}
 use Rattle.loops.proofs.decoder.way_of.Tie as tie
 use Rattle.loops.proofs.decoder.way_of.Reads as reads
 use Rattle.loops.proofs.decoder.way_of.Lts as lts
-use Rattle.codepage.proofs.profile.only_singles.Reads as only-singles-reads
+use Rattle.lookup.proofs.profile.only_singles.Reads as only-singles-reads
 use Rattle.fastpath.proofs.plain.decode_plain.Reads as decode-plain-reads
 
 -- src/decoder.rt:147:9

@@ -15,7 +15,7 @@ use Rattle.loops.proofs.encoder.encode_loop.Statement.{statement}
 use Rattle.loops.proofs.encoder.encode_loop.Tie as tie
 use Rattle.loops.proofs.encoder.encode_loop.Reads as reads
 use Rattle.loops.proofs.encoder.encode_loop.Lts as lts
-use Rattle.codepage.proofs.inner.unit_code.Reads as unit-code-reads
+use Rattle.lookup.proofs.unit_code.Reads as unit-code-reads
 use Rattle.fastpath.proofs.plain.encode_plain.Reads as encode-plain-reads
 use Rattle.engine.proofs.policies.encoded.Reads as encoded-reads
 use Rattle.engine.proofs.progress.moved.Reads as moved-reads

@@ -1,0 +1,119 @@
+// What the tables say of a code: looking up bytes and units. (Document 01, "Reading one code from bytes" and "Reading one unit for
+// bytes".) The functions are inner: other crates of this product call them on tables whose shape was found good. They are no
+// public calls.
+pub mod profile;
+
+ghost use mathlib.Core.Path.{_≡_};
+ghost use mathlib.Core.Bool.{true};
+ghost use Prim.Native.Nat.{ℕ, _+_, _*_, _≤_};
+ghost use lib.ListN.{length};
+ghost use Rattle.codepage.specs.CodePage.{entry, isLead, leadsBelow};
+ghost use Rattle.codepage.specs.Reading.{lookup, byteAlone, bytePair, unitCode};
+ghost use Rattle.lookup.specs.Profile.{LeadsAt, unitEntry};
+use codepage::Kind;
+use codepage::Lookup;
+use profile::Leads;
+
+// What an entry says of a code.
+fn found(kind: Kind, value: u16) -> Lookup
+    ensures { λ r. ⌜ r ≡ lookup kind value ⌝ }
+{
+    if value == 0xFFFF {
+        Lookup::Lacking(kind)
+    } else {
+        Lookup::Found(value)
+    }
+}
+
+// Whether a byte is a lead byte.
+pub fn is_lead(classes: &[u8], byte: u8) -> bool
+    requires { ⌜ length (now classes) ≡ 256 ⌝ }
+    ensures { λ r. ⌜ r ≡ isLead (entry (now (classes .entry)) byte) ⌝ }
+{
+    let at = byte as usize;
+    codepage::is_lead_class(classes[at])
+}
+
+// A byte alone.
+pub fn byte_alone(classes: &[u8], singles: &[u16], byte: u8) -> Lookup
+    requires { ⌜ (length (now classes) ≡ 256) × (length (now singles) ≡ 256) ⌝ }
+    ensures { λ r. ⌜ r ≡ byteAlone (now (classes .entry)) (now (singles .entry)) byte ⌝ }
+{
+    let at = byte as usize;
+    if codepage::is_single_class(classes[at]) {
+        return found(Kind::UndefinedSingle, singles[at]);
+    }
+    Lookup::Lacking(Kind::Invalid)
+}
+
+// The entry of a lead byte and the byte after it: in the lead's block at the second byte.
+fn pair_entry(classes: &[u8], pairs: &[u16], leads: Leads, lead: u8, byte: u8) -> u16
+    requires { ⌜ (length (now classes) ≡ 256) × (isLead (entry (now classes) lead) ≡ true) × (256 * leadsBelow (now classes) lead + 256 ≤ length (now pairs)) ⌝ }
+    requires { ⌜ LeadsAt (now classes) leads ⌝ }
+    ensures { λ r. ⌜ r ≡ entry (now (pairs .entry)) (256 * leadsBelow (now (classes .entry)) lead + byte) ⌝ }
+{
+    let block = profile::block_of(classes, leads, lead);
+    pairs[256 * block + (byte as usize)]
+}
+
+// A lead byte and the byte after it.
+pub fn byte_pair(classes: &[u8], pairs: &[u16], leads: Leads, lead: u8, byte: u8) -> Lookup
+    requires { ⌜ (length (now classes) ≡ 256) × (isLead (entry (now classes) lead) ≡ true) × (256 * leadsBelow (now classes) lead + 256 ≤ length (now pairs)) ⌝ }
+    requires { ⌜ LeadsAt (now classes) leads ⌝ }
+    ensures { λ r. ⌜ r ≡ bytePair (now (classes .entry)) (now (pairs .entry)) lead byte ⌝ }
+{
+    let at = byte as usize;
+    if codepage::is_trail_class(classes[at]) {
+        return found(
+            Kind::UndefinedPair,
+            pair_entry(classes, pairs, leads, lead, byte),
+        );
+    }
+    Lookup::Lacking(Kind::Invalid)
+}
+
+// The character of a byte alone, or FFFF where it has none.
+pub fn single_unit(classes: &[u8], singles: &[u16], byte: u8) -> u16
+    requires { ⌜ (length (now classes) ≡ 256) × (length (now singles) ≡ 256) ⌝ }
+    ensures { λ r. ⌜ ((r ≡ 0xFFFF → ⊥) → byteAlone (now (classes .entry)) (now (singles .entry)) byte ≡ Lookup.Found r) ⌝ }
+{
+    let at = byte as usize;
+    if codepage::is_single_class(classes[at]) {
+        return singles[at];
+    }
+    0xFFFF
+}
+
+// The character of a lead byte and the byte after it, or FFFF where they have none.
+pub fn pair_unit(classes: &[u8], pairs: &[u16], leads: Leads, lead: u8, byte: u8) -> u16
+    requires { ⌜ (length (now classes) ≡ 256) × (isLead (entry (now classes) lead) ≡ true) × (256 * leadsBelow (now classes) lead + 256 ≤ length (now pairs)) ⌝ }
+    requires { ⌜ LeadsAt (now classes) leads ⌝ }
+    ensures { λ r. ⌜ ((r ≡ 0xFFFF → ⊥) → bytePair (now (classes .entry)) (now (pairs .entry)) lead byte ≡ Lookup.Found r) ⌝ }
+{
+    let at = byte as usize;
+    if codepage::is_trail_class(classes[at]) {
+        return pair_entry(classes, pairs, leads, lead, byte);
+    }
+    0xFFFF
+}
+
+// The code of a unit, or FFFF where it has none.
+pub fn code_of(index: &[u8], blocks: &[u16], unit: u16) -> u16
+    requires { ⌜ length (now index) ≡ 256 ⌝ }
+    requires { ⌜ ((high : ℕ) → 256 * entry (now index) high + 256 ≤ length (now blocks)) ⌝ }
+    ensures { λ r. ⌜ (r ≡ unitEntry (now (index .entry)) (now (blocks .entry)) unit) × ((r ≡ 0xFFFF → ⊥) → unitCode (now (index .entry)) (now (blocks .entry)) unit ≡ Lookup.Found r) ⌝ }
+{
+    let high = (unit / 256) as usize;
+    let low = (unit % 256) as usize;
+    let block = index[high] as usize;
+    blocks[256 * block + low]
+}
+
+// A unit's code.
+pub fn unit_code(index: &[u8], blocks: &[u16], unit: u16) -> Lookup
+    requires { ⌜ length (now index) ≡ 256 ⌝ }
+    requires { ⌜ ((high : ℕ) → 256 * entry (now index) high + 256 ≤ length (now blocks)) ⌝ }
+    ensures { λ r. ⌜ r ≡ unitCode (now (index .entry)) (now (blocks .entry)) unit ⌝ }
+{
+    found(Kind::UndefinedSingle, code_of(index, blocks, unit))
+}

@@ -1,0 +1,103 @@
+// The command of a line: what its first word names.
+use crate::words;
+
+// The longest line.
+const LINE_LIMIT: usize = 400000;
+
+pub enum Command {
+    Table,
+    Shape,
+    Bytes,
+    Units,
+    FillBytes,
+    FillUnits,
+    Start,
+    Run,
+    Decode,
+    Encode,
+    Save,
+    Load,
+    Count,
+    Convert,
+    // A line that is passed over.
+    Nothing,
+    // A line that is no command.
+    Unknown,
+}
+
+// The command that a word names, among those that call the library.
+fn named_call(word: &[u8]) -> Command {
+    if words::is_word(word, b"shape") {
+        return Command::Shape;
+    }
+    if words::is_word(word, b"decode") {
+        return Command::Decode;
+    }
+    if words::is_word(word, b"encode") {
+        return Command::Encode;
+    }
+    if words::is_word(word, b"save") {
+        return Command::Save;
+    }
+    if words::is_word(word, b"count") {
+        return Command::Count;
+    }
+    if words::is_word(word, b"convert") {
+        return Command::Convert;
+    }
+    Command::Unknown
+}
+
+// The command that a word names.
+fn named(word: &[u8]) -> Command {
+    if words::is_word(word, b"table") {
+        return Command::Table;
+    }
+    if words::is_word(word, b"bytes") {
+        return Command::Bytes;
+    }
+    if words::is_word(word, b"units") {
+        return Command::Units;
+    }
+    if words::is_word(word, b"fillbytes") {
+        return Command::FillBytes;
+    }
+    if words::is_word(word, b"fillunits") {
+        return Command::FillUnits;
+    }
+    if words::is_word(word, b"start") {
+        return Command::Start;
+    }
+    if words::is_word(word, b"run") {
+        return Command::Run;
+    }
+    if words::is_word(word, b"load") {
+        return Command::Load;
+    }
+    named_call(word)
+}
+
+// Whether a line is passed over.
+fn is_passed(line: &[u8]) -> bool {
+    if line.len() == 0 {
+        return true;
+    }
+    line[0] == b'#'
+}
+
+// The command of a line.
+pub fn command_of(line: &[u8]) -> Command {
+    if LINE_LIMIT < line.len() {
+        return Command::Unknown;
+    }
+    if is_passed(line) {
+        return Command::Nothing;
+    }
+    let end = words::word_end(line, 0);
+    named(&line[0..end])
+}
+
+// The place of the second word.
+pub fn second(line: &[u8]) -> usize {
+    words::word_end(line, 0) + 1
+}
