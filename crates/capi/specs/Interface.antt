@@ -13,7 +13,7 @@ use Rattle.codepage.specs.declared.Fault.the-variants.{Good, Page, ClassesSize,
 use Rattle.engine.specs.declared.Direction.{Direction}
 use Rattle.engine.specs.declared.Direction.the-variants.{Decoding, Encoding}
 use Rattle.engine.specs.declared.Policy.{Policy}
-use Rattle.engine.specs.Engine.{over}
+use Rattle.codepage.specs.Lent.{over}
 use Rattle.convert.specs.declared.Pending.{Pending}
 use Rattle.convert.specs.declared.Pending.the-variants.{Nothing, Byte}
 use Rattle.convert.specs.declared.Run.{Run}

@@ -19,7 +19,7 @@ use Rattle.convert.specs.declared.Pending.the-variants.{Nothing, Byte}
 use Rattle.convert.specs.declared.Run.{Run}
 use Rattle.convert.specs.Runs.{validRun, mostWritten, isDecoding, ifPending}
 use Rattle.engine.specs.Policies.{policyAllowed, highestSingle}
-use Rattle.engine.specs.Engine.{over}
+use Rattle.codepage.specs.Lent.{over}
 use Rattle.convert.proofs.CallLaws.{Valid, valid-facts}
 use Rattle.checkpoint.specs.declared.Written.{Written}
 use Rattle.checkpoint.specs.Line.{tab, lineOf, fieldOf, closingOf, decimal, decimalFrom, runOf, kept, fields, field, letter, number, moreDigits, threeDigits, carried, hexPair, closing, one, orElse, return, _>>=_, Parsed, Parser, Representable, Restores, CarriedFits, letterOf, digitsOf, carriedOf, Saving, unwritten, writeOf, writtenAs, Saved, Loading, loaded, readOf}

@@ -1,3 +1,4 @@
+pub mod Lent
 pub mod CodePage
 pub mod Reading
 pub mod Marks

@@ -24,7 +24,8 @@ use Rattle.engine.specs.Policies.{policyAllowed}
 use Rattle.convert.specs.Runs.{pieceLimit, readLimit, isDecoding, mostWritten, ifPending, validRun}
 use Rattle.engine.specs.Engine.{Converter, converter, limit, Fed}
 use Rattle.convert.specs.Calls.{sameDirection, leadIn, check, refusal, Called, pendingUnit, pendingCount, finalUnit, readOf, pendingAfter, endedAfter, runAfter, fedBy, acceptedCall, refusedCall, runCall, Answered}
-use Rattle.engine.specs.Engine.{converterOf, over}
+use Rattle.codepage.specs.Lent.{over}
+use Rattle.engine.specs.Engine.{converterOf}
 use Rattle.convert.specs.Steps.{hasPending, pendingByte, Finished, Refused}
 use Rattle.engine.specs.Steps.{summary, DecodeSizes, optional, decodeFed, encodeFed}
 use Rattle.engine.proofs.EngineLaws.{waitingUnits, Waits, Shape, shape-from}

@@ -17,7 +17,8 @@ use Rattle.convert.specs.declared.Run.{Run}
 use Rattle.convert.specs.declared.Answer.{Answer}
 use Rattle.convert.specs.declared.Answer.the-variants.{AllRead, LeadPending, OutputFull, Stopped, BadShape, PieceTooLong, InvalidRun, OtherRun, PendingNotLead, RunEnded, ReadLimit}
 use Rattle.convert.specs.declared.Outcome.{Outcome}
-use Rattle.engine.specs.Engine.{converterOf, limit, Fed, feedFrom, over}
+use Rattle.codepage.specs.Lent.{over}
+use Rattle.engine.specs.Engine.{converterOf, limit, Fed, feedFrom}
 use Rattle.convert.specs.Runs.{pieceLimit, readLimit, validRun, isDecoding}
 
 -- The number of each answer.

@@ -13,7 +13,7 @@ use lib.ListN.{drop-of-length-le}
 use lib.Bits.{bitOr, or-zero-l, or-zero-r}
 use borrow.Author.Tests.{le-leb, lt-leb}
 use Rattle.engine.specs.Engine.{Effect, Converter, Room, limit, endless, fits, less, Fed, halt, after, stopAt, takeWhen, takeCode, feedFrom}
-use Rattle.engine.specs.Engine.{over}
+use Rattle.codepage.specs.Lent.{over}
 use Rattle.engine.specs.Steps.{sofar, ended, stoppedBy, fullAt, takenBy, Took, summary, Ends}
 use Rattle.engine.specs.declared.progress.Progress.{Progress}
 use Rattle.engine.proofs.EngineLaws.{after-none, after-after, take-stop, take-fits, take-full, feed-wait, feed-one}

@@ -5,7 +5,7 @@ use mathlib.Core.List.{List, [], _∷_, _++_}
 use mathlib.Core.Option.{Option, none, some}
 use Prim.Native.Nat.{ℕ, zero, suc, _+_, _-_}
 use lib.Dec.{leb}
-use lib.ListN.{length, drop}
+use lib.ListN.{length}
 use lib.Bits.{bitOr}
 use Rattle.codepage.specs.CodePage.{CodePage}
 use Rattle.codepage.specs.Reading.{Reader, decoder, encoder, Code, sizeOf, codes}
@@ -126,7 +126,3 @@ defaultOf Encoding p = p .defaultByte
 
 abbrev pub converterOf : Direction → CodePage → Policy → Converter
 converterOf direction p policy = converter (readerOf direction p) policy (defaultOf direction p)
-
--- Output beyond what was written is as before.
-unfoldable pub over : (before written : List ℕ) → List ℕ
-over before written = written ++ drop (length written) before

@@ -17,7 +17,8 @@ use Rattle.engine.specs.declared.Policy.{Policy}
 use Rattle.engine.specs.declared.progress.Progress.{Progress}
 use lib.Bits.{bitOr}
 use Rattle.engine.specs.Policies.{stoppedFlag}
-use Rattle.engine.specs.Engine.{Effect, Fed, after, takeCode, limit, converter, feedFrom, over}
+use Rattle.codepage.specs.Lent.{over}
+use Rattle.engine.specs.Engine.{Effect, Fed, after, takeCode, limit, converter, feedFrom}
 
 -- what an action does, in numbers
 abbrev pub actedAs : ℕ → Action → CodeEffect

@@ -15,7 +15,8 @@ use Rattle.codepage.specs.CodePage.{entry, isLead}
 use Rattle.codepage.specs.Reading.{Reader, byteAlone, bytesOf, unitCode, decoder, encoder}
 use Rattle.codepage.specs.declared.Lookup.the-variants.{Found}
 use Rattle.engine.specs.declared.Policy.{Policy}
-use Rattle.engine.specs.Engine.{Effect, effectOf, Converter, converter, Room, limit, fits, less, Fed, halt, after, takeCode, feedFrom, over}
+use Rattle.codepage.specs.Lent.{over}
+use Rattle.engine.specs.Engine.{Effect, effectOf, Converter, converter, Room, limit, fits, less, Fed, halt, after, takeCode, feedFrom}
 use Rattle.engine.specs.declared.progress.Progress.{Progress}
 use Rattle.engine.specs.Steps.{summary, Ends}
 use Rattle.fastpath.specs.Runs.{AllBelow, Copied, allTaken, Plain}

@@ -16,7 +16,8 @@ use Rattle.codepage.specs.Reading.{Reader, lookup, byteAlone, bytePair, unitCod
 use Rattle.codepage.specs.declared.Lookup.the-variants.{Found}
 use Rattle.engine.specs.declared.Policy.{Policy}
 use Rattle.engine.specs.declared.progress.Progress.{Progress}
-use Rattle.engine.specs.Engine.{Effect, effectOf, Converter, converter, Room, limit, fits, less, Fed, halt, after, takeCode, feedFrom, over}
+use Rattle.codepage.specs.Lent.{over}
+use Rattle.engine.specs.Engine.{Effect, effectOf, Converter, converter, Room, limit, fits, less, Fed, halt, after, takeCode, feedFrom}
 use Rattle.engine.specs.Steps.{sofar, takenBy, Took, movedTo, optional}
 use Rattle.fastpath.specs.Runs.{Ran, SinglesTaken}
 use Rattle.lookup.proofs.ProfileLaws.{single-no-lead}

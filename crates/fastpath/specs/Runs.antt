@@ -9,7 +9,8 @@ use Rattle.codepage.specs.CodePage.{entry, isSingle}
 use Rattle.codepage.specs.Reading.{Reader, decoder}
 use Rattle.engine.specs.declared.Policy.{Policy}
 use Rattle.engine.specs.declared.progress.Progress.{Progress}
-use Rattle.engine.specs.Engine.{Fed, limit, converter, feedFrom, over}
+use Rattle.codepage.specs.Lent.{over}
+use Rattle.engine.specs.Engine.{Fed, limit, converter, feedFrom}
 use Rattle.engine.specs.Steps.{sofar, movedTo}
 
 -- every number of a list is below a bound

@@ -12,7 +12,8 @@ use borrow.Author.Tests.{leb-true, eqb-true}
 use Rattle.codepage.specs.declared.Numbers.{Numbers}
 use Rattle.image.specs.declared.Sizes.{Sizes}
 use Rattle.image.specs.declared.Loaded.the-variants.{Table, NotAnImage}
-use Rattle.image.specs.Image.{two, numbersOf, sizesOf, singlesAt, pairsAt, indexAt, blocksAt, endOf, part, units, zerosKept, fit, isImage, roomsOf, tablesOf, notAnImage, loadOf, over, LoadedAs}
+use Rattle.codepage.specs.Lent.{over}
+use Rattle.image.specs.Image.{two, numbersOf, sizesOf, singlesAt, pairsAt, indexAt, blocksAt, endOf, part, units, zerosKept, fit, isImage, roomsOf, tablesOf, notAnImage, loadOf, LoadedAs}
 
 -- ---- a loop that lays elements over a table
 module _ (elements before : List ℕ) where

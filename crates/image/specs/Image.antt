@@ -6,6 +6,7 @@ use Prim.Native.Nat.{ℕ, _+_, _*_}
 use lib.Dec.{leb, eqb}
 use lib.ListN.{length, take, drop}
 use Rattle.codepage.specs.CodePage.{pick, entry}
+use Rattle.codepage.specs.Lent.{over}
 use Rattle.codepage.specs.declared.Numbers.{Numbers}
 use Rattle.image.specs.declared.Sizes.{Sizes}
 use Rattle.image.specs.declared.Loaded.{Loaded}
@@ -110,10 +111,6 @@ notAnImage = record { answer = NotAnImage; classes = []; singles = []; pairs = [
 
 unfoldable pub loadOf : (bytes : List ℕ) → (rooms : Sizes) → Loading
 loadOf bytes rooms = pick (isImage bytes rooms) (tablesOf bytes (sizesOf bytes)) notAnImage
-
--- elements laid over the front of a table; what is behind them is as before
-unfoldable pub over : (before elements : List ℕ) → List ℕ
-over before elements = elements ++ drop (length elements) before
 
 -- The promise of reading: the answer, and each lent table before and after.
 pub record LoadedAs (l : Loading) (r : Loaded) (classes classes′ singles singles′ pairs pairs′ index index′ blocks blocks′ : List ℕ) : Type 0 where

@@ -2,7 +2,8 @@
 ghost use mathlib.Core.Path.{_≡_};
 ghost use Prim.Native.Nat.{_+_, _*_, _≤_, _<_, _^_};
 ghost use lib.ListN.{length};
-ghost use Rattle.image.specs.Image.{two, four, numbersOf, sizesOf, zerosKept, fit, endOf, isImage, part, units, over, roomsOf, loadOf, LoadedAs};
+ghost use Rattle.codepage.specs.Lent.{over};
+ghost use Rattle.image.specs.Image.{two, four, numbersOf, sizesOf, zerosKept, fit, endOf, isImage, part, units, roomsOf, loadOf, LoadedAs};
 use codepage::Numbers;
 
 // How many elements each table has.

@@ -5,7 +5,7 @@ ghost use mathlib.Core.Option.{none};
 ghost use Prim.Native.Nat.{ℕ, _<_};
 ghost use lib.ListN.{length};
 ghost use Rattle.codepage.specs.CodePage.{entry, isSingle, isLead};
-ghost use Rattle.engine.specs.Engine.{over};
+ghost use Rattle.codepage.specs.Lent.{over};
 ghost use Rattle.loops.specs.Ways.{Way};
 ghost use Rattle.engine.specs.Steps.{summary, Ends, DecodeSizes, optional, decodeFed};
 use engine::Policy;

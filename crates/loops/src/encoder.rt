@@ -6,7 +6,7 @@ ghost use lib.ListN.{length};
 ghost use Rattle.codepage.specs.CodePage.{entry};
 ghost use Rattle.engine.specs.declared.Direction.the-variants.{Encoding};
 ghost use Rattle.engine.specs.Policies.{policyAllowed};
-ghost use Rattle.engine.specs.Engine.{over};
+ghost use Rattle.codepage.specs.Lent.{over};
 ghost use Rattle.engine.specs.Steps.{summary, encodeFed};
 use engine::Policy;
 use engine::policies;

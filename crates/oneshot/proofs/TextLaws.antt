@@ -24,7 +24,8 @@ use Rattle.engine.specs.Policies.{policyAllowed}
 use Rattle.engine.specs.Engine.{Effect, Converter, Room, limit, endless, fits, less, Fed, halt, after, stopAt, takeWhen, takeCode, feedFrom}
 use Rattle.convert.specs.Runs.{pieceLimit}
 use Rattle.convert.specs.Calls.{check}
-use Rattle.engine.specs.Engine.{converterOf, over}
+use Rattle.codepage.specs.Lent.{over}
+use Rattle.engine.specs.Engine.{converterOf}
 use Rattle.oneshot.specs.Texts.{textRefusal, Text, acceptedText, refusedText, textFed, textOf, countedNumber, countedTotals, convertedNumber, convertedTotals, totalsOrNone, CountedAs, ConvertedAs}
 use Rattle.oneshot.specs.Steps.{totalsBy}
 use Rattle.engine.specs.Steps.{summary, DecodeSizes}

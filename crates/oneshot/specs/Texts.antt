@@ -18,7 +18,8 @@ use Rattle.engine.specs.Policies.{policyAllowed}
 use Rattle.engine.specs.Engine.{Room, limit, endless, Fed, feedFrom}
 use Rattle.convert.specs.Runs.{pieceLimit}
 use Rattle.convert.specs.Calls.{check}
-use Rattle.engine.specs.Engine.{converterOf, over}
+use Rattle.codepage.specs.Lent.{over}
+use Rattle.engine.specs.Engine.{converterOf}
 
 -- Counting and the one-go call check 17 (policy), 10, 11. 0: the call is accepted.
 unfoldable pub textRefusal : Direction → Policy → CodePage → (count : ℕ) → ℕ

@@ -14,7 +14,7 @@ use Rattle.convert.specs.declared.Run.{Run}
 use Rattle.convert.specs.declared.Outcome.{Outcome}
 use Rattle.convert.specs.Runs.{fresh}
 use Rattle.convert.specs.Calls.{Called, numberOf, runCall, Answered}
-use Rattle.engine.specs.Engine.{over}
+use Rattle.codepage.specs.Lent.{over}
 use Rattle.checkpoint.specs.declared.Written.{Written}
 use Rattle.checkpoint.specs.declared.Restored.{Restored}
 use Rattle.checkpoint.specs.Line.{Saving, writeOf, Loading, readOf, writtenAs, Saved, restoredAs, loaded, runOf}

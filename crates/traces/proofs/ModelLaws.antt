@@ -21,7 +21,8 @@ use Rattle.convert.specs.declared.Run.{Run}
 use Rattle.engine.specs.Engine.{Converter, limit, Fed, halt, after, feedFrom, feed, whole}
 use Rattle.convert.specs.Runs.{readLimit, isDecoding, mostWritten, ifPending, validRun, fresh, startOf}
 use Rattle.convert.specs.Calls.{refusal, Called, pendingUnit, pendingCount, finalUnit, pendingAfter, endedAfter, runAfter, fedBy, acceptedCall, refusedCall, runCall}
-use Rattle.engine.specs.Engine.{converterOf, over}
+use Rattle.codepage.specs.Lent.{over}
+use Rattle.engine.specs.Engine.{converterOf}
 use Rattle.engine.proofs.EffectLaws.{and-left, and-right}
 use Rattle.engine.proofs.EngineLaws.{uncut, after-none, Shape}
 use Rattle.engine.proofs.CodeLaws.{whole-is-feed}

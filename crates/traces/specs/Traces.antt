@@ -12,7 +12,7 @@ use Rattle.convert.specs.declared.Run.{Run}
 use Rattle.convert.specs.declared.Outcome.{Outcome}
 use Rattle.convert.specs.Runs.{readLimit, fresh, startOf}
 use Rattle.convert.specs.Calls.{numberOf, runCall, Answered}
-use Rattle.engine.specs.Engine.{over}
+use Rattle.codepage.specs.Lent.{over}
 use Rattle.checkpoint.specs.declared.Written.{Written}
 use Rattle.checkpoint.specs.declared.Restored.{Restored}
 use Rattle.checkpoint.specs.Line.{writeOf, readOf, writtenAs, Saved, restoredAs}

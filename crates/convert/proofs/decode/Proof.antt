@@ -3,7 +3,7 @@ use borrow.Author.Tests.{not-true, not-false}
 use Rattle.convert.proofs.CallLaws.{Accepted, accepted-facts, refusal-named, answered-refused, answered-accepted, finish-needs, decode-needs, decode-fed}
 use Rattle.engine.specs.Steps.{decodeFed, summary, optional}
 use Rattle.engine.specs.Engine.{Fed}
-use Rattle.engine.specs.Engine.{over}
+use Rattle.codepage.specs.Lent.{over}
 use Rattle.convert.specs.Calls.{refusal, fedBy}
 use Rattle.engine.specs.declared.Direction.the-variants.{Decoding}
 use Rattle.codepage.specs.CodePage.{CodePage, codePage}
