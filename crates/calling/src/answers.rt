@@ -14,18 +14,25 @@ fn put_place(word: &[u8], place: usize, out: &mut [u8], at: usize) -> usize {
     print::put_end(out, end)
 }
 
-pub fn put_fault(fault: Fault, out: &mut [u8], at: usize) -> usize {
+// A wrong size: that of the blocks, if it is no other one.
+fn put_size_fault(fault: Fault, out: &mut [u8], at: usize) -> usize {
     match fault {
-        Fault::Good => print::put(b"shape good\n", out, at),
-        Fault::Page => print::put(b"shape page\n", out, at),
         Fault::ClassesSize => print::put(b"shape classes\n", out, at),
         Fault::SinglesSize => print::put(b"shape singles\n", out, at),
         Fault::PairsSize => print::put(b"shape pairs\n", out, at),
         Fault::IndexSize => print::put(b"shape index\n", out, at),
-        Fault::BlocksSize => print::put(b"shape blocks\n", out, at),
+        _ => print::put(b"shape blocks\n", out, at),
+    }
+}
+
+pub fn put_fault(fault: Fault, out: &mut [u8], at: usize) -> usize {
+    match fault {
+        Fault::Good => print::put(b"shape good\n", out, at),
+        Fault::Page => print::put(b"shape page\n", out, at),
         Fault::Class(place) => put_place(b"shape class", place, out, at),
         Fault::Lead(place) => put_place(b"shape lead", place, out, at),
         Fault::Number(place) => put_place(b"shape number", place, out, at),
+        _ => put_size_fault(fault, out, at),
     }
 }
 

@@ -6,6 +6,14 @@ use libc::STDERR_FILENO;
 use storage::files;
 use storage::messages;
 
+// Says so where a file is no image.
+fn told(path: &[u8], loaded: Loaded) -> Loaded {
+    if let Loaded::NotAnImage = loaded {
+        messages::wrong(path, b"it is not a table image");
+    }
+    loaded
+}
+
 // Reads a file's image into the fronts of lent tables. Where it is no image the reason was said. The buffer has room for more than
 // the longest image that fits the tables of a job.
 pub fn load(
@@ -24,10 +32,7 @@ pub fn load(
     let count = files::read_some(fd, 200000, &mut bytes);
     libc::close(fd);
     let loaded = image::load(&bytes[..count], classes, singles, pairs, index, blocks);
-    if let Loaded::NotAnImage = loaded {
-        messages::wrong(path, b"it is not a table image");
-    }
-    loaded
+    told(path, loaded)
 }
 
 fn put_size(fd: i32, table: &[u8], size: &[u8]) {
@@ -44,16 +49,22 @@ fn put_place(fd: i32, table: &[u8], place: usize, what: &[u8]) {
     messages::put(fd, what);
 }
 
+// A wrong size in words: that of the blocks, if it is no other one.
+fn put_size_fault(fd: i32, fault: Fault) {
+    match fault {
+        Fault::ClassesSize => put_size(fd, b"classes", b"256"),
+        Fault::SinglesSize => put_size(fd, b"singles", b"256"),
+        Fault::PairsSize => put_size(fd, b"pairs", b"256 for each lead byte"),
+        Fault::IndexSize => put_size(fd, b"index numbers", b"256"),
+        _ => put_size(fd, b"blocks", b"1 to 256 blocks of 256"),
+    }
+}
+
 // The shape report in words.
 pub fn put_fault(fd: i32, fault: Fault) {
     match fault {
         Fault::Good => messages::put(fd, b"good"),
         Fault::Page => messages::put(fd, b"the page is 0"),
-        Fault::ClassesSize => put_size(fd, b"classes", b"256"),
-        Fault::SinglesSize => put_size(fd, b"singles", b"256"),
-        Fault::PairsSize => put_size(fd, b"pairs", b"256 for each lead byte"),
-        Fault::IndexSize => put_size(fd, b"index numbers", b"256"),
-        Fault::BlocksSize => put_size(fd, b"blocks", b"1 to 256 blocks of 256"),
         Fault::Class(place) => put_place(fd, b"the class", place, b" is none of 0, 1, 2, 4, 5, 6"),
         Fault::Lead(place) => put_place(
             fd,
@@ -62,6 +73,7 @@ pub fn put_fault(fd: i32, fault: Fault) {
             b" is that of a lead byte below 80",
         ),
         Fault::Number(place) => put_place(fd, b"the index number", place, b" names no block"),
+        _ => put_size_fault(fd, fault),
     }
     messages::put(fd, b"\n");
 }
