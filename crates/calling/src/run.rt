@@ -20,10 +20,7 @@ pub fn shape(
     at: usize,
 ) -> Next {
     if !words::at_end(line, from) {
-        return Next {
-            state,
-            at: print::put_refusal(out, at),
-        };
+        return state.answered(print::put_refusal(out, at));
     }
     let numbers = state.numbers;
     let fault = codepage::shape_report(numbers, classes, singles, pairs, index, blocks);
@@ -136,10 +133,7 @@ pub fn decode(
     let mark = words::mark_at(line, piece.next);
     let size = words::number_at(line, mark.next, words::UNITS_ROOM);
     if !words::at_end(line, size.next) {
-        return Next {
-            state,
-            at: print::put_refusal(out, at),
-        };
+        return state.answered(print::put_refusal(out, at));
     }
     let start = piece.from;
     let end = piece.to;
@@ -178,10 +172,7 @@ pub fn encode(
     let mark = words::mark_at(line, piece.next);
     let size = words::number_at(line, mark.next, words::BYTES_ROOM);
     if !words::at_end(line, size.next) {
-        return Next {
-            state,
-            at: print::put_refusal(out, at),
-        };
+        return state.answered(print::put_refusal(out, at));
     }
     let start = piece.from;
     let end = piece.to;
@@ -223,10 +214,7 @@ pub fn save(
 ) -> Next {
     let size = words::number_at(line, from, words::BYTES_ROOM);
     if !words::at_end(line, size.next) {
-        return Next {
-            state,
-            at: print::put_refusal(out, at),
-        };
+        return state.answered(print::put_refusal(out, at));
     }
     let room = texts::front_bytes(size.value as usize, lent);
     save_run(state, &mut lent[..room], out, at)

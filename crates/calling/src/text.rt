@@ -35,10 +35,7 @@ fn count_decoding(
 ) -> Next {
     let piece = words::piece_at(line, from, text.len());
     if !words::at_end(line, piece.next) {
-        return Next {
-            state,
-            at: print::put_refusal(out, at),
-        };
+        return state.answered(print::put_refusal(out, at));
     }
     let start = piece.from;
     let end = piece.to;
@@ -73,10 +70,7 @@ fn count_encoding(
 ) -> Next {
     let piece = words::piece_at(line, from, text.len());
     if !words::at_end(line, piece.next) {
-        return Next {
-            state,
-            at: print::put_refusal(out, at),
-        };
+        return state.answered(print::put_refusal(out, at));
     }
     let start = piece.from;
     let end = piece.to;
@@ -223,10 +217,7 @@ fn convert_decoding(
     let piece = words::piece_at(line, from, text.len());
     let size = words::number_at(line, piece.next, words::UNITS_ROOM);
     if !words::at_end(line, size.next) {
-        return Next {
-            state,
-            at: print::put_refusal(out, at),
-        };
+        return state.answered(print::put_refusal(out, at));
     }
     let start = piece.from;
     let end = piece.to;
@@ -267,10 +258,7 @@ fn convert_encoding(
     let piece = words::piece_at(line, from, text.len());
     let size = words::number_at(line, piece.next, words::BYTES_ROOM);
     if !words::at_end(line, size.next) {
-        return Next {
-            state,
-            at: print::put_refusal(out, at),
-        };
+        return state.answered(print::put_refusal(out, at));
     }
     let start = piece.from;
     let end = piece.to;

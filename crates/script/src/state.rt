@@ -60,6 +60,11 @@ pub fn initial() -> State {
 }
 
 impl State {
+    // The state as it is, with the place behind an answer.
+    pub fn answered(self, at: usize) -> Next {
+        Next { state: self, at }
+    }
+
     pub fn with_table(self, numbers: Numbers, sizes: Sizes) -> State {
         let run = self.run;
         State {

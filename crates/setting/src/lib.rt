@@ -88,10 +88,7 @@ fn table(
 ) -> Next {
     let name = words::name_at(line, from);
     if !words::at_end(line, name.next) {
-        return Next {
-            state,
-            at: print::put_refusal(out, at),
-        };
+        return state.answered(print::put_refusal(out, at));
     }
     let start = name.from;
     let end = name.to;
@@ -128,10 +125,7 @@ fn set_bytes(
 ) -> Next {
     let digits = words::bytes_at(line, from);
     if !words::at_end(line, digits.next) {
-        return Next {
-            state,
-            at: print::put_refusal(out, at),
-        };
+        return state.answered(print::put_refusal(out, at));
     }
     let start = digits.from;
     let end = digits.to;
@@ -151,10 +145,7 @@ fn set_units(
 ) -> Next {
     let digits = words::units_at(line, from);
     if !words::at_end(line, digits.next) {
-        return Next {
-            state,
-            at: print::put_refusal(out, at),
-        };
+        return state.answered(print::put_refusal(out, at));
     }
     let start = digits.from;
     let end = digits.to;
@@ -175,18 +166,12 @@ fn fill_bytes(
     let size = words::number_at(line, from, words::TEXT_LIMIT as u64);
     let digits = words::bytes_at(line, size.next);
     if !words::at_end(line, digits.next) {
-        return Next {
-            state,
-            at: print::put_refusal(out, at),
-        };
+        return state.answered(print::put_refusal(out, at));
     }
     let start = digits.from;
     let end = digits.to;
     if start == end {
-        return Next {
-            state,
-            at: print::put_refusal(out, at),
-        };
+        return state.answered(print::put_refusal(out, at));
     }
     let count = texts::front_bytes(size.value as usize, text);
     texts::repeat_bytes(&line[start..end], &mut text[..count]);
@@ -205,18 +190,12 @@ fn fill_units(
     let size = words::number_at(line, from, words::TEXT_LIMIT as u64);
     let digits = words::units_at(line, size.next);
     if !words::at_end(line, digits.next) {
-        return Next {
-            state,
-            at: print::put_refusal(out, at),
-        };
+        return state.answered(print::put_refusal(out, at));
     }
     let start = digits.from;
     let end = digits.to;
     if start == end {
-        return Next {
-            state,
-            at: print::put_refusal(out, at),
-        };
+        return state.answered(print::put_refusal(out, at));
     }
     let count = texts::front_units(size.value as usize, text);
     texts::repeat_units(&line[start..end], &mut text[..count]);
@@ -229,10 +208,7 @@ fn start(line: &[u8], from: usize, state: State, out: &mut [u8], at: usize) -> N
     let page = words::number_at(line, letter.next, 65535);
     let digits = words::policy_at(line, page.next);
     if !words::at_end(line, digits.next) {
-        return Next {
-            state,
-            at: print::put_refusal(out, at),
-        };
+        return state.answered(print::put_refusal(out, at));
     }
     let direction = letter.value;
     let policy = digits.value;
@@ -256,10 +232,7 @@ fn start(line: &[u8], from: usize, state: State, out: &mut [u8], at: usize) -> N
 fn run(line: &[u8], from: usize, state: State, out: &mut [u8], at: usize) -> Next {
     let record = words::run_at(line, from);
     if !words::at_end(line, record.next) {
-        return Next {
-            state,
-            at: print::put_refusal(out, at),
-        };
+        return state.answered(print::put_refusal(out, at));
     }
     let run = record.value;
     let end = print::put(b"run", out, at);
@@ -302,10 +275,7 @@ fn load(
 ) -> Next {
     let digits = words::bytes_at(line, from);
     if !words::at_end(line, digits.next) {
-        return Next {
-            state,
-            at: print::put_refusal(out, at),
-        };
+        return state.answered(print::put_refusal(out, at));
     }
     let start = digits.from;
     let end = digits.to;
@@ -382,10 +352,7 @@ pub fn run_run(
         Command::Start => start(line, from, state, out, at),
         Command::Run => run(line, from, state, out, at),
         Command::Load => load(line, from, state, buffer, out, at),
-        Command::Unknown => Next {
-            state,
-            at: print::put_refusal(out, at),
-        },
+        Command::Unknown => state.answered(print::put_refusal(out, at)),
         _ => Next { state, at },
     }
 }
