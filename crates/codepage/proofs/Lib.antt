@@ -1,2 +1,3 @@
 pub mod ShapeLaws
 pub mod MarkLaws
+pub mod ReadingLaws

@@ -1,6 +1,6 @@
 -- Document 01, "Reading one code from bytes" and "Reading one unit for bytes": what a code means, with no policy.
 use mathlib.Core.Bool.{Bool, true, false}
-use mathlib.Core.List.{List, [], _∷_}
+use mathlib.Core.List.{List, [], _∷_, _++_}
 use mathlib.Core.Option.{Option, none, some}
 use Prim.Native.Nat.{ℕ, zero, suc, _+_, _*_, _/_, _%_}
 use lib.Dec.{leb, eqb}
@@ -88,12 +88,31 @@ alone r a = record { first = a; more = []; means = r .one a }
 abbrev pub together : Reader → ℕ → ℕ → Code
 together r a b = record { first = a; more = b ∷ []; means = r .two a b }
 
--- The codes of a text, one after the other, with a waiting unit or none before it.
-unfoldable pub codesFrom : Reader → Option ℕ → List ℕ → List Code
-codesFrom r none [] = []
-codesFrom r (some a) [] = alone r a ∷ []
-codesFrom r none (a ∷ text) = elim (r .waits a) [ true ↦ codesFrom r (some a) text | false ↦ alone r a ∷ codesFrom r none text ]
-codesFrom r (some a) (b ∷ text) = together r a b ∷ codesFrom r none text
+-- A call takes codes: those of a unit that waits from before, or none, and of the units after it. Which they are does not
+-- depend on room or policy.
 
+-- the codes that one more unit completes, and the unit that waits then
+unfoldable pub completed : Reader → Option ℕ → ℕ → List Code
+completed r none a = pick (r .waits a) [] (alone r a ∷ [])
+completed r (some c) a = together r c a ∷ []
+
+unfoldable pub waitsThen : Reader → Option ℕ → ℕ → Option ℕ
+waitsThen r none a = pick (r .waits a) (some a) none
+waitsThen r (some c) a = none
+
+-- behind the final unit: at the end of the whole text (`last`) a unit that waits is a code alone, else it goes on waiting
+unfoldable pub codesAtEnd : Reader → (last : Bool) → Option ℕ → List Code
+codesAtEnd r last none = []
+codesAtEnd r last (some c) = pick last (alone r c ∷ []) []
+
+unfoldable pub callCodes : Reader → (last : Bool) → Option ℕ → List ℕ → List Code
+callCodes r last pending [] = codesAtEnd r last pending
+callCodes r last pending (a ∷ units) = completed r pending a ++ callCodes r last (waitsThen r pending a) units
+
+unfoldable pub waitingUnit : Reader → (last : Bool) → Option ℕ → List ℕ → Option ℕ
+waitingUnit r last pending [] = pick last none pending
+waitingUnit r last pending (a ∷ units) = waitingUnit r last (waitsThen r pending a) units
+
+-- The codes of a text, one after the other.
 unfoldable pub codes : Reader → List ℕ → List Code
-codes r text = codesFrom r none text
+codes r text = callCodes r true none text

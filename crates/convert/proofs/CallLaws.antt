@@ -28,7 +28,8 @@ use Rattle.codepage.specs.Lent.{over}
 use Rattle.engine.specs.Engine.{converterOf}
 use Rattle.convert.specs.Steps.{hasPending, pendingByte, Finished, Refused}
 use Rattle.engine.specs.Steps.{summary, DecodeSizes, optional, decodeFed, encodeFed}
-use Rattle.engine.proofs.EngineLaws.{waitingUnits, Waits, Shape, shape-from}
+use Rattle.engine.proofs.EngineLaws.{Waits, Shape, shape-from}
+use Rattle.codepage.proofs.ReadingLaws.{waitingUnits}
 use Rattle.engine.proofs.EncodeLaws.{encoder-waits}
 use Rattle.engine.proofs.EffectLaws.{and-left, and-right}
 
@@ -312,7 +313,7 @@ encode-pending run p piece last before s a e =
     either true = refl
     either false = refl
 
-    no-wait : (unit : ℕ) → converterOf Encoding p (run .policy) .waits unit ≡ true → ⊥
+    no-wait : (unit : ℕ) → converterOf Encoding p (run .policy) .reader .waits unit ≡ true → ⊥
     no-wait unit q = false≢true (sym (encoder-waits (p .index) (p .blocks) (run .policy) (p .defaultByte) unit) ∙ q)
 
 -- what a loop gives is what the call feeds

@@ -1,26 +1,23 @@
 -- A text that maps both ways comes back.
-use mathlib.Core.Bool.{Bool, true, false, _||_, true≢false, false≢true}
-use mathlib.Core.List.{List, [], _∷_, _++_, append-assoc, append-nil}
-use mathlib.Core.Option.{Option, none, some}
-use mathlib.Core.Path.{_≡_, refl, sym, ap, _∙_, subst}
-use Prim.Native.Nat.{ℕ, zero, suc, _+_, _/_, _%_, _<_, _≤_}
-use native.Mathlib.Nat.{zero-add}
+use mathlib.Core.Bool.{Bool, true, false, _||_}
+use mathlib.Core.List.{List, [], _∷_, _++_, append-nil}
+use mathlib.Core.Option.{Option, none}
+use mathlib.Core.Path.{_≡_, refl, sym, ap, _∙_}
+use Prim.Native.Nat.{ℕ, _/_, _%_}
 use native.Mathlib.Omega.{arith}
 use lib.Dec.{leb, eqb}
-use lib.ListN.{length, drop, length-append}
-use lib.Bits.{bitOr, or-zero-l}
+use lib.Bits.{or-zero-l}
 use borrow.Author.Tests.{eqb-true}
 use Rattle.codepage.specs.CodePage.{CodePage, pick, entry, isSingle, isLead}
-use Rattle.codepage.specs.Reading.{lookup, byteAlone, bytesOf, unitOf, Reader, decoder, encoder, Code, unitsOf, sizeOf, alone, together, codesFrom, codes}
+use Rattle.codepage.specs.Reading.{byteAlone, bytesOf, Reader, decoder, encoder, Code, unitsOf, sizeOf, alone, together, completed, waitsThen, codesAtEnd, callCodes, codes}
+use Rattle.codepage.proofs.ReadingLaws.{waitingUnits, codes-wait, codes-one, codes-two, none-waits, joined, covers}
 use Rattle.codepage.specs.declared.Kind.the-variants.{Invalid}
-use Rattle.codepage.specs.declared.Lookup.{Lookup}
 use Rattle.codepage.specs.declared.Lookup.the-variants.{Found, Lacking}
 use Rattle.engine.specs.declared.Direction.the-variants.{Decoding, Encoding}
 use Rattle.engine.specs.declared.Policy.{Policy}
-use Rattle.engine.specs.Engine.{effectOf, endless, fits, Fed, halt, after, takeWhen, takeCode, takeAll, whole}
+use Rattle.engine.specs.Engine.{effectOf, converter, endless, fits, less, Fed, halt, after, takeWhen, takeCode, takeCodes, whole}
 use Rattle.engine.specs.Engine.{readerOf}
-use Rattle.convert.specs.RoundTrips.{RoundTrips, UnitsReturn, CodeReturns, CodesReturn, BytesReturn}
-use Rattle.engine.proofs.CodeLaws.{codes-wait, codes-one}
+use Rattle.convert.specs.RoundTrips.{UnitsReturn, CodesReturn, BytesReturn}
 
 -- ---- a code that has a character is read the same before any other bytes
 -- a lead alone has no character
@@ -44,46 +41,46 @@ cons-path k m ks ms e = (cc, cc)
 not-nil : (k : Code) (ks : List Code) → k ∷ ks ≡ [] → ⊥
 not-nil k ks e = let z : _≡_ {A = ℕ} 0 1 = cc in omega arith
 
-codes-some : (r : Reader) (b : ℕ) (t : Bool) → r .waits b ≡ t → codesFrom r none (b ∷ []) ≡ [] → ⊥
-unfolding codesFrom
-codes-some r b true e q = not-nil _ _ (sym (codes-wait r b [] e) ∙ q)
-codes-some r b false e q = not-nil _ _ (sym (codes-one r b [] e) ∙ q)
+codes-some : (r : Reader) (b : ℕ) (t : Bool) → r .waits b ≡ t → callCodes r true none (b ∷ []) ≡ [] → ⊥
+unfolding callCodes codesAtEnd
+codes-some r b true e q = not-nil _ _ (sym (codes-wait r true b [] e) ∙ q)
+codes-some r b false e q = not-nil _ _ (sym (codes-one r true b [] e) ∙ q)
 
 module _ (classes singles pairs : List ℕ) where
   abbrev r : Reader
   r = decoder classes singles pairs
 
-  one-byte : (b : ℕ) (k : Code) (unit : ℕ) (rest : List ℕ) → codesFrom r none (b ∷ []) ≡ k ∷ [] → k .means ≡ Found unit → (t : Bool) → isLead (entry classes b) ≡ t
-      → codesFrom r none (b ∷ rest) ≡ k ∷ codesFrom r none rest
-  unfolding decoder codesFrom
+  one-byte : (b : ℕ) (k : Code) (unit : ℕ) (rest : List ℕ) → callCodes r true none (b ∷ []) ≡ k ∷ [] → k .means ≡ Found unit → (t : Bool) → isLead (entry classes b) ≡ t
+      → callCodes r true none (b ∷ rest) ≡ k ∷ callCodes r true none rest
+  unfolding decoder callCodes codesAtEnd
   one-byte b k unit rest e c true w =
-      let q : alone r b ≡ k = cons-path (alone r b) k [] [] (sym (codes-wait r b [] w) ∙ e) .0 in
+      let q : alone r b ≡ k = cons-path (alone r b) k [] [] (sym (codes-wait r true b [] w) ∙ e) .0 in
       absurd (lacks-not-found unit (sym (lead-lacks classes singles b w) ∙ ap (λ (x : Code). x .means) q ∙ c))
   one-byte b k unit rest e c false w =
-      let q : alone r b ≡ k = cons-path (alone r b) k [] [] (sym (codes-one r b [] w) ∙ e) .0 in
-      codes-one r b rest w ∙ ap (λ (x : Code). x ∷ codesFrom r none rest) q
+      let q : alone r b ≡ k = cons-path (alone r b) k [] [] (sym (codes-one r true b [] w) ∙ e) .0 in
+      codes-one r true b rest w ∙ ap (λ (x : Code). x ∷ callCodes r true none rest) q
 
-  two-bytes : (a b : ℕ) (k : Code) (rest : List ℕ) → codesFrom r none (a ∷ b ∷ []) ≡ k ∷ [] → (t : Bool) → isLead (entry classes a) ≡ t → codesFrom r none (a ∷ b ∷ rest) ≡ k ∷ codesFrom r none rest
-  unfolding decoder codesFrom
+  two-bytes : (a b : ℕ) (k : Code) (rest : List ℕ) → callCodes r true none (a ∷ b ∷ []) ≡ k ∷ [] → (t : Bool) → isLead (entry classes a) ≡ t → callCodes r true none (a ∷ b ∷ rest) ≡ k ∷ callCodes r true none rest
+  unfolding decoder callCodes codesAtEnd
   two-bytes a b k rest e true w =
-      let q : together r a b ≡ k = cons-path (together r a b) k [] [] (sym (codes-wait r a (b ∷ []) w) ∙ e) .0 in
-      codes-wait r a (b ∷ rest) w ∙ ap (λ (x : Code). x ∷ codesFrom r none rest) q
+      let q : together r a b ≡ k = cons-path (together r a b) k [] [] (sym (codes-wait r true a (b ∷ []) w ∙ codes-two r true a b []) ∙ e) .0 in
+      codes-wait r true a (b ∷ rest) w ∙ codes-two r true a b rest ∙ ap (λ (x : Code). x ∷ callCodes r true none rest) q
   two-bytes a b k rest e false w =
-      absurd (codes-some r b (isLead (entry classes b)) refl (cons-path (alone r a) k (codesFrom r none (b ∷ [])) [] (sym (codes-one r a (b ∷ []) w) ∙ e) .1))
+      absurd (codes-some r b (isLead (entry classes b)) refl (cons-path (alone r a) k (callCodes r true none (b ∷ [])) [] (sym (codes-one r true a (b ∷ []) w) ∙ e) .1))
 
   pub code-first : (code : ℕ) (k : Code) (unit : ℕ) (rest : List ℕ) → codes r (bytesOf code) ≡ k ∷ [] → k .means ≡ Found unit → codes r (bytesOf code ++ rest) ≡ k ∷ codes r rest
   unfolding codes bytesOf
   code-first code k unit rest = by-size (leb code 0xFF)
     where
-      by-size : (t : Bool) → codesFrom r none (pick t (code ∷ []) (code / 256 ∷ code % 256 ∷ [])) ≡ k ∷ [] → k .means ≡ Found unit
-          → codesFrom r none (pick t (code ∷ []) (code / 256 ∷ code % 256 ∷ []) ++ rest) ≡ k ∷ codesFrom r none rest
+      by-size : (t : Bool) → callCodes r true none (pick t (code ∷ []) (code / 256 ∷ code % 256 ∷ [])) ≡ k ∷ [] → k .means ≡ Found unit
+          → callCodes r true none (pick t (code ∷ []) (code / 256 ∷ code % 256 ∷ []) ++ rest) ≡ k ∷ callCodes r true none rest
       by-size true e c = one-byte code k unit rest e c (isLead (entry classes code)) refl
       by-size false e c = two-bytes (code / 256) (code % 256) k rest e (isLead (entry classes (code / 256))) refl
 
 -- ---- a code with a character is written, with no flag
 found-taken : (r : Reader) (policy : Policy) (default value : ℕ) (k : Code) (ks : List Code) → k .means ≡ Found value
-    → takeAll r policy default (k ∷ ks) ≡ after (sizeOf k) (r .writes value) 0 (takeAll r policy default ks)
-unfolding takeAll effectOf takeCode takeWhen fits
+    → takeCodes (converter r policy default) endless (k ∷ ks) none ≡ after (sizeOf k) (r .writes value) 0 (takeCodes (converter r policy default) endless ks none)
+unfolding takeCodes converter effectOf takeCode takeWhen fits less
 found-taken r policy default value k ks e = rw e
 
 -- what a reading without a flag is
@@ -92,18 +89,18 @@ pub record Clear (f : Fed) (output : List ℕ) : Type 0 where
   pub flags : f .flags ≡ 0
   pub written : f .output ≡ output
 
-clear-end : (r : Reader) (policy : Policy) (default : ℕ) → Clear (takeAll r policy default []) []
-unfolding takeAll halt
+clear-end : (r : Reader) (policy : Policy) (default : ℕ) → Clear (takeCodes (converter r policy default) endless [] none) []
+unfolding takeCodes halt
 clear-end r policy default = record { answer = refl; flags = refl; written = refl }
 
-clear-more : (r : Reader) (policy : Policy) (default value : ℕ) (k : Code) (ks : List Code) (output : List ℕ) → k .means ≡ Found value → Clear (takeAll r policy default ks) output
-    → Clear (takeAll r policy default (k ∷ ks)) (r .writes value ++ output)
+clear-more : (r : Reader) (policy : Policy) (default value : ℕ) (k : Code) (ks : List Code) (output : List ℕ) → k .means ≡ Found value → Clear (takeCodes (converter r policy default) endless ks none) output
+    → Clear (takeCodes (converter r policy default) endless (k ∷ ks) none) (r .writes value ++ output)
 unfolding after
 clear-more r policy default value k ks output e g =
     rw (found-taken r policy default value k ks e)
     (record {
       answer = g .answer;
-      flags = or-zero-l (takeAll r policy default ks .flags) ∙ g .flags;
+      flags = or-zero-l (takeCodes (converter r policy default) endless ks none .flags) ∙ g .flags;
       written = ap (λ (l : List ℕ). r .writes value ++ l) (g .written);
     })
 
@@ -115,13 +112,13 @@ bytesBy p (unit ∷ text) h = bytesOf (h .0 .0) ++ bytesBy p text (h .1)
 
 module _ (p : CodePage) (policy : Policy) (default : ℕ) where
   encoded-clear : (text : List ℕ) (h : UnitsReturn p text) → Clear (whole (readerOf Encoding p) policy default text) (bytesBy p text h)
-  unfolding whole codes codesFrom encoder
+  unfolding whole codes callCodes completed waitsThen codesAtEnd encoder
   encoded-clear [] h = clear-end (readerOf Encoding p) policy default
-  encoded-clear (unit ∷ text) h = clear-more (readerOf Encoding p) policy default (h .0 .0) (alone (readerOf Encoding p) unit) (codesFrom (readerOf Encoding p) none text) (bytesBy p text (h .1)) (h .0 .1 .own) (encoded-clear text (h .1))
+  encoded-clear (unit ∷ text) h = clear-more (readerOf Encoding p) policy default (h .0 .0) (alone (readerOf Encoding p) unit) (callCodes (readerOf Encoding p) true none text) (bytesBy p text (h .1)) (h .0 .1 .own) (encoded-clear text (h .1))
 
   decoded-clear : (text : List ℕ) (h : UnitsReturn p text) → Clear (whole (readerOf Decoding p) policy default (bytesBy p text h)) text
   unfolding whole
-  decoded-clear [] h = unfold codes codesFrom in clear-end (readerOf Decoding p) policy default
+  decoded-clear [] h = unfold codes callCodes codesAtEnd in clear-end (readerOf Decoding p) policy default
   decoded-clear (unit ∷ text) h =
       rw (code-first (p .classes) (p .singles) (p .pairs) (h .0 .0) (h .0 .1 .read) unit (bytesBy p text (h .1)) (h .0 .1 .one-code) (h .0 .1 .character))
       (clear-unit (clear-more (readerOf Decoding p) policy default unit (h .0 .1 .read) (codes (readerOf Decoding p) (bytesBy p text (h .1))) text (h .0 .1 .character) (decoded-clear text (h .1))))
@@ -142,24 +139,9 @@ returns-units p text h encoding decoding default₁ default₂ =
 
 -- ---- bytes
 -- the units of a text's codes, one after the other, are the text
-abbrev joined : List Code → List ℕ
-joined [] = []
-joined (k ∷ ks) = unitsOf k ++ joined ks
-
-abbrev pendingList : Option ℕ → List ℕ
-pendingList none = []
-pendingList (some a) = a ∷ []
-
-covered-one : (r : Reader) (a : ℕ) (text : List ℕ) (t : Bool) → r .waits a ≡ t → joined (codesFrom r none text) ≡ text → joined (codesFrom r (some a) text) ≡ a ∷ text → joined (codesFrom r none (a ∷ text)) ≡ a ∷ text
-covered-one r a text true e h₁ h₂ = ap joined (codes-wait r a text e) ∙ h₂
-covered-one r a text false e h₁ h₂ = ap joined (codes-one r a text e) ∙ ap (λ (l : List ℕ). a ∷ l) h₁
-
-pub covered : (r : Reader) (p : Option ℕ) (text : List ℕ) → joined (codesFrom r p text) ≡ pendingList p ++ text
-unfolding codesFrom
-covered r none [] = refl
-covered r (some a) [] = refl
-covered r none (a ∷ text) = covered-one r a text (r .waits a) refl (covered r none text) (covered r (some a) text)
-covered r (some a) (b ∷ text) = ap (λ (l : List ℕ). a ∷ b ∷ l) (covered r none text)
+pub covered : (r : Reader) (text : List ℕ) → joined (codes r text) ≡ text
+unfolding codes
+covered r text = sym (append-nil _) ∙ ap (λ (w : Option ℕ). joined (callCodes r true none text) ++ waitingUnits w) (sym (none-waits r none text)) ∙ covers r true none text
 
 -- the characters of codes that belong with them
 abbrev unitsBy : (p : CodePage) (ks : List Code) → CodesReturn p ks → List ℕ
@@ -175,7 +157,7 @@ unfolding units-return
 bytes-are p [] h = refl
 bytes-are p (k ∷ ks) h = ap (λ (l : List ℕ). l ++ bytesBy p (unitsBy p ks (h .1)) (units-return p ks (h .1))) (sym (h .0 .bytes)) ∙ ap (λ (l : List ℕ). unitsOf k ++ l) (bytes-are p ks (h .1))
 
-characters-clear : (p : CodePage) (policy : Policy) (default : ℕ) (ks : List Code) (h : CodesReturn p ks) → Clear (takeAll (readerOf Decoding p) policy default ks) (unitsBy p ks h)
+characters-clear : (p : CodePage) (policy : Policy) (default : ℕ) (ks : List Code) (h : CodesReturn p ks) → Clear (takeCodes (converter (readerOf Decoding p) policy default) endless ks none) (unitsBy p ks h)
 unfolding decoder
 characters-clear p policy default [] h = clear-end (readerOf Decoding p) policy default
 characters-clear p policy default (k ∷ ks) h =
@@ -191,5 +173,5 @@ returns-bytes p text h decoding encoding default₁ default₂ =
     let d : Clear (whole (readerOf Decoding p) decoding default₁ text) (unitsBy p (codes (readerOf Decoding p) text) h) = unfold whole in characters-clear p decoding default₁ (codes (readerOf Decoding p) text) h in
     let e = encoded-clear p encoding default₂ (unitsBy p (codes (readerOf Decoding p) text) h) (units-return p (codes (readerOf Decoding p) text) h) in
     let back : bytesBy p (unitsBy p (codes (readerOf Decoding p) text) h) (units-return p (codes (readerOf Decoding p) text) h) ≡ text =
-    bytes-are p (codes (readerOf Decoding p) text) h ∙ unfold codes in covered (readerOf Decoding p) none text in
+    bytes-are p (codes (readerOf Decoding p) text) h ∙ covered (readerOf Decoding p) text in
     (rw (d .written) (e .written ∙ back), d .flags, rw (d .written) (e .flags))

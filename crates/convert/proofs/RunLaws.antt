@@ -24,7 +24,8 @@ use Rattle.convert.specs.Runs.{readLimit, isDecoding, mostWritten, ifPen
 use Rattle.convert.specs.Calls.{refusal, pendingUnit, pendingCount, finalUnit, readOf, pendingAfter, endedAfter, runAfter, fedBy, acceptedCall, refusedCall, runCall}
 use Rattle.engine.specs.Engine.{converterOf}
 use Rattle.engine.proofs.EffectLaws.{and-left, and-right}
-use Rattle.engine.proofs.EngineLaws.{waitingUnits, Shape}
+use Rattle.engine.proofs.EngineLaws.{Shape}
+use Rattle.codepage.proofs.ReadingLaws.{waitingUnits}
 use Rattle.engine.proofs.EncodeLaws.{encoder-waits}
 use Rattle.engine.proofs.BoundLaws.{Kept, kept-from, reads, widest, bounded-of}
 use Rattle.convert.proofs.CallLaws.{Valid, valid-facts, valid-of, Accepted, accepted-facts, pending-units, encoding-pending, feed-shape, read-le}
@@ -81,7 +82,7 @@ encoding-count Decoding e a = absurd (let z : _≡_ {A = ℕ} 0 1 = cc in omega 
 encoding-count Encoding {run} {p} {count} e a = ap pendingCount (encoding-pending run p count a)
 
 -- nothing waits in encoding
-no-wait : (direction : Direction) (p : CodePage) (policy : Policy) (unit : ℕ) → Encoding ≡ direction → converterOf direction p policy .waits unit ≡ true → ⊥
+no-wait : (direction : Direction) (p : CodePage) (policy : Policy) (unit : ℕ) → Encoding ≡ direction → converterOf direction p policy .reader .waits unit ≡ true → ⊥
 no-wait Decoding p policy unit e q = let z : _≡_ {A = ℕ} 0 1 = cc in omega arith
 no-wait Encoding p policy unit e q = false≢true (sym (encoder-waits (p .index) (p .blocks) policy (p .defaultByte) unit) ∙ q)
 

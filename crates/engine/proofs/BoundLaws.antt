@@ -1,17 +1,18 @@
 -- What a converter whose codes write at most m units does in a call: bounds on output and flags, and that it reads.
 use mathlib.Core.Bool.{Bool, true, false}
-use mathlib.Core.List.{List, [], _∷_, _++_}
+use mathlib.Core.List.{List, [], _∷_}
 use mathlib.Core.Logic.{_⊎_, inl, inr}
 use mathlib.Core.Option.{Option, none, some}
 use mathlib.Core.Path.{_≡_, refl, sym, ap, _∙_}
 use Prim.Native.Nat.{ℕ, zero, suc, _+_, _-_, _*_, _/_, _%_, _^_, _<_, _≤_}
-use native.Mathlib.Nat.{mul-suc, mul-add, mul-one}
+use native.Mathlib.Nat.{mul-suc, mul-add}
 use native.Mathlib.Omega.{arith}
 use lib.ListN.{length, length-append}
-use lib.Bits.{bitOr, or-lt}
+use lib.Bits.{or-lt}
 use borrow.Author.Tests.{le-leb}
 use Rattle.codepage.specs.CodePage.{CodePage, pick}
-use Rattle.codepage.specs.Reading.{unitOf, bytesOf, decoder, encoder}
+use Rattle.codepage.specs.Reading.{unitOf, bytesOf, decoder, encoder, Code, sizeOf, together, callCodes, waitingUnit}
+use Rattle.codepage.proofs.ReadingLaws.{waitingUnits, sizesOf, sizes-cover}
 use Rattle.codepage.specs.declared.Kind.{Kind}
 use Rattle.codepage.specs.declared.Kind.the-variants.{UndefinedSingle, UndefinedPair, Invalid}
 use Rattle.codepage.specs.declared.Lookup.{Lookup}
@@ -22,9 +23,9 @@ use Rattle.engine.specs.declared.Policy.{Policy}
 use Rattle.engine.specs.declared.policies.Action.{Action}
 use Rattle.engine.specs.declared.policies.Action.the-variants.{Stop, Skip, Write}
 use Rattle.engine.specs.Policies.{digitOf, flagOf, actionOf}
-use Rattle.engine.specs.Engine.{Effect, acted, effectOf, Converter, converter, Room, limit, fits, less, Fed, halt, after, stopAt, takeWhen, takeCode, feedFrom}
+use Rattle.engine.specs.Engine.{Effect, acted, effectOf, Converter, converter, Room, limit, fits, less, Fed, halt, after, stopAt, takeWhen, takeCode, takeCodes, feedFrom}
 use Rattle.engine.specs.Engine.{converterOf, defaultOf}
-use Rattle.engine.proofs.EngineLaws.{waitingUnits, feed-wait, feed-one}
+use Rattle.engine.proofs.EngineLaws.{doesTogether, feed-two}
 use lib.Dec.{leb}
 
 -- an effect that writes at most m units and sets none but a kind's flag
@@ -33,8 +34,7 @@ pub record Small (m : ℕ) (k : Effect) : Type 0 where
   pub flag : k .flag < 2 ^ 3
 
 pub record Bounded (m : ℕ) (v : Converter) : Type 0 where
-  pub one : (a : ℕ) → Small m (v .one a)
-  pub two : (a b : ℕ) → Small m (v .two a b)
+  pub each : (k : Code) → Small m (v .does k)
 
 -- what a feeding keeps
 pub record Kept (m : ℕ) (f : Fed) : Type 0 where
@@ -67,20 +67,15 @@ kept-take m n k f false true h w g =
 kept-take m n k f false false h w g = record { output = omega arith; flags = omega arith; low = λ z. omega arith }
 
 module _ (m : ℕ) (v : Converter) (bounded : Bounded m v) where
-  kept-one : (last : Bool) (room : Room) (a : ℕ) (l : List ℕ) (t : Bool) → v .waits a ≡ t
-      → Kept m (feedFrom v last (less room (length (v .one a .writes))) none l) → Kept m (feedFrom v last room (some a) l) → Kept m (feedFrom v last room none (a ∷ l))
-  unfolding takeCode
-  kept-one last room a l true e h₁ h₂ = rw (feed-wait v last room a l e) h₂
-  kept-one last room a l false e h₁ h₂ = rw (feed-one v last room a l e) (kept-take m 1 (v .one a) _ _ _ (omega arith) (bounded .one a) h₁)
+  kept-codes : (room : Room) (ks : List Code) (waiting : Option ℕ) → Kept m (takeCodes v room ks waiting)
+  unfolding takeCodes takeCode
+  kept-codes room [] none = kept-halt m 0 (λ z. omega arith)
+  kept-codes room [] (some c) = kept-halt m 1 (λ z. omega arith)
+  kept-codes room (k ∷ ks) waiting = kept-take m (sizeOf k) (v .does k) _ _ _ (omega arith) (bounded .each k) (kept-codes (less room (length (v .does k .writes))) ks waiting)
 
   pub kept-from : (last : Bool) (room : Room) (p : Option ℕ) (l : List ℕ) → Kept m (feedFrom v last room p l)
-  unfolding feedFrom takeCode
-  kept-from last room none [] = kept-halt m 0 (λ z. omega arith)
-  kept-from true room (some c) [] = kept-take m 1 (v .one c) (halt 0) _ _ (omega arith) (bounded .one c) (kept-halt m 0 (λ z. omega arith))
-  kept-from false room (some c) [] = kept-halt m 1 (λ z. omega arith)
-  kept-from last room none (a ∷ l) = kept-one last room a l (v .waits a) refl (kept-from last (less room (length (v .one a .writes))) none l) (kept-from last room (some a) l)
-  kept-from last room (some c) (b ∷ l) =
-      kept-take m 2 (v .two c b) _ _ _ (omega arith) (bounded .two c b) (kept-from last (less room (length (v .two c b .writes))) none l)
+  unfolding feedFrom
+  kept-from last room p l = kept-codes room _ _
 
   -- with room for m units a code is taken or stops
   taken-some : (n room : ℕ) (k : Effect) (f : Fed) (s : Bool) → m ≤ room → Small m k → n ≤ takeWhen s (leb (length (k .writes)) room) n k f .used
@@ -88,24 +83,21 @@ module _ (m : ℕ) (v : Converter) (bounded : Bounded m v) where
   taken-some n room k f true h w = omega arith
   taken-some n room k f false h w = rw (le-leb (length (k .writes)) room (omega (arith, w .writes))) (omega arith)
 
-  reads-pending : (last : Bool) (room c : ℕ) (l : List ℕ) → m ≤ room → (feedFrom v last (limit room) (some c) l .answer ≡ 1) ⊎ (1 ≤ feedFrom v last (limit room) (some c) l .used)
-  unfolding feedFrom takeCode fits halt
-  reads-pending true room c [] h = inr (taken-some 1 room (v .one c) (halt 0) (v .one c .stops) h (bounded .one c))
-  reads-pending false room c [] h = inl refl
-  reads-pending last room c (b ∷ l) h = inr (omega (arith, taken-some 2 room (v .two c b) (feedFrom v last (less (limit room) (length (v .two c b .writes))) none l) (v .two c b .stops) h (bounded .two c b)))
-
-  reads-one : (last : Bool) (room a : ℕ) (l : List ℕ) (t : Bool) → v .waits a ≡ t → m ≤ room
-      → (feedFrom v last (limit room) none (a ∷ l) .answer ≡ 1) ⊎ (1 ≤ feedFrom v last (limit room) none (a ∷ l) .used)
-  unfolding takeCode fits
-  reads-one last room a l true e h = rw (feed-wait v last (limit room) a l e) (reads-pending last room a l h)
-  reads-one last room a l false e h = rw (feed-one v last (limit room) a l e) (inr (taken-some 1 room (v .one a) _ (v .one a .stops) h (bounded .one a)))
+  reads-codes : (room : ℕ) (ks : List Code) (waiting : Option ℕ) → m ≤ room → 1 ≤ sizesOf ks + length (waitingUnits waiting)
+      → (takeCodes v (limit room) ks waiting .answer ≡ 1) ⊎ (1 ≤ takeCodes v (limit room) ks waiting .used)
+  unfolding takeCodes takeCode fits halt
+  reads-codes room [] none h n = absurd (omega arith)
+  reads-codes room [] (some c) h n = inl refl
+  reads-codes room (k ∷ ks) waiting h n = inr (omega (arith, taken-some (sizeOf k) room (v .does k) (takeCodes v (less (limit room) (length (v .does k .writes))) ks waiting) (v .does k .stops) h (bounded .each k)))
 
   -- A call that has units, and room for m, ends with a unit waiting or has used one of them.
   pub reads : (last : Bool) (room : ℕ) (p : Option ℕ) (a : ℕ) (l : List ℕ) → m ≤ room
       → (feedFrom v last (limit room) p (a ∷ l) .answer ≡ 1) ⊎ (length (waitingUnits p) + 1 ≤ feedFrom v last (limit room) p (a ∷ l) .used)
   unfolding feedFrom takeCode fits
-  reads last room none a l h = reads-one last room a l (v .waits a) refl h
-  reads last room (some c) a l h = inr (taken-some 2 room (v .two c a) (feedFrom v last (less (limit room) (length (v .two c a .writes))) none l) (v .two c a .stops) h (bounded .two c a))
+  reads last room none a l h =
+      reads-codes room (callCodes (v .reader) last none (a ∷ l)) (waitingUnit (v .reader) last none (a ∷ l)) h (omega (arith, sizes-cover (v .reader) last none (a ∷ l)))
+  reads last room (some c) a l h =
+      rw (feed-two v last (limit room) c a l) (inr (taken-some 2 room (doesTogether v c a) _ (doesTogether v c a .stops) h (bounded .each (together (v .reader) c a))))
 
 -- ---- the two directions
 -- how many units a code writes at most
@@ -140,13 +132,11 @@ pub bounded-of : (direction : Direction) (p : CodePage) (policy : Policy) → Bo
 unfolding converter decoder encoder
 bounded-of Decoding p policy =
     record {
-      one = λ a. small-effect 1 unitOf policy (defaultOf Decoding p) a _ (omega arith) (λ value. omega arith);
-      two = λ a b. small-effect 1 unitOf policy (defaultOf Decoding p) a _ (omega arith) (λ value. omega arith);
+      each = λ k. small-effect 1 unitOf policy (defaultOf Decoding p) (k .first) (k .means) (omega arith) (λ value. omega arith);
     }
 bounded-of Encoding p policy =
     record {
-      one = λ a. small-effect 2 bytesOf policy (defaultOf Encoding p) a _ (omega arith) bytes-le;
-      two = λ a b. small-effect 2 bytesOf policy (defaultOf Encoding p) a _ (omega arith) bytes-le;
+      each = λ k. small-effect 2 bytesOf policy (defaultOf Encoding p) (k .first) (k .means) (omega arith) bytes-le;
     }
 
 -- ---- with room for m units for each unit, no answer is 2
@@ -157,29 +147,19 @@ module _ (m : ℕ) (v : Converter) (bounded : Bounded m v) where
   roomy-take n room k f false w h q e =
       q (sym (ap (λ (t : Bool). takeWhen false t n k f .answer) (le-leb (length (k .writes)) room (omega (arith, w .writes)))) ∙ e)
 
-  roomy-one : (last : Bool) (room a : ℕ) (l : List ℕ) (t : Bool) → v .waits a ≡ t → m * suc (length l) ≤ room → (feedFrom v last (limit (room - length (v .one a .writes))) none l .answer ≡ 2 → ⊥)
-      → (feedFrom v last (limit room) (some a) l .answer ≡ 2 → ⊥) → feedFrom v last (limit room) none (a ∷ l) .answer ≡ 2 → ⊥
-  unfolding takeCode fits less
-  roomy-one last room a l true w h h₁ h₂ e = h₂ (sym (ap (λ (f : Fed). f .answer) (feed-wait v last (limit room) a l w)) ∙ e)
-  roomy-one last room a l false w h h₁ h₂ e =
-      roomy-take 1 room (v .one a) _ (v .one a .stops) (bounded .one a) (omega (arith, mul-suc m (length l))) h₁ (sym (ap (λ (f : Fed). f .answer) (feed-one v last (limit room) a l w)) ∙ e)
+  roomy-codes : (room : ℕ) (ks : List Code) (waiting : Option ℕ) → m * sizesOf ks ≤ room → takeCodes v (limit room) ks waiting .answer ≡ 2 → ⊥
+  unfolding takeCodes takeCode fits less halt
+  roomy-codes room [] none h e = omega arith
+  roomy-codes room [] (some c) h e = omega arith
+  roomy-codes room (k ∷ ks) waiting h e =
+      let more : m * (sizeOf k + sizesOf ks) ≡ m + m * length (k .more) + m * sizesOf ks = mul-add m (sizeOf k) (sizesOf ks) ∙ ap (λ (n : ℕ). n + m * sizesOf ks) (omega (arith, mul-suc m (length (k .more)))) in
+      roomy-take (sizeOf k) room (v .does k) _ (v .does k .stops) (bounded .each k) (omega arith)
+      (roomy-codes (room - length (v .does k .writes)) ks waiting (omega (arith, bounded .each k .writes))) e
 
   pub roomy : (last : Bool) (room : ℕ) (p : Option ℕ) (l : List ℕ) → m * (length (waitingUnits p) + length l) ≤ room → feedFrom v last (limit room) p l .answer ≡ 2 → ⊥
-  unfolding feedFrom takeCode fits less halt
-  roomy last room none [] h e = omega arith
-  roomy true room (some c) [] h e = roomy-take 1 room (v .one c) (halt 0) (v .one c .stops) (bounded .one c) (omega (arith, mul-one m)) (λ z. omega arith) e
-  roomy false room (some c) [] h e = omega arith
-  roomy last room none (a ∷ l) h e =
-      let z : 0 + suc (length l) ≡ suc (length l) = omega arith in
-      let y : 1 + length l ≡ suc (length l) = omega arith in
-      let x : 0 + length l ≡ length l = omega arith in
-      let h′ : m * suc (length l) ≤ room = rw z at h in
-      roomy-one last room a l (v .waits a) refl h′
-      (roomy last (room - length (v .one a .writes)) none l (rw x (omega (arith, mul-suc m (length l), bounded .one a .writes))))
-      (roomy last room (some a) l (rw y h′)) e
-  roomy last room (some c) (b ∷ l) h e =
-      let z : 1 + suc (length l) ≡ suc (suc (length l)) = omega arith in
-      let x : 0 + length l ≡ length l = omega arith in
-      let h′ : m * suc (suc (length l)) ≤ room = rw z at h in
-      roomy-take 2 room (v .two c b) _ (v .two c b .stops) (bounded .two c b) (omega (arith, mul-suc m (suc (length l))))
-      (roomy last (room - length (v .two c b .writes)) none l (rw x (omega (arith, mul-suc m (suc (length l)), mul-suc m (length l), bounded .two c b .writes)))) e
+  unfolding feedFrom
+  roomy last room p l h e =
+      let ks : List Code = callCodes (v .reader) last p l in
+      let behind : List ℕ = waitingUnits (waitingUnit (v .reader) last p l) in
+      let all : m * (length (waitingUnits p) + length l) ≡ m * sizesOf ks + m * length behind = ap (λ (n : ℕ). m * n) (sym (sizes-cover (v .reader) last p l)) ∙ mul-add m (sizesOf ks) (length behind) in
+      roomy-codes room ks (waitingUnit (v .reader) last p l) (omega arith) e

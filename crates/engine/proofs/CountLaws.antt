@@ -1,20 +1,20 @@
 -- The turns and the ends of a loop that counts, over any converter: nothing is written, and room never ends.
 use mathlib.Core.Bool.{Bool, true, false, false≢true}
-use mathlib.Core.List.{List, [], _∷_, _++_, append-nil}
-use mathlib.Core.Option.{Option, none, some}
+use mathlib.Core.List.{List, [], _++_, append-nil}
+use mathlib.Core.Option.{none}
 use mathlib.Core.Path.{_≡_, refl, sym, ap, _∙_}
-use Prim.Native.Nat.{ℕ, zero, suc, _+_, _-_, _*_, _^_, _<_, _≤_}
+use Prim.Native.Nat.{ℕ, zero, suc, _+_, _^_, _<_, _≤_}
 use native.Mathlib.Nat.{add-zero}
 use native.Mathlib.Omega.{arith}
 use lib.Dec.{eqb}
 use lib.ListN.{length, getD, drop, length-append}
-use lib.Bits.{bitOr, or-zero-r}
+use lib.Bits.{or-zero-r}
 use Rattle.codepage.specs.CodePage.{pick}
 use Rattle.engine.specs.declared.policies.CodeEffect.{CodeEffect}
 use Rattle.engine.specs.declared.progress.Progress.{Progress}
-use Rattle.engine.specs.Engine.{Effect, Converter, Room, endless, fits, less, Fed, halt, after, stopAt, takeWhen, takeCode, feedFrom}
+use Rattle.engine.specs.Engine.{Effect, Converter, endless, fits, less, Fed, halt, after, stopAt, takeWhen, takeCode, feedFrom}
 use Rattle.engine.specs.Steps.{unitEffect, byteEffect, summary, optional, stoppedBy, takenBy}
-use Rattle.engine.proofs.EngineLaws.{after-none, after-after}
+use Rattle.engine.proofs.EngineLaws.{doesAlone, doesTogether, after-none, after-after, feed-end, feed-last}
 use Rattle.engine.proofs.TurnLaws.{no-more, wait-step, two-step, one-step}
 
 -- F is what the whole text gives; s are the numbers of what was taken so far, and `ys` what it would have written.
@@ -23,7 +23,7 @@ pub record Counting (v : Converter) (F : Fed) (text : List ℕ) (waits : Bool) (
   pub short : length text < 2 ^ 63
   pub few : s .used ≤ i + i
   pub little : s .written ≤ i + i
-  pub waiting : waits ≡ true → v .waits first ≡ true
+  pub waiting : waits ≡ true → v .reader .waits first ≡ true
   pub zero-so-far : s .answer ≡ 0
   pub ys : List ℕ
   pub count : length ys ≡ s .written
@@ -76,7 +76,7 @@ pub record Came (k : Effect) (n : ℕ) (s r : Progress) : Type 0 where
 
 module _ {v : Converter} {F : Fed} {text : List ℕ} {waits : Bool} {first : ℕ} {s : Progress} {i : ℕ} (g : Counting v F text waits first s i) where
   -- the unit waits
-  pub count-wait : waits ≡ false → i < length text → v .waits (getD text i 0) ≡ true → Counting v F text true (getD text i 0) s (i + 1)
+  pub count-wait : waits ≡ false → i < length text → v .reader .waits (getD text i 0) ≡ true → Counting v F text true (getD text i 0) s (i + 1)
   count-wait e h w =
       record {
         inside = omega arith;
@@ -118,7 +118,7 @@ module _ {v : Converter} {F : Fed} {text : List ℕ} {waits : Bool} {first : ℕ
         t .1 ∙ summary-stop F s (g .ys) n k (g .count) (g .sum ∙ ap (after (s .used) (g .ys) (s .flags)) (e ∙ code-stop n k _ (t .0)))
 
   -- a code of two units, and of one
-  pub count-two : {k : Effect} {r : Progress} → Came k 2 s r → length (k .writes) ≤ 2 → waits ≡ true → i < length text → k ≡ v .two first (getD text i 0) → r .answer ≡ 0 → Counting v F text false first r (i + 1)
+  pub count-two : {k : Effect} {r : Progress} → Came k 2 s r → length (k .writes) ≤ 2 → waits ≡ true → i < length text → k ≡ doesTogether v first (getD text i 0) → r .answer ≡ 0 → Counting v F text false first r (i + 1)
   unfolding less
   count-two {k} {r} c m e h q z =
       let t = taken-fact c z .1 in
@@ -134,11 +134,11 @@ module _ {v : Converter} {F : Fed} {text : List ℕ} {waits : Bool} {first : ℕ
         sum = count-taken c (drop (i + 1) text) (two-step v true text i k h waits first e q endless) z;
       }
 
-  pub stop-count-two : {k : Effect} {r : Progress} → Came k 2 s r → waits ≡ true → i < length text → k ≡ v .two first (getD text i 0) → (r .answer ≡ 0 → ⊥) → r ≡ summary F
+  pub stop-count-two : {k : Effect} {r : Progress} → Came k 2 s r → waits ≡ true → i < length text → k ≡ doesTogether v first (getD text i 0) → (r .answer ≡ 0 → ⊥) → r ≡ summary F
   unfolding less
   stop-count-two {k} {r} c e h q z = count-stop c (drop (i + 1) text) (two-step v true text i k h waits first e q endless) z
 
-  pub count-one : {k : Effect} {r : Progress} → Came k 1 s r → length (k .writes) ≤ 2 → waits ≡ false → i < length text → v .waits (getD text i 0) ≡ false → k ≡ v .one (getD text i 0) → r .answer ≡ 0
+  pub count-one : {k : Effect} {r : Progress} → Came k 1 s r → length (k .writes) ≤ 2 → waits ≡ false → i < length text → v .reader .waits (getD text i 0) ≡ false → k ≡ doesAlone v (getD text i 0) → r .answer ≡ 0
       → Counting v F text waits first r (i + 1)
   unfolding less
   count-one {k} {r} c m e h w q z =
@@ -155,24 +155,22 @@ module _ {v : Converter} {F : Fed} {text : List ℕ} {waits : Bool} {first : ℕ
         sum = rw e (count-taken c (drop (i + 1) text) (one-step v true text i k h waits first e w q endless) z);
       }
 
-  pub stop-count-one : {k : Effect} {r : Progress} → Came k 1 s r → waits ≡ false → i < length text → v .waits (getD text i 0) ≡ false → k ≡ v .one (getD text i 0) → (r .answer ≡ 0 → ⊥) → r ≡ summary F
+  pub stop-count-one : {k : Effect} {r : Progress} → Came k 1 s r → waits ≡ false → i < length text → v .reader .waits (getD text i 0) ≡ false → k ≡ doesAlone v (getD text i 0) → (r .answer ≡ 0 → ⊥) → r ≡ summary F
   unfolding less
   stop-count-one {k} {r} c e h w q z = count-stop c (drop (i + 1) text) (one-step v true text i k h waits first e w q endless) z
 
   -- the ends
   pub count-end : waits ≡ false → length text ≤ i → s ≡ summary F
-  unfolding feedFrom
-  count-end e h = summary-end F s (g .ys) (g .zero-so-far) (g .count) (rw (e, no-more i text h) at (g .sum))
+  count-end e h = summary-end F s (g .ys) (g .zero-so-far) (g .count) (rw (e, no-more i text h, feed-end v true endless) at (g .sum))
 
-  pub count-last : {k : Effect} {r : Progress} → Came k 1 s r → waits ≡ true → length text ≤ i → k ≡ v .one first → r ≡ summary F
-  unfolding feedFrom
+  pub count-last : {k : Effect} {r : Progress} → Came k 1 s r → waits ≡ true → length text ≤ i → k ≡ doesAlone v first → r ≡ summary F
   count-last {k} {r} c e h q = by-answer (r .answer) refl
     where
       step : feedFrom v true endless (optional waits first) (drop i text) ≡ takeCode endless 1 k (feedFrom v true endless none [])
-      step = rw (e, no-more i text h, q)
+      step = rw (e, no-more i text h, q, feed-end v true endless) (feed-last v endless first)
 
       by-answer : (n : ℕ) → r .answer ≡ n → r ≡ summary F
-      by-answer zero z = summary-end F r (g .ys ++ k .writes) z (count-length c z) (count-taken c [] step z)
+      by-answer zero z = summary-end F r (g .ys ++ k .writes) z (count-length c z) (rw (feed-end v true endless) at (count-taken c [] step z))
       by-answer (suc n) z = count-stop c [] step (λ y. omega arith)
 
 -- ---- the program's numbers

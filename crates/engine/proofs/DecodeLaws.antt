@@ -1,23 +1,21 @@
 -- A code of decoding, as the loop meets it.
-use mathlib.Core.Bool.{Bool, true, false, false≢true}
-use mathlib.Core.List.{List, [], _∷_, _++_}
-use mathlib.Core.Option.{Option, none, some}
-use mathlib.Core.Path.{_≡_, refl, sym, ap, _∙_, subst}
-use Prim.Native.Nat.{ℕ, zero, suc, _+_, _-_, _*_, _^_, _<_, _≤_}
-use native.Mathlib.Numerals.{add-one}
+use mathlib.Core.Bool.{Bool, true, false}
+use mathlib.Core.List.{List, [], _∷_}
+use mathlib.Core.Path.{_≡_, ap, _∙_}
+use Prim.Native.Nat.{ℕ, zero, suc, _+_, _*_, _<_, _≤_}
 use native.Mathlib.Omega.{arith}
-use lib.ListN.{length, getD, drop, set, drop-of-length-le}
-use lib.Seq.{drop-cons}
+use lib.ListN.{length, set}
 use borrow.Author.Tests.{eq-eqb, ne-eqb}
-use Rattle.codepage.specs.CodePage.{entry, isLead, leads, leadsBelow}
+use Rattle.codepage.specs.CodePage.{entry, isLead, leadsBelow}
 use Rattle.codepage.specs.Reading.{byteAlone, bytePair, unitOf, decoder}
 use Rattle.codepage.specs.declared.Lookup.{Lookup}
 use Rattle.codepage.proofs.ShapeLaws.{block-there}
 use Rattle.engine.specs.declared.Policy.{Policy}
 use Rattle.engine.specs.declared.policies.CodeEffect.{CodeEffect}
 use Rattle.engine.specs.declared.progress.Progress.{Progress}
-use Rattle.engine.specs.Engine.{Effect, effectOf, Converter, converter, Room, limit, less, Fed, takeCode, feedFrom}
-use Rattle.engine.specs.Steps.{unitEffect, sofar, stoppedBy, fullAt, takenBy, Took, DecodeSizes, optional, decodeFed}
+use Rattle.engine.specs.Engine.{effectOf, converter}
+use Rattle.engine.specs.Steps.{unitEffect, stoppedBy, fullAt, takenBy, Took, DecodeSizes}
+use Rattle.engine.proofs.EngineLaws.{doesAlone, doesTogether}
 use Rattle.engine.proofs.LoopLaws.{took-stop, took-lacks, took-none, took-writes}
 
 -- ---- the four ways of a code
@@ -52,21 +50,21 @@ pair-room classes singles pairs lead h e = omega (arith, block-there classes lea
 -- the effects of the converter
 module _ (classes singles pairs : List ℕ) (policy : Policy) (default : ℕ) (d : CodeEffect) (found : Lookup) where
   pub decoded-one : (byte : ℕ) → found ≡ byteAlone classes singles byte → unitEffect d ≡ effectOf unitOf policy default byte found
-      → unitEffect d ≡ converter (decoder classes singles pairs) policy default .one byte
+      → unitEffect d ≡ doesAlone (converter (decoder classes singles pairs) policy default) byte
   unfolding converter decoder
   decoded-one byte e q = q ∙ ap (effectOf unitOf policy default byte) e
 
   pub decoded-two : (lead byte : ℕ) → found ≡ bytePair classes pairs lead byte → unitEffect d ≡ effectOf unitOf policy default lead found
-      → unitEffect d ≡ converter (decoder classes singles pairs) policy default .two lead byte
+      → unitEffect d ≡ doesTogether (converter (decoder classes singles pairs) policy default) lead byte
   unfolding converter decoder
   decoded-two lead byte e q = q ∙ ap (effectOf unitOf policy default lead) e
 
 pub decoder-waits : (classes singles pairs : List ℕ) (policy : Policy) (default byte : ℕ) (t : Bool) → isLead (entry classes byte) ≡ t
-    → converter (decoder classes singles pairs) policy default .waits byte ≡ t
+    → converter (decoder classes singles pairs) policy default .reader .waits byte ≡ t
 unfolding converter decoder
 decoder-waits classes singles pairs policy default byte t e = e
 
-pub decoder-lead : (classes singles pairs : List ℕ) (policy : Policy) (default byte : ℕ) → converter (decoder classes singles pairs) policy default .waits byte ≡ true
+pub decoder-lead : (classes singles pairs : List ℕ) (policy : Policy) (default byte : ℕ) → converter (decoder classes singles pairs) policy default .reader .waits byte ≡ true
     → isLead (entry classes byte) ≡ true
 unfolding converter decoder
 decoder-lead classes singles pairs policy default byte e = e

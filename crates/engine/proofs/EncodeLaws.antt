@@ -14,6 +14,7 @@ use Rattle.engine.specs.declared.policies.CodeEffect.{CodeEffect}
 use Rattle.engine.specs.declared.progress.Progress.{Progress}
 use Rattle.engine.specs.Engine.{effectOf, converter}
 use Rattle.engine.specs.Steps.{byteEffect, stoppedBy, fullAt, takenBy, Took}
+use Rattle.engine.proofs.EngineLaws.{doesAlone}
 use Rattle.engine.proofs.LoopLaws.{took-stop, took-lacks, took-none, took-writes}
 
 -- ---- the six ways of a unit
@@ -46,10 +47,10 @@ module _ (d : CodeEffect) (s : Progress) (out : List ℕ) (h : s .written ≤ le
 
 -- the effect of the converter
 pub encoded-one : (index blocks : List ℕ) (policy : Policy) (default unit : ℕ) (d : CodeEffect) (found : Lookup) → found ≡ unitCode index blocks unit
-    → byteEffect d ≡ effectOf bytesOf policy default unit found → byteEffect d ≡ converter (encoder index blocks) policy default .one unit
+    → byteEffect d ≡ effectOf bytesOf policy default unit found → byteEffect d ≡ doesAlone (converter (encoder index blocks) policy default) unit
 unfolding converter encoder
 encoded-one index blocks policy default unit d found e q = q ∙ ap (effectOf bytesOf policy default unit) e
 
-pub encoder-waits : (index blocks : List ℕ) (policy : Policy) (default unit : ℕ) → converter (encoder index blocks) policy default .waits unit ≡ false
+pub encoder-waits : (index blocks : List ℕ) (policy : Policy) (default unit : ℕ) → converter (encoder index blocks) policy default .reader .waits unit ≡ false
 unfolding converter encoder
 encoder-waits index blocks policy default unit = refl

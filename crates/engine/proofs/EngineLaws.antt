@@ -1,20 +1,24 @@
 -- Laws of the engine, over any converter.
 use mathlib.Core.Bool.{Bool, true, false}
-use mathlib.Core.Path.{_≡_, refl, sym, ap, _∙_, subst}
-use mathlib.Core.List.{List, [], _∷_, _++_, append-assoc, append-nil}
+use mathlib.Core.Path.{_≡_, refl, sym, ap, _∙_}
+use mathlib.Core.List.{List, [], _∷_, _++_, append-assoc}
 use mathlib.Core.Option.{Option, none, some}
-use Prim.Native.Nat.{ℕ, zero, suc, _+_, _-_, _*_, _^_, _/_, _%_, _<_, _≤_, max}
+use Prim.Native.Nat.{ℕ, zero, suc, _+_, _^_, _/_, _%_, _<_, _≤_, max}
 use native.Mathlib.Nat.{zero-add, add-assoc}
 use native.Mathlib.Numerals.{one-add}
 use native.Mathlib.Omega.{arith}
-use lib.ListN.{length, getD, take, drop}
-use lib.Bits.{bitOr, or-step, or-zero-l, or-zero-r}
-use Rattle.engine.specs.Engine.{Effect, Converter, Room, limit, endless, fits, less, Fed, halt, after, stopAt, takeWhen, takeCode, feedFrom, feed}
+use lib.ListN.{length, getD, drop}
+use lib.Bits.{bitOr, or-step, or-zero-l}
+use Rattle.codepage.specs.Reading.{alone, together, callCodes, waitingUnit, completed, waitsThen, codesAtEnd}
+use Rattle.codepage.proofs.ReadingLaws.{waitingUnits, by-units}
+use Rattle.engine.specs.Engine.{Effect, Converter, Room, endless, fits, less, Fed, halt, after, stopAt, takeWhen, takeCode, takeCodes, feedFrom, feed}
 
--- a waiting unit or none, as a list
-abbrev pub waitingUnits : Option ℕ → List ℕ
-waitingUnits none = []
-waitingUnits (some c) = c ∷ []
+-- what a unit alone does, and a waiting unit with the one after it
+abbrev pub doesAlone : Converter → ℕ → Effect
+doesAlone v a = v .does (alone (v .reader) a)
+
+abbrev pub doesTogether : Converter → ℕ → ℕ → Effect
+doesTogether v a b = v .does (together (v .reader) a b)
 
 -- what a call marked last gives with room for all
 unfoldable pub uncut : Converter → List ℕ → Fed
@@ -48,15 +52,35 @@ or-assoc a b c = or-assoc-below (a + b + c) a b c (below a (omega arith)) (below
     below : (n : ℕ) → n ≤ a + b + c → n < 2 ^ (a + b + c)
     below n h = omega (arith, lt-pow (a + b + c))
 
--- ---- steps
-pub feed-wait : (r : Converter) (last : Bool) (room : Room) (a : ℕ) (l : List ℕ) → r .waits a ≡ true → feedFrom r last room none (a ∷ l) ≡ feedFrom r last room (some a) l
-unfolding feedFrom
-feed-wait r last room a l e = rw (e, feedFrom)
+-- ---- one unit more, in any room
+module _ (v : Converter) (last : Bool) (room : Room) where
+  pub feed-wait : (a : ℕ) (l : List ℕ) → v .reader .waits a ≡ true → feedFrom v last room none (a ∷ l) ≡ feedFrom v last room (some a) l
+  unfolding feedFrom callCodes waitingUnit completed waitsThen
+  feed-wait a l e = rw e
 
-pub feed-one : (r : Converter) (last : Bool) (room : Room) (a : ℕ) (l : List ℕ) → r .waits a ≡ false
-    → feedFrom r last room none (a ∷ l) ≡ takeCode room 1 (r .one a) (feedFrom r last (less room (length (r .one a .writes))) none l)
-unfolding feedFrom
-feed-one r last room a l e = rw (e, feedFrom)
+  pub feed-one : (a : ℕ) (l : List ℕ) → v .reader .waits a ≡ false
+      → feedFrom v last room none (a ∷ l) ≡ takeCode room 1 (doesAlone v a) (feedFrom v last (less room (length (doesAlone v a .writes))) none l)
+  unfolding feedFrom takeCodes callCodes waitingUnit completed waitsThen
+  feed-one a l e = rw e
+
+  pub feed-two : (c b : ℕ) (l : List ℕ)
+      → feedFrom v last room (some c) (b ∷ l) ≡ takeCode room 2 (doesTogether v c b) (feedFrom v last (less room (length (doesTogether v c b .writes))) none l)
+  unfolding feedFrom takeCodes callCodes waitingUnit completed waitsThen
+  feed-two c b l = refl
+
+-- and none more
+pub feed-end : (v : Converter) (last : Bool) (room : Room) → feedFrom v last room none [] ≡ halt 0
+unfolding feedFrom takeCodes callCodes waitingUnit codesAtEnd
+feed-end v true room = refl
+feed-end v false room = refl
+
+pub feed-last : (v : Converter) (room : Room) (c : ℕ) → feedFrom v true room (some c) [] ≡ takeCode room 1 (doesAlone v c) (halt 0)
+unfolding feedFrom takeCodes callCodes waitingUnit codesAtEnd
+feed-last v room c = refl
+
+pub feed-stays : (v : Converter) (room : Room) (c : ℕ) → feedFrom v false room (some c) [] ≡ halt 1
+unfolding feedFrom takeCodes callCodes waitingUnit codesAtEnd
+feed-stays v room c = refl
 
 -- ---- laws of `after`
 pub after-none : (g : Fed) → after 0 [] 0 g ≡ g
@@ -82,8 +106,8 @@ pub record Cut (r : Converter) (w rest : List ℕ) (f u : Fed) : Type 0 where
   pub goes-on : (f .answer ≡ 3 → ⊥) → u ≡ after (f .used) (f .output) (f .flags) (uncut r (drop (f .used) w ++ rest))
 
 abbrev pub Waits : Converter → Option ℕ → Type 0
-Waits r none = Unit {0}
-Waits r (some c) = r .waits c ≡ true
+Waits v none = Unit {0}
+Waits v (some c) = v .reader .waits c ≡ true
 
 cut-take : (r : Converter) (s t : Bool) (n : ℕ) (k : Effect) (w l rest : List ℕ) (f u : Fed)
     → ((m : ℕ) → drop (n + m) w ≡ drop m l) → uncut r (w ++ rest) ≡ takeWhen s true n k u
@@ -111,37 +135,41 @@ cut-halt : (r : Converter) (n : ℕ) (w rest : List ℕ) (u : Fed) → (n ≡ 3 
 unfolding halt
 cut-halt r n w rest u hn hu = record { stopped = λ e. absurd (hn e); goes-on = λ ne. hu ∙ sym (after-none _) }
 
-cut-one : (r : Converter) (last : Bool) (room : Room) (a : ℕ) (l rest : List ℕ) (b : Bool) → r .waits a ≡ b
-    → Cut r l rest (feedFrom r last (less room (length (r .one a .writes))) none l) (feedFrom r true endless none (l ++ rest))
-    → (r .waits a ≡ true → Cut r (a ∷ l) rest (feedFrom r last room (some a) l) (feedFrom r true endless (some a) (l ++ rest)))
-    → Cut r (a ∷ l) rest (feedFrom r last room none (a ∷ l)) (feedFrom r true endless none (a ∷ (l ++ rest)))
-unfolding takeCode fits less uncut feed
-cut-one r last room a l rest true e h₁ h₂ = rw (feed-wait r last room a l e, feed-wait r true endless a (l ++ rest) e) (h₂ e)
-cut-one r last room a l rest false e h₁ h₂ = rw (feed-one r last room a l e, feed-one r true endless a (l ++ rest) e)
-    (cut-take r (r .one a .stops) (fits room (length (r .one a .writes))) 1 (r .one a) (a ∷ l) l rest _ _ (drop-one a l) (feed-one r true endless a (l ++ rest) e) h₁)
+module _ (v : Converter) (last : Bool) (rest : List ℕ) (to-end : last ≡ true → rest ≡ []) where
+  cut-end : (last : Bool) → (last ≡ true → rest ≡ []) → (room : Room) (c : ℕ) → v .reader .waits c ≡ true
+      → Cut v (c ∷ []) rest (feedFrom v last room (some c) []) (feedFrom v true endless (some c) rest)
+  unfolding takeCode fits uncut feed
+  cut-end true h room c w =
+      rw (h refl, feed-last v room c, feed-last v endless c)
+      (cut-take v (doesAlone v c .stops) (fits room (length (doesAlone v c .writes))) 1 (doesAlone v c) (c ∷ []) [] [] (halt 0) (halt 0) (drop-one c [])
+      (feed-wait v true endless c [] w ∙ feed-last v endless c) (cut-halt v 0 [] [] (halt 0) (λ e. omega (arith, e)) (sym (feed-end v true endless))))
+  cut-end false h room c w = rw (feed-stays v room c) (cut-halt v 1 (c ∷ []) rest _ (λ e. omega (arith, e)) (sym (feed-wait v true endless c rest w)))
 
-cut-from : (r : Converter) (last : Bool) (room : Room) (p : Option ℕ) (l rest : List ℕ) → Waits r p → (last ≡ true → rest ≡ [])
-    → Cut r (waitingUnits p ++ l) rest (feedFrom r last room p l) (feedFrom r true endless p (l ++ rest))
-unfolding feedFrom takeCode fits less uncut feed
-cut-from r last room none [] rest hw hl = cut-halt r 0 [] rest _ (λ e. omega (arith, e)) refl
-cut-from r true room (some c) [] rest hw hl =
-    rw (hl refl)
-    (cut-take r (r .one c .stops) (fits room (length (r .one c .writes))) 1 (r .one c) (c ∷ []) [] [] (halt 0) (halt 0) (drop-one c [])
-    (feed-wait r true endless c [] hw) (cut-halt r 0 [] [] (halt 0) (λ e. omega (arith, e)) refl))
-cut-from r false room (some c) [] rest hw hl = cut-halt r 1 (c ∷ []) rest _ (λ e. omega (arith, e)) (sym (feed-wait r true endless c rest hw))
-cut-from r last room none (a ∷ l) rest hw hl =
-    cut-one r last room a l rest (r .waits a) refl (cut-from r last (less room (length (r .one a .writes))) none l rest tt hl)
-    (λ e. cut-from r last room (some a) l rest e hl)
-cut-from r last room (some c) (b ∷ l) rest hw hl =
-    cut-take r (r .two c b .stops) (fits room (length (r .two c b .writes))) 2 (r .two c b) (c ∷ b ∷ l) l rest _ _ (drop-two c b l)
-    (feed-wait r true endless c (b ∷ (l ++ rest)) hw)
-    (cut-from r last (less room (length (r .two c b .writes))) none l rest tt hl)
+  cut-code : (room : Room) (n : ℕ) (k : Effect) (w l : List ℕ) (u : Fed) → ((m : ℕ) → drop (n + m) w ≡ drop m l) → u ≡ takeCode endless n k (feedFrom v true endless none (l ++ rest))
+      → uncut v (w ++ rest) ≡ u → ((room : Room) → Cut v l rest (feedFrom v last room none l) (feedFrom v true endless none (l ++ rest)))
+      → Cut v w rest (takeCode room n k (feedFrom v last (less room (length (k .writes))) none l)) u
+  unfolding takeCode fits
+  cut-code room n k w l u hd e hu h =
+      rw e (cut-take v (k .stops) (fits room (length (k .writes))) n k w l rest _ _ hd (hu ∙ e) (h (less room (length (k .writes)))))
+
+  cut-from : (p : Option ℕ) (l : List ℕ) → Waits v p → (room : Room) → Cut v (waitingUnits p ++ l) rest (feedFrom v last room p l) (feedFrom v true endless p (l ++ rest))
+  unfolding uncut feed less
+  cut-from =
+      by-units (v .reader) (λ (p : Option ℕ) (l : List ℕ). Waits v p → (room : Room) → Cut v (waitingUnits p ++ l) rest (feedFrom v last room p l) (feedFrom v true endless p (l ++ rest)))
+      (record {
+        end-none = λ w room. rw (feed-end v last room) (cut-halt v 0 [] rest _ (λ e. omega (arith, e)) refl);
+        end-some = λ c w room. cut-end last to-end room c w;
+        wait = λ a l e h w room. rw (feed-wait v last room a l e, feed-wait v true endless a (l ++ rest) e) (h e room);
+        one = λ a l e h w room. rw (feed-one v last room a l e) (cut-code room 1 (doesAlone v a) (a ∷ l) l _ (drop-one a l) (feed-one v true endless a (l ++ rest) e) refl (h tt));
+        two = λ c b l h w room. rw (feed-two v last room c b l)
+            (cut-code room 2 (doesTogether v c b) (c ∷ b ∷ l) l _ (drop-two c b l) (feed-two v true endless c b (l ++ rest)) (feed-wait v true endless c (b ∷ (l ++ rest)) w) (h tt));
+      })
 
 -- THE CUT LAW. One call, of any room, marked last or not, on the units l (what was carried, and then the piece), where `rest` is the
 -- text after the piece.
 pub cut : (r : Converter) (last : Bool) (room : Room) (l rest : List ℕ) → (last ≡ true → rest ≡ []) → Cut r l rest (feed r last room l) (uncut r (l ++ rest))
 unfolding uncut feed
-cut r last room l rest hl = cut-from r last room none l rest tt hl
+cut r last room l rest hl = cut-from r last rest hl none l tt room
 
 -- ---- one code
 pub take-stop : (room : Room) (n : ℕ) (k : Effect) (g : Fed) → k .stops ≡ true → takeCode room n k g ≡ stopAt n k
@@ -162,7 +190,7 @@ pub record Shape (r : Converter) (last : Bool) (w : List ℕ) (f : Fed) : Type 0
   pub known : f .answer ≤ 3
   pub all : f .answer ≡ 0 → f .used ≡ length w
   pub reads : f .answer ≡ 3 → 1 ≤ f .used
-  pub holds : f .answer ≡ 1 → (f .used + 1 ≡ length w) × (r .waits (getD w (f .used) 0) ≡ true) × (last ≡ false)
+  pub holds : f .answer ≡ 1 → (f .used + 1 ≡ length w) × (r .reader .waits (getD w (f .used) 0) ≡ true) × (last ≡ false)
 
 shape-take : (r : Converter) (last s t : Bool) (n : ℕ) (k : Effect) (w l : List ℕ) (f : Fed)
     → 1 ≤ n → length w ≡ n + length l → ((m : ℕ) → getD w (n + m) 0 ≡ getD l m 0) → Shape r last l f → Shape r last w (takeWhen s t n k f)
@@ -188,29 +216,31 @@ getD-two a b l m =
     let e : 2 + m ≡ suc (suc m) = omega arith in
     rw e
 
-shape-one : (r : Converter) (last : Bool) (room : Room) (a : ℕ) (l : List ℕ) (b : Bool) → r .waits a ≡ b
-    → Shape r last l (feedFrom r last (less room (length (r .one a .writes))) none l)
-    → (r .waits a ≡ true → Shape r last (a ∷ l) (feedFrom r last room (some a) l)) → Shape r last (a ∷ l) (feedFrom r last room none (a ∷ l))
-unfolding takeCode
-shape-one r last room a l true e h₁ h₂ = rw (feed-wait r last room a l e) (h₂ e)
-shape-one r last room a l false e h₁ h₂ =
-    rw (feed-one r last room a l e)
-    (shape-take r last (r .one a .stops) (fits room (length (r .one a .writes))) 1 (r .one a) (a ∷ l) l _ (omega arith) (omega arith) (getD-one a l) h₁)
+shape-none : (v : Converter) (last : Bool) → Shape v last [] (halt 0)
+unfolding halt
+shape-none v last = record { within = omega arith; known = omega arith; reads = λ e. absurd (omega arith); all = λ e. refl; holds = λ e. absurd (omega arith) }
 
-pub shape-from : (r : Converter) (last : Bool) (room : Room) (p : Option ℕ) (l : List ℕ) → Waits r p → Shape r last (waitingUnits p ++ l) (feedFrom r last room p l)
-unfolding feedFrom takeCode halt
-shape-from r last room none [] hw = record { within = omega arith; known = omega arith; reads = λ e. absurd (omega arith); all = λ e. refl; holds = λ e. absurd (omega arith) }
-shape-from r true room (some c) [] hw =
-    shape-take r true (r .one c .stops) (fits room (length (r .one c .writes))) 1 (r .one c) (c ∷ []) [] (halt 0) (omega arith) (omega arith) (getD-one c [])
-    (record { within = omega arith; known = omega arith; reads = λ e. absurd (omega arith); all = λ e. refl; holds = λ e. absurd (omega arith) })
-shape-from r false room (some c) [] hw =
-    record { within = omega arith; known = omega arith; reads = λ e. absurd (omega arith); all = λ e. absurd (omega arith); holds = λ e. (refl, hw, refl) }
-shape-from r last room none (a ∷ l) hw =
-    shape-one r last room a l (r .waits a) refl (shape-from r last (less room (length (r .one a .writes))) none l tt)
-    (λ e. shape-from r last room (some a) l e)
-shape-from r last room (some c) (b ∷ l) hw =
-    shape-take r last (r .two c b .stops) (fits room (length (r .two c b .writes))) 2 (r .two c b) (c ∷ b ∷ l) l _ (omega arith) (omega arith) (getD-two c b l)
-    (shape-from r last (less room (length (r .two c b .writes))) none l tt)
+shape-end : (v : Converter) (last : Bool) (room : Room) (c : ℕ) → v .reader .waits c ≡ true → Shape v last (c ∷ []) (feedFrom v last room (some c) [])
+unfolding takeCode halt
+shape-end v true room c w =
+    rw (feed-last v room c)
+    (shape-take v true (doesAlone v c .stops) (fits room (length (doesAlone v c .writes))) 1 (doesAlone v c) (c ∷ []) [] (halt 0) (omega arith) (omega arith) (getD-one c []) (shape-none v true))
+shape-end v false room c w =
+    rw (feed-stays v room c)
+    (record { within = omega arith; known = omega arith; reads = λ e. absurd (omega arith); all = λ e. absurd (omega arith); holds = λ e. (refl, w, refl) })
+
+pub shape-from : (v : Converter) (last : Bool) (room : Room) (p : Option ℕ) (l : List ℕ) → Waits v p → Shape v last (waitingUnits p ++ l) (feedFrom v last room p l)
+unfolding takeCode
+shape-from v last room p l w =
+    by-units (v .reader) (λ (p : Option ℕ) (l : List ℕ). Waits v p → (room : Room) → Shape v last (waitingUnits p ++ l) (feedFrom v last room p l))
+    (record {
+      end-none = λ w room. rw (feed-end v last room) (shape-none v last);
+      end-some = λ c w room. shape-end v last room c w;
+      wait = λ a l e h w room. rw (feed-wait v last room a l e) (h e room);
+      one = λ a l e h w room. rw (feed-one v last room a l e) (shape-take v last _ _ 1 (doesAlone v a) (a ∷ l) l _ (omega arith) (omega arith) (getD-one a l) (h tt _));
+      two = λ c b l h w room. rw (feed-two v last room c b l) (shape-take v last _ _ 2 (doesTogether v c b) (c ∷ b ∷ l) l _ (omega arith) (omega arith) (getD-two c b l) (h tt _));
+    })
+    p l w room
 
 pub shape : (r : Converter) (last : Bool) (room : Room) (l : List ℕ) → Shape r last l (feed r last room l)
 unfolding feed

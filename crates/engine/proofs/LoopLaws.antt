@@ -1,22 +1,20 @@
 -- What a loop that feeds units keeps, and the laws of its turns and of its ends.
 use mathlib.Core.Bool.{Bool, true, false}
 use mathlib.Core.Path.{_≡_, refl, sym, ap, _∙_, subst}
-use mathlib.Core.List.{List, [], _∷_, _++_, append-assoc, append-nil}
+use mathlib.Core.List.{List, [], _++_, append-nil}
 use mathlib.Core.Option.{Option, none, some}
-use Prim.Native.Nat.{ℕ, zero, suc, _+_, _-_, _*_, _^_, _<_, _≤_}
-use native.Mathlib.Nat.{zero-add, add-assoc, add-zero}
-use native.Mathlib.Numerals.{add-one}
+use Prim.Native.Nat.{ℕ, _+_, _-_, _<_, _≤_}
+use native.Mathlib.Nat.{add-zero}
 use native.Mathlib.Omega.{arith}
-use lib.ListN.{length, getD, take, drop, set, length-set, length-append, take-append-drop}
-use lib.Seq.{drop-set-lt, take-suc-set, length-take-le, drop-drop, drop-cons, sets, sets-eq, length-sets, take-at, drop-at}
-use lib.ListN.{drop-of-length-le}
-use lib.Bits.{bitOr, or-zero-l, or-zero-r}
+use lib.ListN.{length, take, drop, length-append, take-append-drop}
+use lib.Seq.{length-take-le, drop-drop, sets, sets-eq, length-sets, take-at, drop-at}
+use lib.Bits.{bitOr, or-zero-r}
 use borrow.Author.Tests.{le-leb, lt-leb}
-use Rattle.engine.specs.Engine.{Effect, Converter, Room, limit, endless, fits, less, Fed, halt, after, stopAt, takeWhen, takeCode, feedFrom}
+use Rattle.engine.specs.Engine.{Effect, Converter, Room, limit, fits, less, Fed, halt, after, stopAt, takeCode, feedFrom}
 use Rattle.codepage.specs.Lent.{over}
 use Rattle.engine.specs.Steps.{sofar, ended, stoppedBy, fullAt, takenBy, Took, summary, Ends}
 use Rattle.engine.specs.declared.progress.Progress.{Progress}
-use Rattle.engine.proofs.EngineLaws.{after-none, after-after, take-stop, take-fits, take-full, feed-wait, feed-one}
+use Rattle.engine.proofs.EngineLaws.{after-none, after-after, take-stop, take-fits, take-full, feed-end, feed-stays}
 
 -- ---- the three ways of a code
 module _ (k : Effect) (n : ℕ) (s : Progress) (out : List ℕ) (h : s .written ≤ length out) where
@@ -149,10 +147,10 @@ module _ (R : Converter) (last : Bool) (F : Fed) (out₀ out : List ℕ) (s : Pr
       (t .same ∙ g .same)
 
   pub ended-all : Going R last F out₀ out s none [] → Ends F out₀ out s
-  unfolding feedFrom halt sofar after ended
-  ended-all g = ends-of F out₀ out s (g .sum ∙ rw (g .zero-so-far, append-nil, add-zero, or-zero-r)) (g .within) (g .kept) (g .same)
+  unfolding halt sofar after ended
+  ended-all g = ends-of F out₀ out s (g .sum ∙ rw (feed-end R last (limit (length out - s .written)), g .zero-so-far, append-nil, add-zero, or-zero-r)) (g .within) (g .kept) (g .same)
 
 pub ended-wait : (R : Converter) (F : Fed) (out₀ out : List ℕ) (s : Progress) (c : ℕ) → Going R false F out₀ out s (some c) []
     → Ends F out₀ out (record { answer = 1; used = s .used; written = s .written; flags = s .flags })
-unfolding feedFrom halt sofar after ended
-ended-wait R F out₀ out s c g = ends-of F out₀ out _ (g .sum ∙ rw (append-nil, add-zero, or-zero-r)) (g .within) (g .kept) (g .same)
+unfolding halt sofar after ended
+ended-wait R F out₀ out s c g = ends-of F out₀ out _ (g .sum ∙ rw (feed-stays R (limit (length out - s .written)) c, append-nil, add-zero, or-zero-r)) (g .within) (g .kept) (g .same)

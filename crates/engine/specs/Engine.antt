@@ -8,7 +8,7 @@ use lib.Dec.{leb}
 use lib.ListN.{length}
 use lib.Bits.{bitOr}
 use Rattle.codepage.specs.CodePage.{CodePage}
-use Rattle.codepage.specs.Reading.{Reader, decoder, encoder, Code, sizeOf, codes}
+use Rattle.codepage.specs.Reading.{Reader, decoder, encoder, Code, sizeOf, callCodes, waitingUnit, codes}
 use Rattle.codepage.specs.declared.Lookup.{Lookup}
 use Rattle.codepage.specs.declared.Lookup.the-variants.{Found, Lacking}
 use Rattle.engine.specs.declared.Direction.{Direction}
@@ -34,19 +34,13 @@ unfoldable pub effectOf : (writes : ℕ → List ℕ) → Policy → (default fi
 effectOf writes policy default first (Found value) = record { flag = 0; writes = writes value; stops = false }
 effectOf writes policy default first (Lacking kind) = acted (flagOf kind) (actionOf (digitOf policy kind) default first)
 
--- A reader under a policy.
+-- A reader under a policy: what each code does.
 pub record Converter : Type 0 where
-  pub waits : ℕ → Bool
-  pub one : ℕ → Effect
-  pub two : ℕ → ℕ → Effect
+  pub reader : Reader
+  pub does : Code → Effect
 
 unfoldable pub converter : Reader → Policy → ℕ → Converter
-converter r policy default =
-    record {
-      waits = r .waits;
-      one = λ a. effectOf (r .writes) policy default a (r .one a);
-      two = λ a b. effectOf (r .writes) policy default a (r .two a b);
-    }
+converter r policy default = record { reader = r; does = λ k. effectOf (r .writes) policy default (k .first) (k .means) }
 
 -- The room for output: a number of units, or no limit.
 pub data Room : Type 0 where
@@ -90,28 +84,26 @@ takeWhen false false n k rest = halt 2
 unfoldable pub takeCode : Room → ℕ → Effect → Fed → Fed
 takeCode room n k rest = takeWhen (k .stops) (fits room (length (k .writes))) n k rest
 
+-- The codes are taken one after the other while they fit. Behind them a unit waits, or none.
+abbrev pub atEnd : Option ℕ → ℕ
+atEnd none = 0
+atEnd (some c) = 1
+
+unfoldable pub takeCodes : Converter → Room → List Code → (waiting : Option ℕ) → Fed
+takeCodes v room [] waiting = halt (atEnd waiting)
+takeCodes v room (k ∷ ks) waiting = takeCode room (sizeOf k) (v .does k) (takeCodes v (less room (length (v .does k .writes))) ks waiting)
+
 -- One call: a waiting unit or none, then units. A waiting unit that is the final one is left waiting in a call not marked
 -- last, even with no room; at the end of the whole text it is a code of its own.
 unfoldable pub feedFrom : Converter → (last : Bool) → Room → Option ℕ → List ℕ → Fed
-feedFrom v last room none [] = halt 0
-feedFrom v last room (some c) [] = elim last [ true ↦ takeCode room 1 (v .one c) (halt 0) | false ↦ halt 1 ]
-feedFrom v last room none (a ∷ units) =
-    elim (v .waits a) [
-      | true ↦ feedFrom v last room (some a) units
-      | false ↦ takeCode room 1 (v .one a) (feedFrom v last (less room (length (v .one a .writes))) none units)
-    ]
-feedFrom v last room (some c) (b ∷ units) = takeCode room 2 (v .two c b) (feedFrom v last (less room (length (v .two c b .writes))) none units)
+feedFrom v last room pending units = takeCodes v room (callCodes (v .reader) last pending units) (waitingUnit (v .reader) last pending units)
 
 unfoldable pub feed : Converter → (last : Bool) → Room → List ℕ → Fed
 feed v last room units = feedFrom v last room none units
 
 -- The whole reading: code after code of the text, with room for all, to the text's end or the first stop.
-unfoldable pub takeAll : Reader → Policy → ℕ → List Code → Fed
-takeAll r policy default [] = halt 0
-takeAll r policy default (k ∷ ks) = takeCode endless (sizeOf k) (effectOf (r .writes) policy default (k .first) (k .means)) (takeAll r policy default ks)
-
 unfoldable pub whole : Reader → Policy → ℕ → List ℕ → Fed
-whole r policy default text = takeAll r policy default (codes r text)
+whole r policy default text = takeCodes (converter r policy default) endless (codes r text) none
 
 -- ---- The two directions
 

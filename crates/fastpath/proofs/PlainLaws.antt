@@ -20,7 +20,7 @@ use Rattle.engine.specs.Engine.{Effect, effectOf, Converter, converter, Room, l
 use Rattle.engine.specs.declared.progress.Progress.{Progress}
 use Rattle.engine.specs.Steps.{summary, Ends}
 use Rattle.fastpath.specs.Runs.{AllBelow, Copied, allTaken, Plain}
-use Rattle.engine.proofs.EngineLaws.{take-fits, feed-one}
+use Rattle.engine.proofs.EngineLaws.{take-fits, feed-one, feed-end}
 use Rattle.engine.proofs.LoopLaws.{later}
 
 -- ---- the largest
@@ -84,8 +84,8 @@ plain-step R policy default last room a piece h s e =
 
 pub plain-fed : (R : Reader) (policy : Policy) (default : ℕ) (last : Bool) (room : ℕ) (piece : List ℕ) → length piece ≤ room → ((k : ℕ) → k < length piece → Same R (entry piece k))
     → feedFrom (converter R policy default) last (limit room) none piece ≡ allTaken piece
-unfolding feedFrom halt
-plain-fed R policy default last room [] h all = refl
+unfolding halt
+plain-fed R policy default last room [] h all = feed-end (converter R policy default) last (limit room)
 plain-fed R policy default last room (a ∷ piece) h all =
     plain-step R policy default last room a piece (omega arith) (all 0 (omega arith))
     (plain-fed R policy default last (room - 1) piece (omega arith) (λ k b. all (suc k) (omega arith)))

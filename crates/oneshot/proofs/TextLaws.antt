@@ -1,17 +1,17 @@
 -- Laws of counting and of the one-go call.
 use mathlib.Core.Bool.{Bool, true, false, true≢false}
-use mathlib.Core.List.{List, [], _∷_, _++_}
+use mathlib.Core.List.{List, [], _∷_}
 use mathlib.Core.Logic.{_⊎_, inl, inr}
 use mathlib.Core.Option.{Option, none, some}
 use mathlib.Core.Path.{_≡_, refl, sym, ap, _∙_, subst}
-use Prim.Native.Nat.{ℕ, zero, suc, _+_, _*_, _<_, _≤_}
+use Prim.Native.Nat.{ℕ, zero, suc, _+_, _*_, _≤_}
 use native.Mathlib.Omega.{arith}
 use lib.Dec.{leb, eqb}
 use lib.ListN.{length, take, drop}
 use lib.Seq.{take-at}
-use borrow.Author.Tests.{leb-true, eqb-true, eqb-false, eq-eqb, ne-eqb}
+use borrow.Author.Tests.{leb-true, eq-eqb, ne-eqb}
 use Rattle.codepage.specs.CodePage.{CodePage, pick, entry, GoodShape, firstFault, isGood}
-use Rattle.codepage.specs.Reading.{decoder, encoder}
+use Rattle.codepage.specs.Reading.{Code, sizeOf, callCodes, waitingUnit}
 use Rattle.codepage.proofs.ShapeLaws.{shape-exact}
 use Rattle.engine.specs.declared.Direction.{Direction}
 use Rattle.engine.specs.declared.Direction.the-variants.{Decoding, Encoding}
@@ -21,7 +21,7 @@ use Rattle.oneshot.specs.declared.Counted.{Counted}
 use Rattle.oneshot.specs.declared.Converted.{Converted}
 use Rattle.engine.specs.declared.progress.Progress.{Progress}
 use Rattle.engine.specs.Policies.{policyAllowed}
-use Rattle.engine.specs.Engine.{Effect, Converter, Room, limit, endless, fits, less, Fed, halt, after, stopAt, takeWhen, takeCode, feedFrom}
+use Rattle.engine.specs.Engine.{Effect, Converter, Room, limit, endless, fits, less, Fed, halt, after, stopAt, takeWhen, takeCode, takeCodes, feedFrom}
 use Rattle.convert.specs.Runs.{pieceLimit}
 use Rattle.convert.specs.Calls.{check}
 use Rattle.codepage.specs.Lent.{over}
@@ -29,7 +29,7 @@ use Rattle.engine.specs.Engine.{converterOf}
 use Rattle.oneshot.specs.Texts.{textRefusal, Text, acceptedText, refusedText, textFed, textOf, countedNumber, countedTotals, convertedNumber, convertedTotals, totalsOrNone, CountedAs, ConvertedAs}
 use Rattle.oneshot.specs.Steps.{totalsBy}
 use Rattle.engine.specs.Steps.{summary, DecodeSizes}
-use Rattle.engine.proofs.EngineLaws.{Shape, shape-from, feed-wait, feed-one}
+use Rattle.engine.proofs.EngineLaws.{shape-from}
 use Rattle.convert.proofs.CallLaws.{index-high}
 
 -- ---- one of a few numbers
@@ -105,19 +105,15 @@ unfolding takeWhen stopAt after
 never-code n k f true h e = omega arith
 never-code n k f false h e = h e
 
-never-one : (v : Converter) (last : Bool) (a : ℕ) (l : List ℕ) (t : Bool) → v .waits a ≡ t → (feedFrom v last endless none l .answer ≡ 2 → ⊥) → (feedFrom v last endless (some a) l .answer ≡ 2 → ⊥)
-    → feedFrom v last endless none (a ∷ l) .answer ≡ 2 → ⊥
-unfolding takeCode fits less
-never-one v last a l true e h₁ h₂ q = h₂ (sym (ap (λ (f : Fed). f .answer) (feed-wait v last endless a l e)) ∙ q)
-never-one v last a l false e h₁ h₂ q = never-code 1 (v .one a) _ (v .one a .stops) h₁ (sym (ap (λ (f : Fed). f .answer) (feed-one v last endless a l e)) ∙ q)
+never-codes : (v : Converter) (ks : List Code) (waiting : Option ℕ) → takeCodes v endless ks waiting .answer ≡ 2 → ⊥
+unfolding takeCodes takeCode fits less halt
+never-codes v [] none e = omega arith
+never-codes v [] (some c) e = omega arith
+never-codes v (k ∷ ks) waiting e = never-code (sizeOf k) (v .does k) _ (v .does k .stops) (never-codes v ks waiting) e
 
 pub never-full : (v : Converter) (last : Bool) (p : Option ℕ) (l : List ℕ) → feedFrom v last endless p l .answer ≡ 2 → ⊥
-unfolding feedFrom takeCode fits less halt
-never-full v last none [] e = omega arith
-never-full v true (some c) [] e = never-code 1 (v .one c) (halt 0) (v .one c .stops) (λ z. omega arith) e
-never-full v false (some c) [] e = omega arith
-never-full v last none (a ∷ l) e = never-one v last a l (v .waits a) refl (never-full v last none l) (never-full v last (some a) l) e
-never-full v last (some c) (b ∷ l) e = never-code 2 (v .two c b) _ (v .two c b .stops) (never-full v last none l) e
+unfolding feedFrom
+never-full v last p l e = never-codes v (callCodes (v .reader) last p l) (waitingUnit (v .reader) last p l) e
 
 pub count-answer : (direction : Direction) (policy : Policy) (p : CodePage) (text : List ℕ) (s : Progress) → s ≡ summary (textFed direction policy p endless text) → (s .answer ≡ 0) ⊎ (s .answer ≡ 3)
 unfolding textFed summary

@@ -1,24 +1,24 @@
 -- The one-go call is one call marked last on a fresh run; counting is the whole reading; with room for all they are one.
 use mathlib.Core.Bool.{Bool, true, false, true≢false}
-use mathlib.Core.List.{List, [], _∷_, _++_}
+use mathlib.Core.List.{List, [], _∷_}
 use mathlib.Core.Option.{Option, none, some}
-use mathlib.Core.Path.{_≡_, refl, sym, ap, _∙_}
-use Prim.Native.Nat.{ℕ, zero, suc, _+_, _-_, _<_, _≤_}
+use mathlib.Core.Path.{_≡_, refl, sym, ap}
+use Prim.Native.Nat.{ℕ, _-_, _≤_}
 use native.Mathlib.Omega.{arith}
 use lib.Dec.{leb, eqb}
 use lib.ListN.{length, length-append}
-use lib.Bits.{bitOr, or-zero-l}
+use lib.Bits.{or-zero-l}
 use borrow.Author.Tests.{eq-eqb, ne-eqb, le-leb}
-use Rattle.codepage.specs.CodePage.{CodePage, pick}
+use Rattle.codepage.specs.CodePage.{CodePage}
 use Rattle.engine.specs.declared.Direction.{Direction}
 use Rattle.engine.specs.declared.Policy.{Policy}
-use Rattle.engine.specs.Policies.{policyAllowed}
-use Rattle.engine.specs.Engine.{Effect, Converter, converter, Room, limit, endless, fits, less, Fed, halt, after, stopAt, takeWhen, takeCode, feedFrom, feed, whole}
-use Rattle.convert.specs.Runs.{readLimit, fresh, startOf, validRun}
-use Rattle.convert.specs.Calls.{refusal, Called, readOf, pendingAfter, endedAfter, runAfter, fedBy, acceptedCall, runCall}
+use Rattle.engine.specs.Engine.{Effect, Converter, limit, endless, fits, less, Fed, after, takeWhen, takeCode, takeCodes, feedFrom, feed, whole}
+use Rattle.codepage.specs.Reading.{Code, sizeOf, callCodes, waitingUnit}
+use Rattle.convert.specs.Runs.{fresh, startOf}
+use Rattle.convert.specs.Calls.{refusal, Called, readOf, runAfter, fedBy, acceptedCall, runCall}
 use Rattle.engine.specs.Engine.{converterOf, readerOf, defaultOf}
 use Rattle.oneshot.specs.Texts.{textRefusal, Text, acceptedText, textFed, textOf, convertOf, countOf}
-use Rattle.engine.proofs.EngineLaws.{uncut, Shape, shape-from, feed-wait, feed-one}
+use Rattle.engine.proofs.EngineLaws.{uncut, shape-from}
 use Rattle.engine.proofs.CodeLaws.{whole-is-feed}
 use Rattle.convert.proofs.RefusalLaws.{refusals-exact}
 use Rattle.convert.proofs.RunLaws.{start-kept}
@@ -73,26 +73,14 @@ ample-take false n room k f g h e =
     let whole = length-append (k .writes) (g .output) in
     rw (le-leb (length (k .writes)) room (omega arith)) (ap (after n (k .writes) (k .flag)) (e (omega arith)))
 
-ample-one : (v : Converter) (last : Bool) (room a : ℕ) (l : List ℕ) (t : Bool) → v .waits a ≡ t → length (feedFrom v last endless none (a ∷ l) .output) ≤ room
-    → (length (feedFrom v last endless none l .output) ≤ room - length (v .one a .writes) → feedFrom v last (limit (room - length (v .one a .writes))) none l ≡ feedFrom v last endless none l)
-    → (length (feedFrom v last endless (some a) l .output) ≤ room → feedFrom v last (limit room) (some a) l ≡ feedFrom v last endless (some a) l)
-    → feedFrom v last (limit room) none (a ∷ l) ≡ feedFrom v last endless none (a ∷ l)
-unfolding takeCode fits less
-ample-one v last room a l true e h h₁ h₂ =
-    feed-wait v last (limit room) a l e ∙ h₂ (omega (arith, ap (λ (f : Fed). length (f .output)) (feed-wait v last endless a l e))) ∙ sym (feed-wait v last endless a l e)
-ample-one v last room a l false e h h₁ h₂ =
-    feed-one v last (limit room) a l e
-    ∙ ample-take (v .one a .stops) 1 room (v .one a) _ _ (omega (arith, ap (λ (f : Fed). length (f .output)) (feed-one v last endless a l e))) h₁
-    ∙ sym (feed-one v last endless a l e)
+ample-codes : (v : Converter) (room : ℕ) (ks : List Code) (waiting : Option ℕ) → length (takeCodes v endless ks waiting .output) ≤ room → takeCodes v (limit room) ks waiting ≡ takeCodes v endless ks waiting
+unfolding takeCodes takeCode fits less
+ample-codes v room [] waiting h = refl
+ample-codes v room (k ∷ ks) waiting h = ample-take (v .does k .stops) (sizeOf k) room (v .does k) _ _ h (ample-codes v (room - length (v .does k .writes)) ks waiting)
 
 pub ample : (v : Converter) (last : Bool) (room : ℕ) (p : Option ℕ) (l : List ℕ) → length (feedFrom v last endless p l .output) ≤ room → feedFrom v last (limit room) p l ≡ feedFrom v last endless p l
-unfolding feedFrom takeCode fits less
-ample v last room none [] h = refl
-ample v true room (some c) [] h = ample-take (v .one c .stops) 1 room (v .one c) (halt 0) (halt 0) h (λ z. refl)
-ample v false room (some c) [] h = refl
-ample v last room none (a ∷ l) h =
-    ample-one v last room a l (v .waits a) refl h (ample v last (room - length (v .one a .writes)) none l) (ample v last room (some a) l)
-ample v last room (some c) (b ∷ l) h = ample-take (v .two c b .stops) 2 room (v .two c b) _ _ h (ample v last (room - length (v .two c b .writes)) none l)
+unfolding feedFrom
+ample v last room p l h = ample-codes v room (callCodes (v .reader) last p l) (waitingUnit (v .reader) last p l) h
 
 -- WITH ROOM FOR ALL the one-go call gives what counting gives, and writes it.
 pub one-go-is-count : (direction : Direction) (policy : Policy) (p : CodePage) (text : List ℕ) (room : ℕ) → length (countOf direction policy p text .output) ≤ room

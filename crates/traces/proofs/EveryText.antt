@@ -21,7 +21,8 @@ use Rattle.engine.specs.Engine.{Converter, converter, limit, Fed, feedFrom}
 use Rattle.convert.specs.Runs.{pieceLimit, readLimit, validRun, fresh}
 use Rattle.convert.specs.Calls.{leadIn, refusal, Called, pendingUnit, pendingCount, readOf, endedAfter, fedBy, acceptedCall, runCall}
 use Rattle.engine.specs.Engine.{converterOf}
-use Rattle.engine.proofs.EngineLaws.{waitingUnits, Waits, Shape}
+use Rattle.engine.proofs.EngineLaws.{Waits, Shape}
+use Rattle.codepage.proofs.ReadingLaws.{waitingUnits}
 use Rattle.engine.proofs.BoundLaws.{roomy, widest, bounded-of}
 use Rattle.engine.proofs.DecodeLaws.{decoder-lead}
 use Rattle.convert.proofs.CallLaws.{Accepted, accepted-facts, valid-facts, pending-units, encoding-pending, no-pending, feed-shape}

@@ -14,9 +14,10 @@ use Rattle.codepage.specs.CodePage.{pick}
 use Rattle.convert.specs.declared.Pending.{Pending}
 use Rattle.convert.specs.declared.Pending.the-variants.{Nothing, Byte}
 use Rattle.convert.specs.declared.Run.{Run}
-use Rattle.engine.specs.Engine.{Converter, limit, Fed, halt, after, feedFrom, feed}
+use Rattle.engine.specs.Engine.{Converter, limit, endless, Fed, halt, after, feedFrom, feed}
 use Rattle.convert.specs.Calls.{pendingUnit, pendingCount, finalUnit, readOf, pendingAfter, endedAfter, runAfter, acceptedCall}
-use Rattle.engine.proofs.EngineLaws.{waitingUnits, uncut, after-none, after-after, Cut, cut, Shape, shape-from, Waits, feed-wait}
+use Rattle.engine.proofs.EngineLaws.{uncut, after-none, after-after, Cut, cut, Shape, shape-from, Waits, feed-wait, feed-end}
+use Rattle.codepage.proofs.ReadingLaws.{waitingUnits}
 use Rattle.convert.proofs.CallLaws.{pending-units}
 
 -- a waiting unit or none, as a list
@@ -177,10 +178,10 @@ module _ (v : Converter) (text : List ℕ) (run : Run) (joined piece rest : List
       ∙ ap (λ (xs : List ℕ). drop (f .used) units ++ xs) (to-end l) ∙ append-nil (drop (f .used) units) ∙ drop-of-length-le units {i = f .used} (omega (arith, formed .all e))
 
   ended-all : f .answer ≡ 0 → last ≡ true → Ended
-  unfolding after uncut feed feedFrom halt
+  unfolding after uncut feed halt
   ended-all e l =
-      let u : uncut v text ≡ after (run .read + read′ - pendingCount pending′) (joined ++ f .output) (bitOr (run .flags) (f .flags)) (uncut v []) =
-      rw (nothing-left e l) at (goes-on (λ q. omega arith)) in
+      let u : uncut v text ≡ after (run .read + read′ - pendingCount pending′) (joined ++ f .output) (bitOr (run .flags) (f .flags)) (halt 0) =
+      rw (nothing-left e l, feed-end v true endless) at (goes-on (λ q. omega arith)) in
       let z : pendingCount pending′ ≡ 0 = omega (arith, simp length-append at (ap length (nothing-left e l)), pending-units pending′) in
       (rw (u, append-nil), rw (u, or-zero-r), ap (λ (x : Fed). x .used) u ∙ omega arith)
 

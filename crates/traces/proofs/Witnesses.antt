@@ -8,9 +8,9 @@ use Prim.Native.Nat.{ℕ}
 use native.Mathlib.Omega.{arith}
 use lib.ListN.{length, replicate, length-replicate}
 use Rattle.codepage.specs.CodePage.{CodePage, isKnown, isSingle, isLead, isTrail, leads, leadsBelow, firstBad, badClass, badNumber, classFault, sizesFault, entriesFault, firstFault, isGood}
-use Rattle.codepage.specs.Reading.{lookup, byteAlone, bytePair, unitCode, bytesOf, decoder, encoder}
+use Rattle.codepage.specs.Reading.{lookup, byteAlone, bytePair, unitCode, bytesOf, decoder, encoder, completed, waitsThen, codesAtEnd, callCodes, waitingUnit}
 use Rattle.engine.specs.Policies.{actionOf, policyAllowed}
-use Rattle.engine.specs.Engine.{effectOf, converter, fits, less, halt, after, stopAt, takeWhen, takeCode, feedFrom}
+use Rattle.engine.specs.Engine.{effectOf, converter, fits, less, halt, after, stopAt, takeWhen, takeCode, takeCodes, feedFrom}
 use Rattle.engine.specs.declared.Direction.the-variants.{Decoding}
 use Rattle.engine.specs.declared.Policy.{Policy}
 use Rattle.convert.specs.Runs.{validRun, fresh}
@@ -31,11 +31,11 @@ pub interrupted-kept : (play (onSample interruptedText) (opened (onSample interr
     × (play (onSample interruptedText) (opened (onSample interruptedText)) interrupted .ended ≡ true)
     × (play (onSample interruptedText) (opened (onSample interruptedText)) interrupted .position ≡ 4)
     × (play (onSample interruptedText) (opened (onSample interruptedText)) interrupted .run .flags ≡ 0)
-unfolding isKnown isSingle isLead isTrail leads leadsBelow firstBad badClass badNumber classFault sizesFault entriesFault firstFault lookup byteAlone bytePair decoder actionOf policyAllowed effectOf converter fits less halt after stopAt takeWhen takeCode feedFrom validRun refusal readOf pendingAfter endedAfter runAfter fedBy acceptedCall refusedCall runCall decimalFrom decimal fieldOf closingOf lineOf return _>>=_ orElse one moreDigits number letter threeDigits hexPair carried field closing fields kept runOf writeOf L.readOf loaded opened says joinedBy notedBy setBackTo acceptedBy next play
+unfolding isKnown isSingle isLead isTrail leads leadsBelow firstBad badClass badNumber classFault sizesFault entriesFault firstFault lookup byteAlone bytePair decoder actionOf policyAllowed effectOf converter fits less halt after stopAt takeWhen takeCode takeCodes completed waitsThen codesAtEnd callCodes waitingUnit feedFrom validRun refusal readOf pendingAfter endedAfter runAfter fedBy acceptedCall refusedCall runCall decimalFrom decimal fieldOf closingOf lineOf return _>>=_ orElse one moreDigits number letter threeDigits hexPair carried field closing fields kept runOf writeOf L.readOf loaded opened says joinedBy notedBy setBackTo acceptedBy next play
 interrupted-kept = (refl, refl, refl, refl)
 
 pub interrupted-allowed : AllAllowed (onSample interruptedText) (opened (onSample interruptedText)) interrupted
-unfolding isKnown isSingle isLead isTrail leads leadsBelow firstBad badClass badNumber classFault sizesFault entriesFault firstFault lookup byteAlone bytePair decoder actionOf policyAllowed effectOf converter fits less halt after stopAt takeWhen takeCode feedFrom validRun refusal readOf pendingAfter endedAfter runAfter fedBy acceptedCall refusedCall runCall decimalFrom decimal fieldOf closingOf lineOf return _>>=_ orElse one moreDigits number letter threeDigits hexPair carried field closing fields kept runOf writeOf L.readOf loaded opened says joinedBy notedBy setBackTo acceptedBy next play Allowed AllAllowed
+unfolding isKnown isSingle isLead isTrail leads leadsBelow firstBad badClass badNumber classFault sizesFault entriesFault firstFault lookup byteAlone bytePair decoder actionOf policyAllowed effectOf converter fits less halt after stopAt takeWhen takeCode takeCodes completed waitsThen codesAtEnd callCodes waitingUnit feedFrom validRun refusal readOf pendingAfter endedAfter runAfter fedBy acceptedCall refusedCall runCall decimalFrom decimal fieldOf closingOf lineOf return _>>=_ orElse one moreDigits number letter threeDigits hexPair carried field closing fields kept runOf writeOf L.readOf loaded opened says joinedBy notedBy setBackTo acceptedBy next play Allowed AllAllowed
 interrupted-allowed = ((0x7C ∷ 0x42 ∷ [], refl, λ e. absurd (false≢true e)), (tt, (inl (_, refl), (([], refl, λ e. refl), tt))))
 
 -- THE SIXTEEN ROWS: one list, one claim.
@@ -82,7 +82,7 @@ too-long =
 
 pub numbers-met : Meets (onSample (0x41 ∷ [])) 0 × Meets (onSample (0x82 ∷ [])) 1 × Meets (onSample (0x41 ∷ [])) 2 × Meets (under (onSample (0x80 ∷ [])) (digits 0 5 5)) 3
     × Meets (with (onSample []) noTables) 10 × Meets (onSample tooMany) 11 × Meets (ofPage (onSample []) 8) 13 × Meets (onSample []) 15 × Meets (onSample []) 18 × Meets (onSample []) 19
-unfolding isKnown isSingle isLead isTrail leads leadsBelow firstBad badClass badNumber classFault sizesFault entriesFault firstFault lookup byteAlone bytePair decoder actionOf policyAllowed effectOf converter fits less halt after stopAt takeWhen takeCode feedFrom validRun refusal readOf pendingAfter endedAfter runAfter fedBy acceptedCall refusedCall runCall decimalFrom decimal fieldOf closingOf lineOf return _>>=_ orElse one moreDigits number letter threeDigits hexPair carried field closing fields kept runOf writeOf L.readOf loaded opened says joinedBy notedBy setBackTo acceptedBy next play Allowed AllAllowed
+unfolding isKnown isSingle isLead isTrail leads leadsBelow firstBad badClass badNumber classFault sizesFault entriesFault firstFault lookup byteAlone bytePair decoder actionOf policyAllowed effectOf converter fits less halt after stopAt takeWhen takeCode takeCodes completed waitsThen codesAtEnd callCodes waitingUnit feedFrom validRun refusal readOf pendingAfter endedAfter runAfter fedBy acceptedCall refusedCall runCall decimalFrom decimal fieldOf closingOf lineOf return _>>=_ orElse one moreDigits number letter threeDigits hexPair carried field closing fields kept runOf writeOf L.readOf loaded opened says joinedBy notedBy setBackTo acceptedBy next play Allowed AllAllowed
 numbers-met = (
   record { before = []; call = feeding (0x41 ∷ []) true (room 1); allowed = (([], refl, λ e. refl), tt); answer = refl },
   record { before = []; call = feeding (0x82 ∷ []) false (room 0); allowed = (([], refl, λ e. refl), tt); answer = refl },
