@@ -1,3 +1,4 @@
+pub mod Computing
 pub mod DecimalLaws
 pub mod ParserLaws
 pub mod LineLaws

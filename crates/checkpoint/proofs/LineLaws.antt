@@ -24,6 +24,7 @@ use Rattle.convert.proofs.CallLaws.{Valid, valid-facts}
 use Rattle.checkpoint.specs.declared.Written.{Written}
 use Rattle.checkpoint.specs.Line.{tab, lineOf, fieldOf, closingOf, decimal, decimalFrom, runOf, kept, fields, field, letter, number, moreDigits, threeDigits, carried, hexPair, closing, one, orElse, return, _>>=_, Parsed, Parser, Representable, Restores, CarriedFits, letterOf, digitsOf, carriedOf, Saving, unwritten, writeOf, writtenAs, Saved, Loading, loaded, readOf}
 use Rattle.checkpoint.specs.Sample.{sampleRun, sampleLine, longestRun}
+use Rattle.checkpoint.proofs.Computing.{lineRules}
 use Rattle.checkpoint.proofs.DecimalLaws.{decimal-short}
 use Rattle.checkpoint.proofs.ParserLaws.{got, none-some, some-eq, and-left, and-right, Reads, then-some, then-back, Digits, letter-reads, number-reads, digits-read, carried-reads, field-forth, field-back, closing-forth, closing-back}
 
@@ -227,15 +228,15 @@ at-most-44 run w e =
 
 -- and one has 44
 pub longest-valid : validRun longestRun ≡ true
-unfolding longestRun validRun policyAllowed
+unfolding lineRules
 longest-valid = refl
 
 pub longest-fits : Representable longestRun
-unfolding longestRun
+unfolding lineRules
 longest-fits = record { page = omega arith; single = omega arith; pair = omega arith; invalid = omega arith; pending = tt; flags = omega arith; read = omega arith; written = omega arith }
 
 pub longest-has-44 : length (lineOf longestRun) ≡ 44
-unfolding lineOf fieldOf closingOf decimal decimalFrom longestRun
+unfolding lineRules
 longest-has-44 = refl
 
 -- ---- the answers, each exactly in its case
@@ -338,9 +339,18 @@ saved-front s r before after w = rw (w .lent, w .size) (take-append-seam (s .lin
 
 -- ---- the sample line of document 01
 pub sample-written : lineOf sampleRun ≡ sampleLine
-unfolding lineOf fieldOf closingOf decimal decimalFrom sampleRun sampleLine
+unfolding lineRules
 sample-written = refl
 
 pub sample-read : runOf sampleLine ≡ some sampleRun
-unfolding runOf kept fields field letter number moreDigits threeDigits carried hexPair closing closingOf one orElse return _>>=_ sampleRun sampleLine validRun policyAllowed
+unfolding lineRules
 sample-read = refl
+
+-- ROW 16 by the two calls, with their answers: the line fits 26 places, and is read back.
+pub sample-saved : writeOf sampleRun 26 ≡ record { number = 0; line = sampleLine }
+unfolding lineRules
+sample-saved = refl
+
+pub sample-restored : readOf sampleLine ≡ record { number = 0; run = some sampleRun }
+unfolding lineRules
+sample-restored = refl

@@ -1,3 +1,4 @@
 pub mod ShapeLaws
+pub mod ReportLaws
 pub mod MarkLaws
 pub mod ReadingLaws

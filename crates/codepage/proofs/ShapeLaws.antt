@@ -17,11 +17,11 @@ use Rattle.codepage.specs.declared.Fault.the-variants.{Good, Page, Class
 
 -- ---- the first bad place
 module _ (bad : ℕ → ℕ → Bool) where
-  bad-here : (i x : ℕ) (xs : List ℕ) → bad i x ≡ true → firstBad bad i (x ∷ xs) ≡ i
+  pub bad-here : (i x : ℕ) (xs : List ℕ) → bad i x ≡ true → firstBad bad i (x ∷ xs) ≡ i
   unfolding firstBad
   bad-here i x xs e = rw (e, firstBad)
 
-  bad-later : (i x : ℕ) (xs : List ℕ) → bad i x ≡ false → firstBad bad i (x ∷ xs) ≡ firstBad bad (suc i) xs
+  pub bad-later : (i x : ℕ) (xs : List ℕ) → bad i x ≡ false → firstBad bad i (x ∷ xs) ≡ firstBad bad (suc i) xs
   unfolding firstBad
   bad-later i x xs e = rw (e, firstBad)
 
@@ -61,10 +61,10 @@ module _ (bad : ℕ → ℕ → Bool) where
       ∙ omega arith
 
   -- counted from 0
-  none-at-all : (xs : List ℕ) → length xs ≤ firstBad bad 0 xs → (k : ℕ) → k < length xs → bad k (getD xs k 0) ≡ false
+  pub none-at-all : (xs : List ℕ) → length xs ≤ firstBad bad 0 xs → (k : ℕ) → k < length xs → bad k (getD xs k 0) ≡ false
   none-at-all xs h k q = rw (zero-add k) at (none-bad 0 xs (omega arith) k q)
 
-  all-are-good : (xs : List ℕ) → ((k : ℕ) → k < length xs → bad k (getD xs k 0) ≡ false) → firstBad bad 0 xs ≡ length xs
+  pub all-are-good : (xs : List ℕ) → ((k : ℕ) → k < length xs → bad k (getD xs k 0) ≡ false) → firstBad bad 0 xs ≡ length xs
   all-are-good xs h = all-good 0 xs (λ k q. rw (zero-add k) (h k q)) ∙ omega arith
 
 -- ---- Bools
@@ -243,7 +243,7 @@ module _ (p : CodePage) where
   class-good k true e g h = rw (h, e, g .low k (ltb-true _ _ e))
   class-good k false e g h = rw (h, e)
 
-  no-fault : GoodShape p → firstFault p ≡ Good
+  pub no-fault : GoodShape p → firstFault p ≡ Good
   unfolding firstFault sizesFault entriesFault
   no-fault g =
       let count = g .blocks .0 in

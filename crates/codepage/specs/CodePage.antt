@@ -127,3 +127,49 @@ isGood BlocksSize = false
 isGood (Class byte) = false
 isGood (Lead byte) = false
 isGood (Number place) = false
+
+-- What each case of the report says: all before it is good, and this is bad; of an entry's place, none below it is bad.
+
+-- a class that a byte can have, and no lead below 80
+pub record GoodClass (p : CodePage) (byte : ℕ) : Type 0 where
+  pub known : isKnown (entry (p .classes) byte) ≡ true
+  pub not-low-lead : byte < 0x80 → isLead (entry (p .classes) byte) ≡ false
+
+-- a number that names a block
+abbrev pub GoodNumber : CodePage → ℕ → Type 0
+GoodNumber p high = 256 * entry (p .index) high + 256 ≤ length (p .blocks)
+
+-- 1 to 256 blocks of 256
+abbrev pub GoodBlocks : CodePage → Type 0
+GoodBlocks p = (n : ℕ) × (1 ≤ n) × (n ≤ 256) × (length (p .blocks) ≡ 256 * n)
+
+-- page and sizes, in the order of the tables, up to each of them
+abbrev pub PageGood : CodePage → Type 0
+PageGood p = p .page ≡ 0 → ⊥
+
+abbrev pub ClassesGood : CodePage → Type 0
+ClassesGood p = PageGood p × (length (p .classes) ≡ 256)
+
+abbrev pub SinglesGood : CodePage → Type 0
+SinglesGood p = ClassesGood p × (length (p .singles) ≡ 256)
+
+abbrev pub PairsGood : CodePage → Type 0
+PairsGood p = SinglesGood p × (length (p .pairs) ≡ 256 * leads (p .classes))
+
+abbrev pub IndexGood : CodePage → Type 0
+IndexGood p = PairsGood p × (length (p .index) ≡ 256)
+
+abbrev pub SizesGood : CodePage → Type 0
+SizesGood p = IndexGood p × GoodBlocks p
+
+abbrev pub Names : CodePage → Fault → Type 0
+Names p Good = GoodShape p
+Names p Page = p .page ≡ 0
+Names p ClassesSize = PageGood p × (length (p .classes) ≡ 256 → ⊥)
+Names p SinglesSize = ClassesGood p × (length (p .singles) ≡ 256 → ⊥)
+Names p PairsSize = SinglesGood p × (length (p .pairs) ≡ 256 * leads (p .classes) → ⊥)
+Names p IndexSize = PairsGood p × (length (p .index) ≡ 256 → ⊥)
+Names p BlocksSize = IndexGood p × (GoodBlocks p → ⊥)
+Names p (Class byte) = SizesGood p × (byte < 256) × (isKnown (entry (p .classes) byte) ≡ false) × ((k : ℕ) → k < byte → GoodClass p k)
+Names p (Lead byte) = SizesGood p × (byte < 0x80) × (isLead (entry (p .classes) byte) ≡ true) × ((k : ℕ) → k < byte → GoodClass p k)
+Names p (Number place) = SizesGood p × ((k : ℕ) → k < 256 → GoodClass p k) × (place < 256) × (GoodNumber p place → ⊥) × ((k : ℕ) → k < place → GoodNumber p k)

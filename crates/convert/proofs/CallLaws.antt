@@ -179,6 +179,24 @@ pub pending-units : (pending : Pending) → length (waitingUnits (pendingUnit pe
 pending-units Nothing = refl
 pending-units (Byte byte) = refl
 
+-- a waiting unit or none, as a list
+abbrev pub pendingUnits : Pending → List ℕ
+pendingUnits pending = waitingUnits (pendingUnit pending)
+
+pub count-le-one : (pending : Pending) → pendingCount pending ≤ 1
+count-le-one Nothing = omega arith
+count-le-one (Byte byte) = omega arith
+
+-- the final unit is the last of what is pending and the piece
+pub final-is : (pending : Pending) (piece : List ℕ) (n : ℕ) → n + 1 ≡ length (pendingUnits pending ++ piece) → finalUnit pending piece ≡ Byte (getD (pendingUnits pending ++ piece) n 0)
+final-is Nothing [] n h = absurd (omega arith)
+final-is (Byte byte) [] n h =
+    let z : n ≡ 0 = omega arith in
+    rw z
+final-is Nothing (a ∷ piece) n h = final-is (Byte a) piece n h
+final-is (Byte byte) (a ∷ piece) zero h = absurd (omega arith)
+final-is (Byte byte) (a ∷ piece) (suc n) h = final-is (Byte a) piece n (omega arith)
+
 pub lead-pending : (classes : List ℕ) (pending : Pending) → leadIn classes pending ≡ true → hasPending pending ≡ true → isLead (entry classes (pendingByte pending)) ≡ true
 lead-pending classes Nothing e h = absurd (false≢true h)
 lead-pending classes (Byte byte) e h = e

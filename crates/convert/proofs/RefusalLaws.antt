@@ -6,16 +6,17 @@ use mathlib.Core.Path.{_≡_, refl, sym, ap, _∙_, subst}
 use Prim.Native.Nat.{ℕ, zero, suc, _+_, _<_, _≤_}
 use native.Mathlib.Omega.{arith}
 use lib.Dec.{leb, eqb}
-use borrow.Author.Tests.{eqb-true, leb-true, leb-false, eq-eqb, le-leb, lt-leb, not-true, not-false}
+use borrow.Author.Tests.{eqb-true, eqb-false, leb-true, leb-false, eq-eqb, le-leb, lt-leb, not-true, not-false}
 use Rattle.codepage.specs.CodePage.{CodePage, GoodShape, firstFault, isGood}
 use Rattle.codepage.proofs.ShapeLaws.{shape-exact}
 use Rattle.engine.specs.declared.Direction.{Direction}
 use Rattle.engine.specs.declared.Direction.the-variants.{Decoding, Encoding}
 use Rattle.convert.specs.declared.Run.{Run}
-use Rattle.convert.specs.Runs.{pieceLimit, readLimit, validRun}
+use Rattle.convert.specs.Runs.{pieceLimit, readLimit, validRun, RunRules}
 use Rattle.convert.specs.Calls.{sameDirection, leadIn, check, refusal}
 use Rattle.engine.proofs.EffectLaws.{and-left, and-right}
-use Rattle.convert.proofs.CallLaws.{same-direction}
+use Rattle.convert.proofs.CallLaws.{same-direction, refusal-named}
+use Rattle.convert.proofs.RuleLaws.{rules-exact}
 
 -- ---- a chain of checks, numbered from n on
 chain : ℕ → List Bool → ℕ
@@ -70,21 +71,41 @@ direction-same Encoding b e = subst (λ (d : Direction). sameDirection Encoding 
 both : (a b : Bool) → a ≡ true → b ≡ true → (a && b) ≡ true
 both a b e f = rw (e, f)
 
+-- What each check that passes says, up to each of them: 10, 11, 12, 13, 14, 15.
+abbrev pub ShapePasses : CodePage → Type 0
+ShapePasses p = GoodShape p
+
+abbrev pub CountPasses : CodePage → ℕ → Type 0
+CountPasses p count = ShapePasses p × (count ≤ pieceLimit)
+
+abbrev pub RulesPass : Run → CodePage → ℕ → Type 0
+RulesPass run p count = CountPasses p count × RunRules run
+
+abbrev pub SameRun : Direction → Run → CodePage → Type 0
+SameRun direction run p = (direction ≡ run .direction) × (run .page ≡ p .page)
+
+abbrev pub RunPasses : Direction → Run → CodePage → ℕ → Type 0
+RunPasses direction run p count = RulesPass run p count × SameRun direction run p
+
+abbrev pub LeadPasses : Direction → Run → CodePage → ℕ → Type 0
+LeadPasses direction run p count = RunPasses direction run p count × (leadIn (p .classes) (run .pending) ≡ true)
+
+abbrev pub EndPasses : Direction → Run → CodePage → ℕ → Type 0
+EndPasses direction run p count = LeadPasses direction run p count × (run .ended ≡ false)
+
+abbrev pub AllPass : Direction → Run → CodePage → ℕ → Type 0
+AllPass direction run p count = EndPasses direction run p count × (run .read + count ≤ readLimit)
+
 -- Each number of a refused run call, and acceptance, exactly in its case: it is the first check that fails.
-pub record Cases (direction : Direction) (run : Run) (p : CodePage) (count : ℕ) : Type 0 where
-  pub bad-shape : (refusal direction run p count ≡ 10) ↔ (GoodShape p → ⊥)
-  pub too-long : (refusal direction run p count ≡ 11) ↔ (GoodShape p × (pieceLimit < count))
-  pub invalid-run : (refusal direction run p count ≡ 12) ↔ (GoodShape p × (count ≤ pieceLimit) × (validRun run ≡ false))
-  pub other-run : (refusal direction run p count ≡ 13)
-      ↔ (GoodShape p × (count ≤ pieceLimit) × (validRun run ≡ true) × ((direction ≡ run .direction) × (run .page ≡ p .page) → ⊥))
-  pub not-lead : (refusal direction run p count ≡ 14)
-      ↔ (GoodShape p × (count ≤ pieceLimit) × (validRun run ≡ true) × (direction ≡ run .direction) × (run .page ≡ p .page) × (leadIn (p .classes) (run .pending) ≡ false))
-  pub ended : (refusal direction run p count ≡ 15)
-      ↔ (GoodShape p × (count ≤ pieceLimit) × (validRun run ≡ true) × (direction ≡ run .direction) × (run .page ≡ p .page) × (leadIn (p .classes) (run .pending) ≡ true) × (run .ended ≡ true))
-  pub read-limit : (refusal direction run p count ≡ 16)
-      ↔ (GoodShape p × (count ≤ pieceLimit) × (validRun run ≡ true) × (direction ≡ run .direction) × (run .page ≡ p .page) × (leadIn (p .classes) (run .pending) ≡ true) × (run .ended ≡ false) × (readLimit < run .read + count))
-  pub accepted : (refusal direction run p count ≡ 0)
-      ↔ (GoodShape p × (count ≤ pieceLimit) × (validRun run ≡ true) × (direction ≡ run .direction) × (run .page ≡ p .page) × (leadIn (p .classes) (run .pending) ≡ true) × (run .ended ≡ false) × (run .read + count ≤ readLimit))
+pub record Cases (direction : Direction) (run : Run) (p : CodePage) (count number : ℕ) : Type 0 where
+  pub bad-shape : (number ≡ 10) ↔ (GoodShape p → ⊥)
+  pub too-long : (number ≡ 11) ↔ (ShapePasses p × (pieceLimit < count))
+  pub invalid-run : (number ≡ 12) ↔ (CountPasses p count × (RunRules run → ⊥))
+  pub other-run : (number ≡ 13) ↔ (RulesPass run p count × (SameRun direction run p → ⊥))
+  pub not-lead : (number ≡ 14) ↔ (RunPasses direction run p count × (leadIn (p .classes) (run .pending) ≡ false))
+  pub ended : (number ≡ 15) ↔ (LeadPasses direction run p count × (run .ended ≡ true))
+  pub read-limit : (number ≡ 16) ↔ (EndPasses direction run p count × (readLimit < run .read + count))
+  pub accepted : (number < 10) ↔ AllPass direction run p count
 
 module _ (direction : Direction) (run : Run) (p : CodePage) (count : ℕ) where
   tests : List Bool
@@ -114,8 +135,38 @@ module _ (direction : Direction) (run : Run) (p : CodePage) (count : ℕ) where
   is-same : direction ≡ run .direction → run .page ≡ p .page → (sameDirection direction (run .direction) && eqb (run .page) (p .page)) ≡ true
   is-same e f = both (sameDirection direction (run .direction)) (eqb (run .page) (p .page)) (direction-same direction (run .direction) e) (eq-eqb _ _ f)
 
+  -- what the checks that pass say, one more each time
+  shape-is : isGood (firstFault p) ≡ true → ShapePasses p
+  shape-is e = good e
+
+  counted : ShapePasses p → leb count pieceLimit ≡ true → CountPasses p count
+  counted a e = (a, leb-true _ _ e)
+
+  ruled : CountPasses p count → validRun run ≡ true → RulesPass run p count
+  ruled a e = (a, rules-exact run .0 e)
+
+  alike : RulesPass run p count → (sameDirection direction (run .direction) && eqb (run .page) (p .page)) ≡ true → RunPasses direction run p count
+  alike a e = (a, same e)
+
+  going : LeadPasses direction run p count → not (run .ended) ≡ true → EndPasses direction run p count
+  going a e = (a, not-true _ e)
+
+  -- a number that is none of the refusals' is 0
+  below-ten : refusal direction run p count < 10 → refusal direction run p count ≡ 0
+  below-ten h = by-test (eqb (refusal direction run p count) 0) refl
+    where
+      by-test : (t : Bool) → eqb (refusal direction run p count) 0 ≡ t → refusal direction run p count ≡ 0
+      by-test true e = eqb-true _ _ e
+      by-test false e = absurd (omega (arith, refusal-named direction run p count (eqb-false _ _ e) .low))
+
+  -- A call is accepted where every check passes.
+  pub accepted-of : AllPass direction run p count → refusal direction run p count ≡ 0
+  unfolding tests
+  accepted-of (((((((g, c), r), s), l), e), t)) =
+      none .1 (is-good g, (le-leb _ _ c, (rules-exact run .1 r, (is-same (s .0) (s .1), (l, (rw e, (le-leb _ _ t, tt)))))))
+
   -- EACH NUMBER EXACTLY IN ITS CASE.
-  pub refusals-exact : Cases direction run p count
+  pub refusals-exact : Cases direction run p count (refusal direction run p count)
   unfolding tests
   refusals-exact =
       record {
@@ -125,47 +176,31 @@ module _ (direction : Direction) (run : Run) (p : CodePage) (count : ℕ) where
           λ h. number 1 .1 (is-good (h .0), lt-leb _ _ (h .1)),
         );
         invalid-run = (
-          λ e. let q = number 2 .0 e in (good (q .0), leb-true _ _ (q .1 .0), q .1 .1),
-          λ h. number 2 .1 (is-good (h .0), (le-leb _ _ (h .1), h .2)),
+          λ e. let q = number 2 .0 e in (counted (good (q .0)) (q .1 .0), λ r. not-both _ (q .1 .1) (rules-exact run .1 r)),
+          λ h. number 2 .1 (is-good (h .0 .0), (le-leb _ _ (h .0 .1), is-false _ (λ e. h .1 (rules-exact run .0 e)))),
         );
         other-run = (
-          λ e. let q = number 3 .0 e in (good (q .0), leb-true _ _ (q .1 .0), q .1 .1 .0, λ s. not-both _ (q .1 .1 .1) (is-same (s .0) (s .1))),
-          λ h. number 3 .1 (is-good (h .0), (le-leb _ _ (h .1), (h .2, is-false _ (λ e. h .3 (same e))))),
+          λ e. let q = number 3 .0 e in (ruled (counted (good (q .0)) (q .1 .0)) (q .1 .1 .0), λ s. not-both _ (q .1 .1 .1) (is-same (s .0) (s .1))),
+          λ h. number 3 .1 (is-good (h .0 .0 .0), (le-leb _ _ (h .0 .0 .1), (rules-exact run .1 (h .0 .1), is-false _ (λ e. h .1 (same e))))),
         );
         not-lead = (
-          λ e. let q = number 4 .0 e in
-              (good (q .0), leb-true _ _ (q .1 .0), q .1 .1 .0, same (q .1 .1 .1 .0) .0, same (q .1 .1 .1 .0) .1, q .1 .1 .1 .1),
-          λ h. number 4 .1 (is-good (h .0), (le-leb _ _ (h .1), (h .2, (is-same (h .3) (h .4), h .5)))),
+          λ e. let q = number 4 .0 e in (alike (ruled (counted (good (q .0)) (q .1 .0)) (q .1 .1 .0)) (q .1 .1 .1 .0), q .1 .1 .1 .1),
+          λ h. number 4 .1 (is-good (h .0 .0 .0 .0), (le-leb _ _ (h .0 .0 .0 .1), (rules-exact run .1 (h .0 .0 .1), (is-same (h .0 .1 .0) (h .0 .1 .1), h .1)))),
         );
         ended = (
-          λ e. let q = number 5 .0 e in
-              (good (q .0), leb-true _ _ (q .1 .0), q .1 .1 .0, same (q .1 .1 .1 .0) .0, same (q .1 .1 .1 .0) .1, q .1 .1 .1 .1 .0, not-false _ (q .1 .1 .1 .1 .1)),
-          λ h. number 5 .1 (is-good (h .0), (le-leb _ _ (h .1), (h .2, (is-same (h .3) (h .4), (h .5, rw (h .6)))))),
+          λ e. let q = number 5 .0 e in ((alike (ruled (counted (good (q .0)) (q .1 .0)) (q .1 .1 .0)) (q .1 .1 .1 .0), q .1 .1 .1 .1 .0), not-false _ (q .1 .1 .1 .1 .1)),
+          λ h. let a = h .0 .0 in
+              number 5 .1 (is-good (a .0 .0 .0), (le-leb _ _ (a .0 .0 .1), (rules-exact run .1 (a .0 .1), (is-same (a .1 .0) (a .1 .1), (h .0 .1, rw (h .1)))))),
         );
         read-limit = (
-          λ e. let q = number 6 .0 e in (
-            good (q .0),
-            leb-true _ _ (q .1 .0),
-            q .1 .1 .0,
-            same (q .1 .1 .1 .0) .0,
-            same (q .1 .1 .1 .0) .1,
-            q .1 .1 .1 .1 .0,
-            not-true _ (q .1 .1 .1 .1 .1 .0),
-            leb-false _ _ (q .1 .1 .1 .1 .1 .1),
-          ),
-          λ h. number 6 .1 (is-good (h .0), (le-leb _ _ (h .1), (h .2, (is-same (h .3) (h .4), (h .5, (rw (h .6), lt-leb _ _ (h .7))))))),
+          λ e. let q = number 6 .0 e in
+              (going (alike (ruled (counted (good (q .0)) (q .1 .0)) (q .1 .1 .0)) (q .1 .1 .1 .0), q .1 .1 .1 .1 .0) (q .1 .1 .1 .1 .1 .0), leb-false _ _ (q .1 .1 .1 .1 .1 .1)),
+          λ h. let a = h .0 .0 .0 in
+              number 6 .1 (is-good (a .0 .0 .0), (le-leb _ _ (a .0 .0 .1), (rules-exact run .1 (a .0 .1), (is-same (a .1 .0) (a .1 .1), (h .0 .0 .1, (rw (h .0 .1), lt-leb _ _ (h .1))))))),
         );
         accepted = (
-          λ e. let q = none .0 e in (
-            good (q .0),
-            leb-true _ _ (q .1 .0),
-            q .1 .1 .0,
-            same (q .1 .1 .1 .0) .0,
-            same (q .1 .1 .1 .0) .1,
-            q .1 .1 .1 .1 .0,
-            not-true _ (q .1 .1 .1 .1 .1 .0),
-            leb-true _ _ (q .1 .1 .1 .1 .1 .1 .0),
-          ),
-          λ h. none .1 (is-good (h .0), (le-leb _ _ (h .1), (h .2, (is-same (h .3) (h .4), (h .5, (rw (h .6), (le-leb _ _ (h .7), tt))))))),
+          λ e. let q = none .0 (below-ten e) in
+              (going (alike (ruled (counted (good (q .0)) (q .1 .0)) (q .1 .1 .0)) (q .1 .1 .1 .0), q .1 .1 .1 .1 .0) (q .1 .1 .1 .1 .1 .0), leb-true _ _ (q .1 .1 .1 .1 .1 .1 .0)),
+          λ h. omega (arith, accepted-of h),
         );
       }

@@ -1,20 +1,53 @@
--- The rows of document 01 hold of the rules, and the sample page has a good shape.
+-- The rows of document 01 hold of the rules, the sample page has a good shape, and texts on it return or do not.
 use mathlib.Core.List.{List, [], _∷_}
-use mathlib.Core.Path.{_≡_, refl}
-use Rattle.codepage.specs.CodePage.{GoodShape, isKnown, isSingle, isLead, isTrail, leads, leadsBelow, firstBad, badClass, badNumber, classFault, sizesFault, entriesFault, firstFault, isGood}
-use Rattle.codepage.specs.Reading.{lookup, byteAlone, bytePair, unitCode, bytesOf, decoder, encoder, completed, waitsThen, codesAtEnd, callCodes, waitingUnit}
+use mathlib.Core.Path.{_≡_, refl, sym, ap, _∙_, subst}
+use Prim.Native.Nat.{ℕ}
+use native.Mathlib.Omega.{arith}
+use Rattle.codepage.specs.CodePage.{GoodShape}
+use Rattle.codepage.specs.Reading.{bytesOf, Code, codes}
+use Rattle.codepage.specs.declared.Lookup.the-variants.{Found}
 use Rattle.codepage.proofs.ShapeLaws.{shape-exact}
-use Rattle.engine.specs.Policies.{actionOf, policyAllowed}
-use Rattle.engine.specs.Engine.{effectOf, converter, fits, less, halt, after, stopAt, takeWhen, takeCode, takeCodes, feedFrom}
-use Rattle.convert.specs.Runs.{validRun}
-use Rattle.convert.specs.Calls.{refusal, readOf, pendingAfter, endedAfter, runAfter, fedBy, acceptedCall, refusedCall, runCall}
+use Rattle.engine.specs.declared.Direction.the-variants.{Decoding, Encoding}
+use Rattle.engine.specs.Engine.{readerOf}
+use Rattle.convert.specs.RoundTrips.{RoundTrips, UnitsReturn, BytesReturn}
 use Rattle.convert.specs.Sample.{samplePage, rows, AllHold}
+use Rattle.convert.proofs.Computing.{shapeRules, readingRules, callRules}
 
 pub sample-good : GoodShape samplePage
-unfolding isKnown isLead leads firstBad badClass badNumber classFault sizesFault entriesFault firstFault
+unfolding shapeRules
 sample-good = shape-exact samplePage .0 refl
 
 -- THE ROWS: one list, one claim.
 pub rows-hold : AllHold rows
-unfolding isKnown isSingle isLead isTrail leads leadsBelow firstBad badClass badNumber classFault sizesFault entriesFault firstFault lookup byteAlone bytePair unitCode bytesOf decoder encoder actionOf policyAllowed effectOf converter fits less halt after stopAt takeWhen takeCode takeCodes completed waitsThen codesAtEnd callCodes waitingUnit feedFrom validRun refusal readOf pendingAfter endedAfter runAfter fedBy acceptedCall refusedCall runCall
+unfolding callRules
 rows-hold = (refl, (refl, (refl, (refl, (refl, (refl, (refl, (refl, (refl, (refl, (refl, (refl, (refl, (refl, (refl, (refl, tt))))))))))))))))
+
+-- ---- texts that return, and one that does not
+-- 4E00 and 827C belong together.
+kanji-returns : RoundTrips samplePage 0x4E00 0x827C
+unfolding readingRules
+kanji-returns = record { own = refl; read = record { first = 0x82; more = 0x7C ∷ []; means = Found 0x4E00 }; one-code = refl; character = refl }
+
+pub unit-returns : UnitsReturn samplePage (0x4E00 ∷ [])
+unit-returns = ((0x827C, kanji-returns), tt)
+
+pub code-returns : BytesReturn samplePage (0x82 ∷ 0x7C ∷ [])
+unfolding readingRules
+code-returns = (record { unit = 0x4E00; code = 0x827C; character = refl; bytes = refl; belong = kanji-returns }, tt)
+
+-- 00A0 has the code 20, which is read as 0020: the unit belongs with no code.
+own-code : readerOf Encoding samplePage .one 0xA0 ≡ Found 0x20
+unfolding readingRules
+own-code = refl
+
+read-as : codes (readerOf Decoding samplePage) (bytesOf 0x20) ≡ record { first = 0x20; more = []; means = Found 0x0020 } ∷ []
+unfolding readingRules
+read-as = refl
+
+pub unit-lost : UnitsReturn samplePage (0xA0 ∷ []) → ⊥
+unit-lost ((code, r), rest) =
+    let same : code ≡ 0x20 = cc (own-code, r .own) in
+    let one : record { first = 0x20; more = []; means = Found 0x0020 } ∷ [] ≡ r .read ∷ [] = sym read-as ∙ ap (λ (c : ℕ). codes (readerOf Decoding samplePage) (bytesOf c)) (sym same) ∙ r .one-code in
+    let means : Found 0x0020 ≡ Found 0xA0 = cc (one, r .character) in
+    let z : _≡_ {A = ℕ} 0x20 0xA0 = cc in
+    omega arith

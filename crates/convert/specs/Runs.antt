@@ -2,7 +2,8 @@
 use mathlib.Core.Bool.{Bool, true, false, not, _&&_, _||_}
 use mathlib.Core.List.{List, [], _∷_}
 use mathlib.Core.Option.{Option, none, some}
-use Prim.Native.Nat.{ℕ, _*_}
+use mathlib.Core.Path.{_≡_}
+use Prim.Native.Nat.{ℕ, _*_, _<_, _≤_}
 use lib.Dec.{leb, ltb, eqb}
 use Rattle.codepage.specs.CodePage.{pick}
 use Rattle.engine.specs.declared.Direction.{Direction}
@@ -13,7 +14,7 @@ use Rattle.convert.specs.declared.Pending.the-variants.{Nothing, Byte}
 use Rattle.convert.specs.declared.Run.{Run}
 use Rattle.convert.specs.declared.Started.{Started}
 use Rattle.convert.specs.declared.Started.the-variants.{Accepted, Refused}
-use Rattle.engine.specs.Policies.{policyAllowed}
+use Rattle.engine.specs.Policies.{stoppedFlag, highestSingle, policyAllowed}
 
 -- The limits of a run: the units of one piece, and of all that it reads.
 abbrev pub pieceLimit : ℕ
@@ -53,6 +54,23 @@ validRun run =
     ∷ (ltb (run .flags) 8 || run .ended)
     ∷ ifPending (run .pending) (isDecoding (run .direction) && (not (run .ended) && ltb (run .written) (run .read)))
     ∷ [])
+
+-- The same in propositions; `rules-exact` says that they are the rules.
+pub record RunRules (run : Run) : Type 0 where
+  -- page not 0
+  pub page : run .page ≡ 0 → ⊥
+  -- digits allowed
+  pub digits : (run .policy .single ≤ highestSingle (run .direction)) × (run .policy .pair ≤ 5) × (run .policy .invalid ≤ 5)
+  -- flags at most 15
+  pub flags : run .flags ≤ 15
+  -- read within the limit
+  pub read : run .read ≤ readLimit
+  -- written at most read (decoding) or twice read (encoding)
+  pub written : run .written ≤ mostWritten (run .direction) (run .read)
+  -- flag 8 only if ended
+  pub stopped : stoppedFlag ≤ run .flags → run .ended ≡ true
+  -- a carried byte only if decoding, not ended, written below read
+  pub pending : (byte : ℕ) → run .pending ≡ Byte byte → (run .direction ≡ Decoding) × (run .ended ≡ false) × (run .written < run .read)
 
 -- An accepted start gives a fresh run.
 abbrev pub fresh : Direction → ℕ → Policy → Run

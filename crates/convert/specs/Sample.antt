@@ -5,6 +5,7 @@ use mathlib.Core.Path.{_≡_}
 use Prim.Native.Nat.{ℕ, zero, suc, _+_}
 use lib.ListN.{length, set, replicate}
 use Rattle.codepage.specs.CodePage.{CodePage}
+use Rattle.codepage.specs.Lent.{over}
 use Rattle.engine.specs.declared.Direction.{Direction}
 use Rattle.engine.specs.declared.Direction.the-variants.{Decoding, Encoding}
 use Rattle.engine.specs.declared.Policy.{Policy}
@@ -45,13 +46,16 @@ samplePage =
 abbrev pub digits : (single pair invalid : ℕ) → Policy
 digits single pair invalid = record { single = single; pair = pair; invalid = invalid }
 
--- A row: a call of a run on the sample page, and what is seen of it.
+-- A row: a call of a run on the sample page, with the lent output before it; what is seen of it: its answer, what it read and
+-- wrote, the lent output after it, and the new run's flags, totals, pending byte and end.
 pub record Seen : Type 0 where
   pub number : ℕ
   pub read : ℕ
   pub written : ℕ
-  pub output : List ℕ
+  pub lent : List ℕ
   pub flags : ℕ
+  pub totalRead : ℕ
+  pub totalWritten : ℕ
   pub pending : Pending
   pub ended : Bool
 
@@ -60,38 +64,55 @@ pub record Row : Type 0 where
   pub run : Run
   pub piece : List ℕ
   pub last : Bool
-  pub room : ℕ
+  pub lent : List ℕ
   pub seen : Seen
 
 abbrev pub called : Row → Called
-called r = runCall (r .direction) (r .run) samplePage (r .piece) (r .last) (r .room)
+called r = runCall (r .direction) (r .run) samplePage (r .piece) (r .last) (length (r .lent))
 
-abbrev pub seenOf : Called → Seen
-seenOf c =
+abbrev pub seenOf : (before : List ℕ) → Called → Seen
+seenOf before c =
     record {
       number = c .number;
       read = c .read;
       written = length (c .output);
-      output = c .output;
+      lent = over before (c .output);
       flags = c .run .flags;
+      totalRead = c .run .read;
+      totalWritten = c .run .written;
       pending = c .run .pending;
       ended = c .run .ended;
     }
 
 abbrev pub RowHolds : Row → Type 0
-RowHolds r = seenOf (called r) ≡ r .seen
+RowHolds r = seenOf (r .lent) (called r) ≡ r .seen
+
+-- lent output of some units, all EE
+abbrev pub room : ℕ → List ℕ
+room n = replicate n 0xEE
 
 -- room enough
-abbrev pub ample : ℕ
-ample = 9
+abbrev pub ample : List ℕ
+ample = room 9
 
 -- a call on a fresh run of the sample page, marked last
-abbrev pub lastCall : Direction → Policy → (room : ℕ) → List ℕ → Seen → Row
-lastCall direction policy room piece seen = record { direction = direction; run = fresh direction 7 policy; piece = piece; last = true; room = room; seen = seen }
+abbrev pub lastCall : Direction → Policy → (lent : List ℕ) → List ℕ → Seen → Row
+lastCall direction policy lent piece seen = record { direction = direction; run = fresh direction 7 policy; piece = piece; last = true; lent = lent; seen = seen }
 
--- all read, and the run ended
-abbrev pub allRead : (read : ℕ) → (output : List ℕ) → (flags : ℕ) → Seen
-allRead read output flags = record { number = 0; read = read; written = length output; output = output; flags = flags; pending = Nothing; ended = true }
+-- a call on a fresh run that is all read and ends it: the output in front of the lent places that are left
+abbrev pub allRead : (read : ℕ) → (output left : List ℕ) → (flags : ℕ) → Seen
+allRead read output left flags =
+    record {
+      number = 0;
+      read = read;
+      written = length output;
+      lent = output ++ left;
+      flags = flags;
+      totalRead = read;
+      totalWritten = length output;
+      pending = Nothing;
+      ended = true;
+    }
 
 abbrev pub row4 : Row
 row4 =
@@ -100,18 +121,29 @@ row4 =
       run = fresh Decoding 7 (digits 5 5 5);
       piece = 0x82 ∷ [];
       last = false;
-      room = ample;
-      seen = record { number = 1; read = 1; written = 0; output = []; flags = 0; pending = Byte 0x82; ended = false };
+      lent = ample;
+      seen =
+          record {
+            number = 1;
+            read = 1;
+            written = 0;
+            lent = ample;
+            flags = 0;
+            totalRead = 1;
+            totalWritten = 0;
+            pending = Byte 0x82;
+            ended = false;
+          };
     }
 
 abbrev pub rows : List Row
 rows =
     -- 1. empty: nothing, 0, ended
-    lastCall Decoding (digits 5 5 5) ample [] (allRead 0 [] 0)
+    lastCall Decoding (digits 5 5 5) ample [] (allRead 0 [] (room 9) 0)
     -- 2. 41: 0041
-    ∷ lastCall Decoding (digits 5 5 5) ample (0x41 ∷ []) (allRead 1 (0x0041 ∷ []) 0)
+    ∷ lastCall Decoding (digits 5 5 5) ample (0x41 ∷ []) (allRead 1 (0x0041 ∷ []) (room 8) 0)
     -- 3. 82 7C: 4E00
-    ∷ lastCall Decoding (digits 5 5 5) ample (0x82 ∷ 0x7C ∷ []) (allRead 2 (0x4E00 ∷ []) 0)
+    ∷ lastCall Decoding (digits 5 5 5) ample (0x82 ∷ 0x7C ∷ []) (allRead 2 (0x4E00 ∷ []) (room 8) 0)
     -- 4. 82 not last: 1, read 1, written 0; then 7C last: 4E00
     ∷ row4
     ∷ record {
@@ -119,34 +151,75 @@ rows =
       run = called row4 .run;
       piece = 0x7C ∷ [];
       last = true;
-      room = ample;
-      seen = allRead 1 (0x4E00 ∷ []) 0;
+      lent = ample;
+      seen =
+          record {
+            number = 0;
+            read = 1;
+            written = 1;
+            lent = 0x4E00 ∷ room 8;
+            flags = 0;
+            totalRead = 2;
+            totalWritten = 1;
+            pending = Nothing;
+            ended = true;
+          };
     }
     -- 5. 82: 30FB, flag 4
-    ∷ lastCall Decoding (digits 5 5 5) ample (0x82 ∷ []) (allRead 1 (0x30FB ∷ []) 4)
+    ∷ lastCall Decoding (digits 5 5 5) ample (0x82 ∷ []) (allRead 1 (0x30FB ∷ []) (room 8) 4)
     -- 6. 81 5A: 30FB, flag 2
-    ∷ lastCall Decoding (digits 5 5 5) ample (0x81 ∷ 0x5A ∷ []) (allRead 2 (0x30FB ∷ []) 2)
+    ∷ lastCall Decoding (digits 5 5 5) ample (0x81 ∷ 0x5A ∷ []) (allRead 2 (0x30FB ∷ []) (room 8) 2)
     -- 7. 81 0A 41: 30FB 0041, flag 4
-    ∷ lastCall Decoding (digits 5 5 5) ample (0x81 ∷ 0x0A ∷ 0x41 ∷ []) (allRead 3 (0x30FB ∷ 0x0041 ∷ []) 4)
+    ∷ lastCall Decoding (digits 5 5 5) ample (0x81 ∷ 0x0A ∷ 0x41 ∷ []) (allRead 3 (0x30FB ∷ 0x0041 ∷ []) (room 7) 4)
     -- 8. 83 41: 30FB 0041, flag 4
-    ∷ lastCall Decoding (digits 5 5 5) ample (0x83 ∷ 0x41 ∷ []) (allRead 2 (0x30FB ∷ 0x0041 ∷ []) 4)
+    ∷ lastCall Decoding (digits 5 5 5) ample (0x83 ∷ 0x41 ∷ []) (allRead 2 (0x30FB ∷ 0x0041 ∷ []) (room 7) 4)
     -- 9. 80, policy 655: F180, flag 1
-    ∷ lastCall Decoding (digits 6 5 5) ample (0x80 ∷ []) (allRead 1 (0xF180 ∷ []) 1)
+    ∷ lastCall Decoding (digits 6 5 5) ample (0x80 ∷ []) (allRead 1 (0xF180 ∷ []) (room 8) 1)
     -- 10. 41 42, room 1: 0041, answer 2, read 1
-    ∷ lastCall Decoding (digits 5 5 5) 1 (0x41 ∷ 0x42 ∷ [])
-    (record { number = 2; read = 1; written = 1; output = 0x0041 ∷ []; flags = 0; pending = Nothing; ended = false })
+    ∷ lastCall Decoding (digits 5 5 5) (room 1) (0x41 ∷ 0x42 ∷ [])
+    (record {
+      number = 2;
+      read = 1;
+      written = 1;
+      lent = 0x0041 ∷ [];
+      flags = 0;
+      totalRead = 1;
+      totalWritten = 1;
+      pending = Nothing;
+      ended = false;
+    })
     -- 11. 80 41, policy 055: nothing, 3, read 1, flags 9, ended
     ∷ lastCall Decoding (digits 0 5 5) ample (0x80 ∷ 0x41 ∷ [])
-    (record { number = 3; read = 1; written = 0; output = []; flags = 9; pending = Nothing; ended = true })
+    (record {
+      number = 3;
+      read = 1;
+      written = 0;
+      lent = ample;
+      flags = 9;
+      totalRead = 1;
+      totalWritten = 0;
+      pending = Nothing;
+      ended = true;
+    })
     -- 12. encode 3000, room 1: answer 2, read 0, byte untouched
-    ∷ lastCall Encoding (digits 5 5 5) 1 (0x3000 ∷ [])
-    (record { number = 2; read = 0; written = 0; output = []; flags = 0; pending = Nothing; ended = false })
+    ∷ lastCall Encoding (digits 5 5 5) (0xEE ∷ []) (0x3000 ∷ [])
+    (record {
+      number = 2;
+      read = 0;
+      written = 0;
+      lent = 0xEE ∷ [];
+      flags = 0;
+      totalRead = 0;
+      totalWritten = 0;
+      pending = Nothing;
+      ended = false;
+    })
     -- 13. encode 3000, room 2: 81 40
-    ∷ lastCall Encoding (digits 5 5 5) 2 (0x3000 ∷ []) (allRead 1 (0x81 ∷ 0x40 ∷ []) 0)
+    ∷ lastCall Encoding (digits 5 5 5) (room 2) (0x3000 ∷ []) (allRead 1 (0x81 ∷ 0x40 ∷ []) [] 0)
     -- 14. encode 00A0: 20, no flag
-    ∷ lastCall Encoding (digits 5 5 5) ample (0x00A0 ∷ []) (allRead 1 (0x20 ∷ []) 0)
+    ∷ lastCall Encoding (digits 5 5 5) ample (0x00A0 ∷ []) (allRead 1 (0x20 ∷ []) (room 8) 0)
     -- 15. encode D83D DE00: 3F 3F, flag 1
-    ∷ lastCall Encoding (digits 5 5 5) ample (0xD83D ∷ 0xDE00 ∷ []) (allRead 2 (0x3F ∷ 0x3F ∷ []) 1)
+    ∷ lastCall Encoding (digits 5 5 5) ample (0xD83D ∷ 0xDE00 ∷ []) (allRead 2 (0x3F ∷ 0x3F ∷ []) (room 7) 1)
     ∷ []
 
 abbrev pub AllHold : List Row → Type 0

@@ -7,4 +7,5 @@ pub mod EncodeLaws
 pub mod CountLaws
 pub mod CodeLaws
 pub mod AnswerLaws
+pub mod DigitLaws
 pub mod BoundLaws

@@ -20,7 +20,8 @@ use Rattle.engine.specs.Engine.{converterOf, readerOf, defaultOf}
 use Rattle.oneshot.specs.Texts.{textRefusal, Text, acceptedText, textFed, textOf, convertOf, countOf}
 use Rattle.engine.proofs.EngineLaws.{uncut, shape-from}
 use Rattle.engine.proofs.CodeLaws.{whole-is-feed}
-use Rattle.convert.proofs.RefusalLaws.{refusals-exact}
+use Rattle.convert.proofs.RuleLaws.{rules-exact}
+use Rattle.convert.proofs.RefusalLaws.{accepted-of}
 use Rattle.convert.proofs.RunLaws.{start-kept}
 use Rattle.oneshot.proofs.TextLaws.{TextAccepted, text-accepted}
 
@@ -40,8 +41,8 @@ module _ (direction : Direction) (policy : Policy) (p : CodePage) (text : List �
   -- that call is accepted
   pub call-accepted : refusal direction (fresh direction (p .page) policy) p (length text) ≡ 0
   call-accepted =
-      refusals-exact direction (fresh direction (p .page) policy) p (length text) .accepted .1
-      (facts .good, facts .short, start-kept direction (p .page) policy start-is, refl, refl, refl, refl, omega (arith, facts .short))
+      accepted-of direction (fresh direction (p .page) policy) p (length text)
+      ((((((facts .good, facts .short), rules-exact (fresh direction (p .page) policy) .0 (start-kept direction (p .page) policy start-is)), (refl, refl)), refl), refl), omega (arith, facts .short))
 
   not-waiting : textFed direction policy p (limit room) text .answer ≡ 1 → ⊥
   unfolding textFed

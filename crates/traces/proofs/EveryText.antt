@@ -26,46 +26,25 @@ use Rattle.codepage.proofs.ReadingLaws.{waitingUnits}
 use Rattle.engine.proofs.BoundLaws.{roomy, widest, bounded-of}
 use Rattle.engine.proofs.DecodeLaws.{decoder-lead}
 use Rattle.convert.proofs.CallLaws.{Accepted, accepted-facts, valid-facts, pending-units, encoding-pending, no-pending, feed-shape}
-use Rattle.convert.proofs.RefusalLaws.{refusals-exact}
+use Rattle.convert.proofs.RuleLaws.{rules-exact}
+use Rattle.convert.proofs.RefusalLaws.{accepted-of}
 use Rattle.traces.specs.Model.{Setting, Call, feeding, Model, opened, says, isAccepted, inHand, joinedBy, acceptedBy, next, play, Allowed, AllAllowed, wholeOf}
-use Rattle.traces.specs.Traces.{Proper}
-use Rattle.traces.proofs.StepLaws.{Reads}
-use Rattle.traces.proofs.ModelLaws.{Doing, Fair, Kept, kept-start, kept-next, fair-whole}
-
--- over a list of calls
-pub kept-play : (s : Setting) → Proper s → (cs : List Call) (m : Model) → Kept s m → AllAllowed s m cs → Kept s (play s m cs)
-unfolding AllAllowed play
-kept-play s h [] m g ok = g
-kept-play s h (c ∷ cs) m g ok = kept-play s h cs (next s m c) (kept-next s h m g c (ok .0)) (ok .1)
+use Rattle.traces.specs.Traces.{Entry, callsOf, Proper, Trace}
+use Rattle.traces.proofs.ModelLaws.{Kept, kept-start, kept-next, fair-whole}
+use Rattle.traces.proofs.ListLaws.{kept-list, traces-exist, lead-pending, left-text}
 
 -- ---- one call with room enough
-lead-of : (p : CodePage) (policy : Policy) (pending : Pending) → Waits (converterOf Decoding p policy) (pendingUnit pending) → leadIn (p .classes) pending ≡ true
-lead-of p policy Nothing w = refl
-lead-of p policy (Byte byte) w = decoder-lead (p .classes) (p .singles) (p .pairs) policy (p .defaultUnit) byte w
-
 module _ (s : Setting) (h : Proper s) (good : GoodShape (s .tables)) (own : s .page ≡ s .tables .page) (m : Model) (g : Kept s m) (going : m .ended ≡ false) (piece rest : List ℕ)
     (begins : drop (m .position) (s .text) ≡ piece ++ rest) (last : Bool) (to-end : last ≡ true → rest ≡ []) (short : length piece ≤ pieceLimit) where
   abbrev enough : ℕ
   enough = widest (s .direction) * (1 + length piece)
 
-  reads-so-far : Reads (converterOf (s .direction) (s .tables) (s .policy)) (s .text) (m .run) (m .joined)
-  reads-so-far = subst (λ (t : Bool). Doing t s (m .run) (m .joined)) stepping (g .fair .doing)
-    where
-      stepping : (isGood (firstFault (s .tables)) && eqb (s .page) (s .tables .page)) ≡ true
-      stepping = rw (shape-exact (s .tables) .1 good, eq-eqb (s .page) (s .tables .page) own)
-
-  lead : (d : Direction) → s .direction ≡ d → leadIn (s .tables .classes) (m .run .pending) ≡ true
-  lead Decoding e = lead-of (s .tables) (s .policy) (m .run .pending) (subst (λ (d : Direction). Waits (converterOf d (s .tables) (s .policy)) (pendingUnit (m .run .pending))) e (reads-so-far .waits))
-  lead Encoding e = rw (no-pending (m .run .pending) (m .run .direction) _ (sym e ∙ g .fair .direction) (valid-facts (m .run) (g .fair .valid) .pending))
-
-  left-text : m .run .read + (length piece + length rest) ≡ length (s .text)
-  left-text =
-      omega (arith, reads-so-far .inside, g .fair .read, length-drop (m .position) (s .text), ap length begins, length-append piece rest)
-
   accepted : refusal (s .direction) (m .run) (s .tables) (length piece) ≡ 0
   accepted =
-      refusals-exact (s .direction) (m .run) (s .tables) (length piece) .accepted .1
-      (good, short, g .fair .valid, g .fair .direction, g .fair .page ∙ own, lead (s .direction) refl, g .fair .end ∙ going, omega (arith, left-text, h .within))
+      accepted-of (s .direction) (m .run) (s .tables) (length piece) (
+        (((((good, short), rules-exact (m .run) .0 (g .fair .valid)), (g .fair .direction, g .fair .page ∙ own)), lead-pending s h m g good own (s .direction) refl), g .fair .end ∙ going),
+        omega (arith, left-text s h m g good own piece rest begins, h .within),
+      )
 
   given : Fed
   given = fedBy (s .direction) (m .run) (s .tables) piece last enough
@@ -155,6 +134,14 @@ pub record Ends (s : Setting) (m : Model) : Type 0 where
   pub allowed : AllAllowed s m calls
   pub ended : play s m calls .ended ≡ true
 
+-- A trace that ends, with the whole output.
+pub record Finished (s : Setting) : Type 0 where
+  pub start : Run
+  pub entries : List Entry
+  pub trace : Trace s start entries
+  pub ended : play s (opened s) (callsOf entries) .ended ≡ true
+  pub joined-all : play s (opened s) (callsOf entries) .joined ≡ wholeOf s .output
+
 one-call : (s : Setting) (m : Model) (c : Call) → Allowed s m c → next s m c .ended ≡ true → Ends s m
 unfolding AllAllowed play
 one-call s m c ok e = record { calls = c ∷ []; allowed = (ok, tt); ended = e }
@@ -217,8 +204,16 @@ module _ (s : Setting) (h : Proper s) (good : GoodShape (s .tables)) (own : s .p
   ends-from zero m g going q = last-piece m g going (omega arith)
   ends-from (suc fuel) m g going q = ends-step fuel (ends-from fuel) m g going q (leb (length (drop (m .position) (s .text))) pieceLimit) refl
 
-  -- EVERY TEXT has a list of allowed calls that ends, with the whole output.
-  pub every-text : (e : Ends s (opened s)) × (play s (opened s) (e .calls) .joined ≡ wholeOf s .output)
+  -- EVERY TEXT has a trace that ends, with the whole output.
+  pub every-text : Finished s
   every-text =
       let e = ends-from (length (drop (opened s .position) (s .text))) (opened s) (kept-start s h) (unfold opened in refl) (omega arith) in
-      (e, fair-whole s _ _ _ _ (kept-play s h (e .calls) (opened s) (kept-start s h) (e .allowed) .fair) (e .ended) .0)
+      let t = traces-exist s h (e .calls) (e .allowed) in
+      record {
+        start = t .start;
+        entries = t .entries;
+        trace = t .trace;
+        ended = ap (λ (cs : List Call). play s (opened s) cs .ended) (t .calls) ∙ e .ended;
+        joined-all =
+            ap (λ (cs : List Call). play s (opened s) cs .joined) (t .calls) ∙ fair-whole s _ _ _ _ (kept-list s h (e .calls) (e .allowed) .fair) (e .ended) .0;
+      }

@@ -1,18 +1,21 @@
 -- DEMAND 3: one claim over every list of calls.
-use mathlib.Core.Bool.{Bool, true, false}
+use mathlib.Core.Bool.{Bool, true, false, not, _&&_}
 use mathlib.Core.List.{List, [], _∷_, _++_}
 use mathlib.Core.Logic.{_⊎_, inl, inr}
 use mathlib.Core.Option.{Option, none, some}
 use mathlib.Core.Path.{_≡_, refl, sym, ap, _∙_, subst}
 use Prim.Native.Nat.{ℕ, zero, suc, _+_, _≤_, _<_}
 use native.Mathlib.Omega.{arith}
+use lib.Dec.{eqb}
 use lib.ListN.{length, take, drop}
 use lib.Seq.{take-at}
 use borrow.Author.Tests.{ltb-true}
 use Rattle.codepage.specs.CodePage.{pick}
 use Rattle.convert.specs.declared.Run.{Run}
+use Rattle.convert.specs.declared.Started.the-variants.{Accepted}
+use Rattle.engine.specs.Policies.{policyAllowed}
 use Rattle.convert.specs.declared.Outcome.{Outcome}
-use Rattle.convert.specs.Runs.{fresh}
+use Rattle.convert.specs.Runs.{fresh, Start, startOf, startedAs}
 use Rattle.convert.specs.Calls.{Called, numberOf, runCall, Answered}
 use Rattle.codepage.specs.Lent.{over}
 use Rattle.checkpoint.specs.declared.Written.{Written}
@@ -99,12 +102,12 @@ hand-next s m hand c r e ok w =
 
 -- ---- over the whole list
 module _ (s : Setting) (h : Proper s) where
-  record Over (m : Model) (hand : Run) (es : List Entry) : Type 0 where
-    agrees : AllAgree s m es
-    kept : Kept s (play s m (callsOf es))
-    in-hand : handAtEnd hand es ≡ play s m (callsOf es) .run
+  pub record Over (m : Model) (hand : Run) (es : List Entry) : Type 0 where
+    pub agrees : AllAgree s m es
+    pub kept : Kept s (play s m (callsOf es))
+    pub in-hand : handAtEnd hand es ≡ play s m (callsOf es) .run
 
-  over-list : (es : List Entry) (m : Model) (hand : Run) → hand ≡ m .run → Kept s m → AllAllowed s m (callsOf es) → AllMeet s hand es → Over m hand es
+  pub over-list : (es : List Entry) (m : Model) (hand : Run) → hand ≡ m .run → Kept s m → AllAllowed s m (callsOf es) → AllMeet s hand es → Over m hand es
   unfolding AllAgree AllAllowed AllMeet play handAtEnd
   over-list [] m hand e g ok w = record { agrees = tt; kept = g; in-hand = e }
   over-list (x ∷ es) m hand e g ok w =
@@ -175,24 +178,36 @@ behind-reading s hand es line behind run w at e q =
     let met : Meets s (there .0) (loading line) (at .reading .result) = subst (λ (c : Call). Meets s (there .0) c (at .reading .result)) (at .reads) (here .0) in
     subst (λ (r : Run). AllMeet s r behind) (hand-read s (there .0) (at .reading .result) line run e q met) (here .1)
 
+-- the run of an accepted start is the fresh one
+pub start-fresh : (s : Setting) (start : Run) → startedAs (Accepted start) ≡ startOf (s .direction) (s .page) (s .policy) → start ≡ fresh (s .direction) (s .page) (s .policy)
+unfolding startOf
+start-fresh s start e = by-test (not (eqb (s .page) 0) && policyAllowed (s .direction) (s .policy)) refl
+  where
+    by-test : (t : Bool) → (not (eqb (s .page) 0) && policyAllowed (s .direction) (s .policy)) ≡ t → start ≡ fresh (s .direction) (s .page) (s .policy)
+    by-test true q = let same : some start ≡ some (fresh (s .direction) (s .page) (s .policy)) = ap (λ (x : Start). x .run) e ∙ rw q in cc
+    by-test false q = let z : _≡_ {A = ℕ} 0 17 = ap (λ (x : Start). x .number) e ∙ rw q in absurd (omega arith)
+
 -- THE THEOREM: for every table set, good or bad, of the run's page or another, every text within the run limit, both
 -- directions, every accepted start, every list of calls that document 01 allows, and every trace of results that meets the
 -- contracts of the program's calls.
-pub every-trace : (s : Setting) → Proper s → (es : List Entry) → Trace s es → Demand3 s es
+pub every-trace : (s : Setting) → Proper s → (start : Run) (es : List Entry) → Trace s start es → Demand3 s start es
 unfolding opened
-every-trace s h es t =
-    let whole = over-list s h es (opened s) (fresh (s .direction) (s .page) (s .policy)) refl (kept-start s h) (t .allowed) (t .met) in
+every-trace s h start es t =
+    let whole = over-list s h es (opened s) start (start-fresh s start (t .started)) (kept-start s h) (t .allowed) (t .met) in
     let hand = whole .in-hand in
     let fair = whole .kept .fair in
     record {
       agrees = whole .agrees;
-      begins = fair-begins s _ _ _ _ fair;
-      read = ap (λ (r : Run). r .read) hand ∙ fair .read;
-      written = ap (λ (r : Run). r .written) hand ∙ fair .written;
-      ended = ap (λ (r : Run). r .ended) hand ∙ fair .end;
-      all-of-it = λ e.
-          let w = fair-whole s _ _ _ _ fair e in
-          (w .0, ap (λ (r : Run). r .flags) hand ∙ w .1, ap (λ (r : Run). r .read) hand ∙ w .2, ap (λ (r : Run). r .written) hand ∙ w .3);
+      at-end =
+          record {
+            begins = fair-begins s _ _ _ _ fair;
+            read = ap (λ (r : Run). r .read) hand ∙ fair .read;
+            written = ap (λ (r : Run). r .written) hand ∙ fair .written;
+            ended = ap (λ (r : Run). r .ended) hand ∙ fair .end;
+            all-of-it = λ e.
+                let w = fair-whole s _ _ _ _ fair e in
+                (w .0, ap (λ (r : Run). r .flags) hand ∙ w .1, ap (λ (r : Run). r .read) hand ∙ w .2, ap (λ (r : Run). r .written) hand ∙ w .3);
+          };
       second-reading = λ line n first second a b e alike.
           let run = run-of-line line e in
           same-for s n first second (run .0) (run .0) refl (behind-reading s _ es line first (run .0) (t .met) a e (run .1)) (behind-reading s _ es line second (run .0) (t .met) b e (run .1)) alike;

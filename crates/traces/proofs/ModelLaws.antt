@@ -323,9 +323,9 @@ front-of s run position joined ended f =
     let b = fair-begins s run position joined ended f in
     sym (ap (take (run .written)) (b .1) ∙ take-at joined (b .0) (run .written) (sym (f .written)))
 
--- ONE LINE, ONE NOTE: which of two writings of a line is meant makes no difference.
-pub notes-agree : (s : Setting) → Proper s → (n k : Note) → NoteFair s n → NoteFair s k → n .line ≡ k .line → (n .position ≡ k .position) × (n .joined ≡ k .joined) × (n .ended ≡ k .ended)
-notes-agree s h n k (a, la, f) (b, lb, g) e =
+-- Two fair notes beside one line agree.
+pub notes-alike : (s : Setting) → Proper s → (n k : Note) → NoteFair s n → NoteFair s k → n .line ≡ k .line → (n .position ≡ k .position) × (n .joined ≡ k .joined) × (n .ended ≡ k .ended)
+notes-alike s h n k (a, la, f) (b, lb, g) e =
     let same : a ≡ b =
     one-line-one-run a b (representable a (f .valid) (omega (arith, h .page, f .page)) (f .carried)) (f .valid) (representable b (g .valid) (omega (arith, h .page, g .page)) (g .carried)) (g .valid)
     (la ∙ e ∙ sym lb) in (

@@ -18,11 +18,7 @@ use Rattle.engine.specs.Engine.{Converter, limit, endless, Fed, halt, after, fe
 use Rattle.convert.specs.Calls.{pendingUnit, pendingCount, finalUnit, readOf, pendingAfter, endedAfter, runAfter, acceptedCall}
 use Rattle.engine.proofs.EngineLaws.{uncut, after-none, after-after, Cut, cut, Shape, shape-from, Waits, feed-wait, feed-end}
 use Rattle.codepage.proofs.ReadingLaws.{waitingUnits}
-use Rattle.convert.proofs.CallLaws.{pending-units}
-
--- a waiting unit or none, as a list
-abbrev pub pendingUnits : Pending → List ℕ
-pendingUnits pending = waitingUnits (pendingUnit pending)
+use Rattle.convert.proofs.CallLaws.{pending-units, pendingUnits, count-le-one, final-is}
 
 -- What a run on a text has done of the whole reading, with its joined output.
 pub record Reads (v : Converter) (text : List ℕ) (run : Run) (joined : List ℕ) : Type 0 where
@@ -39,20 +35,6 @@ pub fed-as-one : (v : Converter) (last : Bool) (room : ℕ) (pending : Pending) 
 unfolding feed
 fed-as-one v last room Nothing piece h = refl
 fed-as-one v last room (Byte byte) piece h = sym (feed-wait v last (limit room) byte piece h)
-
-count-le-one : (pending : Pending) → pendingCount pending ≤ 1
-count-le-one Nothing = omega arith
-count-le-one (Byte byte) = omega arith
-
--- the final unit is the last of what is pending and the piece
-final-is : (pending : Pending) (piece : List ℕ) (n : ℕ) → n + 1 ≡ length (pendingUnits pending ++ piece) → finalUnit pending piece ≡ Byte (getD (pendingUnits pending ++ piece) n 0)
-final-is Nothing [] n h = absurd (omega arith)
-final-is (Byte byte) [] n h =
-    let z : n ≡ 0 = omega arith in
-    rw z
-final-is Nothing (a ∷ piece) n h = final-is (Byte a) piece n h
-final-is (Byte byte) (a ∷ piece) zero h = absurd (omega arith)
-final-is (Byte byte) (a ∷ piece) (suc n) h = final-is (Byte a) piece n (omega arith)
 
 module _ (v : Converter) (text : List ℕ) (run : Run) (joined piece rest : List ℕ) (last : Bool) (room : ℕ) (g : Reads v text run joined) (going : run .ended ≡ false)
     (whole-piece : drop (run .read) text ≡ piece ++ rest) (to-end : last ≡ true → rest ≡ []) where

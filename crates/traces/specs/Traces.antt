@@ -10,7 +10,8 @@ use Rattle.engine.specs.declared.Direction.{Direction}
 use Rattle.engine.specs.declared.Direction.the-variants.{Decoding, Encoding}
 use Rattle.convert.specs.declared.Run.{Run}
 use Rattle.convert.specs.declared.Outcome.{Outcome}
-use Rattle.convert.specs.Runs.{readLimit, fresh, startOf}
+use Rattle.convert.specs.declared.Started.the-variants.{Accepted}
+use Rattle.convert.specs.Runs.{readLimit, startOf, startedAs}
 use Rattle.convert.specs.Calls.{numberOf, runCall, Answered}
 use Rattle.codepage.specs.Lent.{over}
 use Rattle.checkpoint.specs.declared.Written.{Written}
@@ -112,21 +113,24 @@ pub record ReadAt (es : List Entry) (line : List ℕ) (behind : List Entry) : Ty
   pub there : drop place es ≡ reading ∷ behind
   pub reads : reading .call ≡ loading line
 
--- THE CLAIM, of a list of calls as a whole.
-pub record Demand3 (s : Setting) (es : List Entry) : Type 0 where
-  -- each call has answered, read, written and returned what the model says
-  pub agrees : AllAgree s (opened s) es
+-- What holds at the end of a list, of the model and the run in hand.
+pub record AtEnd (s : Setting) (m : Model) (hand : Run) : Type 0 where
   -- the joined output is a beginning (none, some or all) of the whole reading's
-  pub begins : (ys : List ℕ) × (wholeOf s .output ≡ play s (opened s) (callsOf es) .joined ++ ys)
+  pub begins : (ys : List ℕ) × (wholeOf s .output ≡ m .joined ++ ys)
   -- the run in hand has the position as read total, the joined output's length as written total, and is ended exactly if the
   -- model says so
-  pub read : handAtEnd (fresh (s .direction) (s .page) (s .policy)) es .read ≡ play s (opened s) (callsOf es) .position
-  pub written : handAtEnd (fresh (s .direction) (s .page) (s .policy)) es .written ≡ length (play s (opened s) (callsOf es) .joined)
-  pub ended : handAtEnd (fresh (s .direction) (s .page) (s .policy)) es .ended ≡ play s (opened s) (callsOf es) .ended
+  pub read : hand .read ≡ m .position
+  pub written : hand .written ≡ length (m .joined)
+  pub ended : hand .ended ≡ m .ended
   -- if ended, joined output and the flags and totals of the run in hand equal those of the whole reading
-  pub all-of-it : play s (opened s) (callsOf es) .ended ≡ true
-      → (play s (opened s) (callsOf es) .joined ≡ wholeOf s .output) × (handAtEnd (fresh (s .direction) (s .page) (s .policy)) es .flags ≡ wholeOf s .flags)
-      × (handAtEnd (fresh (s .direction) (s .page) (s .policy)) es .read ≡ wholeOf s .used) × (handAtEnd (fresh (s .direction) (s .page) (s .policy)) es .written ≡ length (wholeOf s .output))
+  pub all-of-it : m .ended ≡ true
+      → (m .joined ≡ wholeOf s .output) × (hand .flags ≡ wholeOf s .flags) × (hand .read ≡ wholeOf s .used) × (hand .written ≡ length (wholeOf s .output))
+
+-- THE CLAIM, of a list of calls as a whole, which begins with the run `start` in hand.
+pub record Demand3 (s : Setting) (start : Run) (es : List Entry) : Type 0 where
+  -- each call has answered, read, written and returned what the model says
+  pub agrees : AllAgree s (opened s) es
+  pub at-end : AtEnd s (play s (opened s) (callsOf es)) (handAtEnd start es)
   -- where a line is read twice and the calls after each reading are alike, their answers, written output and runs are equal
   pub second-reading : (line : List ℕ) (n : ℕ) (first second : List Entry) → ReadAt es line first → ReadAt es line second → readOf line .number ≡ 0
       → AlikeFor n first second → SameFor n first second
@@ -148,7 +152,9 @@ pub record Proper (s : Setting) : Type 0 where
   pub units : AllBelow (2 ^ widthOf (s .direction)) (s .text)
   pub within : length (s .text) ≤ readLimit
 
--- A list of calls that the document allows, with results that meet the contracts.
-pub record Trace (s : Setting) (es : List Entry) : Type 0 where
+-- A list of calls that the document allows, from the run that `Run::start` returned, with results that meet the contracts.
+pub record Trace (s : Setting) (start : Run) (es : List Entry) : Type 0 where
+  -- the contract of `Run::start`, which answered with this run
+  pub started : startedAs (Accepted start) ≡ startOf (s .direction) (s .page) (s .policy)
   pub allowed : AllAllowed s (opened s) (callsOf es)
-  pub met : AllMeet s (fresh (s .direction) (s .page) (s .policy)) es
+  pub met : AllMeet s start es

@@ -1,0 +1,24 @@
+-- What a worked example of calls computes with, named once: `unfolding callRules` opens all of it.
+use Rattle.codepage.specs.CodePage.{isKnown, isSingle, isLead, isTrail, leads, leadsBelow, firstBad, badClass, badNumber, classFault, sizesFault, entriesFault, firstFault}
+use Rattle.codepage.specs.Lent.{over}
+use Rattle.codepage.specs.Reading.{lookup, byteAlone, bytePair, unitCode, bytesOf, decoder, encoder, completed, waitsThen, codesAtEnd, callCodes, waitingUnit, codes}
+use Rattle.engine.specs.Policies.{actionOf, policyAllowed}
+use Rattle.engine.specs.Engine.{effectOf, converter, fits, less, halt, after, stopAt, takeWhen, takeCode, takeCodes, feedFrom, whole}
+use Rattle.convert.specs.Runs.{validRun, startOf}
+use Rattle.convert.specs.Calls.{refusal, readOf, pendingAfter, endedAfter, runAfter, fedBy, acceptedCall, refusedCall, runCall}
+
+unfoldable pub shapeRules : Type 0
+unfolding isKnown isLead leads firstBad badClass badNumber classFault sizesFault entriesFault firstFault
+shapeRules = Unit {0}
+
+unfoldable pub readingRules : Type 0
+unfolding isSingle isLead isTrail leads leadsBelow lookup byteAlone bytePair unitCode bytesOf decoder encoder completed waitsThen codesAtEnd callCodes waitingUnit codes
+readingRules = Unit {0}
+
+unfoldable pub engineRules : Type 0
+unfolding readingRules actionOf policyAllowed effectOf converter fits less halt after stopAt takeWhen takeCode takeCodes feedFrom whole
+engineRules = Unit {0}
+
+unfoldable pub callRules : Type 0
+unfolding shapeRules engineRules over validRun startOf refusal readOf pendingAfter endedAfter runAfter fedBy acceptedCall refusedCall runCall
+callRules = Unit {0}
