@@ -56,12 +56,16 @@ int main(int argc, char **argv)
     bad.pending = 257;
     printf("pending 257: save %u, decode %u\n", till_save(bad, line, sizeof line).number,
         till_decode(bad, TABLES(&t), first, 1, 1, units, 8).number);
-    printf("last 2: encode %u\n", till_encode(start.run, TABLES(&t), text, 3, 2, bytes, 8).number);
+    o = till_encode(start.run, TABLES(&t), text, 3, 2, bytes, 8);
+    printf("last 2: encode %u, ended %u\n", o.number, o.run.ended);
     printf("room 3: save %u\n", till_save(start.run, line, 3).number);
     printf("page 0: start %u, page %u\n", till_start(TILL_DECODING, 0, 5, 5, 5).number, till_start(TILL_DECODING, 0, 5, 5, 5).run.page);
     printf("no line: load %u\n", till_load(line, 0).number);
     t.index[0xFF] = 200; /* there are 107 blocks */
     till_fault fault = till_shape(TABLES(&t));
     printf("index 200: shape %u at %zX\n", fault.number, fault.place);
+    bad = start.run;
+    bad.direction = 2; /* the shape is asked first */
+    printf("direction 2 and index 200: encode %u\n", till_encode(bad, TABLES(&t), text, 3, 1, bytes, 8).number);
     return 0;
 }

@@ -73,10 +73,10 @@ typedef struct {
 /* A fresh run: 0, or 17 if the direction is neither 0 nor 1, the page is 0 or a digit is not allowed. 5, 5, 5 is the standard policy. */
 till_handed till_start(uint8_t direction, uint16_t page, uint8_t single, uint8_t pair, uint8_t invalid);
 
-/* One call of a decoding run: bytes to UTF-16 units. last: 1 for the text's last piece, else 0. Answers 0 to 3 or 10 to 16. A run
- * whose direction, pending or ended is out of range, or a last above 1, is refused with 12 before all else. A refused call gives
- * back the run it was handed, reads and writes nothing, and leaves out as it was. After answer 2 call again with the rest of the
- * piece. */
+/* One call of a decoding run: bytes to UTF-16 units. last: 0, or any other number for the text's last piece. Answers 0 to 3 or 10 to
+ * 16, the refusals in that order; 12 is also the answer to a run whose direction, pending or ended is out of range. A refused call
+ * gives back the run it was handed, reads and writes nothing, and leaves out as it was. After answer 2 call again with the rest of
+ * the piece. */
 till_outcome till_decode(till_run run, TILL_TABLES, const uint8_t *piece, size_t piece_len, uint8_t last, uint16_t *out, size_t out_len);
 
 /* One call of an encoding run: UTF-16 units to bytes; as till_decode. */

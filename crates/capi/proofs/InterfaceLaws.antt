@@ -6,8 +6,8 @@ use Prim.Native.Nat.{ℕ, _<_, _≤_}
 use lib.Dec.{leb, ltb, eqb}
 use lib.ListN.{length}
 use native.Mathlib.Omega.{arith}
-use borrow.Author.Tests.{eqb-true, eqb-false, ltb-true, ltb-false, leb-true, lt-ltb}
-use Rattle.codepage.specs.CodePage.{CodePage, pick}
+use borrow.Author.Tests.{eqb-true, eqb-false, ltb-true, ltb-false, leb-true, lt-ltb, le-leb, ne-eqb}
+use Rattle.codepage.specs.CodePage.{CodePage, pick, firstFault, isGood}
 use Rattle.engine.specs.declared.Direction.{Direction}
 use Rattle.engine.specs.declared.Direction.the-variants.{Decoding, Encoding}
 use Rattle.codepage.specs.Lent.{over}
@@ -16,13 +16,15 @@ use Rattle.convert.specs.declared.Pending.{Pending}
 use Rattle.convert.specs.declared.Pending.the-variants.{Nothing, Byte}
 use Rattle.convert.specs.declared.Run.{Run}
 use Rattle.convert.specs.declared.Outcome.{Outcome}
-use Rattle.convert.specs.Calls.{runCall, Answered}
+use Rattle.convert.specs.Runs.{pieceLimit}
+use Rattle.convert.specs.Calls.{check, refusal, refusedCall, runCall, Answered}
+use Rattle.convert.proofs.RunLaws.{refused-same}
 use Rattle.checkpoint.specs.declared.Written.{Written}
 use Rattle.checkpoint.specs.Line.{writeOf, writtenAs, Saved, CarriedFits, Representable}
 use Rattle.capi.specs.declared.TillRun.{TillRun}
 use Rattle.capi.specs.declared.TillOutcome.{TillOutcome}
 use Rattle.capi.specs.declared.TillSaved.{TillSaved}
-use Rattle.capi.specs.Interface.{directionIn, directionOut, pendingIn, pendingOut, flagOut, isRun, runIn, runOut, tillCall, TillAnswered, outcomeOut, refusedOut, tillSave, TillSavedAs}
+use Rattle.capi.specs.Interface.{directionIn, directionOut, pendingIn, pendingOut, flagOut, isRun, runIn, runOut, TillCalled, calledOut, tillRefusal, tillRefused, isLast, tillCall, TillAnswered, outcomeOut, noRunRefusal, refusedOut, tillSave, TillSavedAs}
 
 -- ---- a run and its numbers
 direction-returns : (n : ℕ) → n ≤ 1 → directionOut (directionIn n) ≡ n
@@ -46,7 +48,7 @@ ended-returns n h = by-test (eqb n 1) refl
     by-test true e = omega (arith, eqb-true n 1 e)
     by-test false e = omega (arith, eqb-false n 1 e, h)
 
--- THE NUMBERS OF A RUN return: a refused call gives back the numbers that it was handed.
+-- THE NUMBERS OF A RUN return.
 pub numbers-return : (run : TillRun) → isRun run ≡ true → runOut (runIn run) ≡ run
 unfolding isRun runIn runOut
 numbers-return run e =
@@ -70,24 +72,81 @@ ended-named : (t : Bool) → eqb (flagOut t) 1 ≡ t
 ended-named true = refl
 ended-named false = refl
 
-pub run-returns : (run : Run) → Representable run → runIn (runOut run) ≡ run
-unfolding runIn runOut
-run-returns run fits = rw (direction-named (run .direction), pending-named (run .pending) (fits .pending), ended-named (run .ended))
+direction-is : (d : Direction) → leb (directionOut d) 1 ≡ true
+direction-is Decoding = refl
+direction-is Encoding = refl
+
+pending-is : (p : Pending) → CarriedFits p → leb (pendingOut p) 256 ≡ true
+pending-is Nothing h = refl
+pending-is (Byte byte) h = le-leb byte 256 (omega (arith, h))
+
+ended-is : (t : Bool) → leb (flagOut t) 1 ≡ true
+ended-is true = refl
+ended-is false = refl
+
+pub run-returns : (run : Run) → Representable run → (runIn (runOut run) ≡ run) × (isRun (runOut run) ≡ true)
+unfolding isRun runIn runOut
+run-returns run fits = (
+  rw (direction-named (run .direction), pending-named (run .pending) (fits .pending), ended-named (run .ended)),
+  rw (direction-is (run .direction), pending-is (run .pending) (fits .pending), ended-is (run .ended)),
+)
 
 -- ---- run calls
-module _ (direction : Direction) (run : TillRun) (p : CodePage) (piece : List ℕ) (last : ℕ) (before : List ℕ) where
-  pub refused-answered : (r : TillOutcome) → isRun run && leb last 1 ≡ false → r ≡ refusedOut run
-      → TillAnswered (tillCall direction run p piece last (length before)) r before before
-  unfolding tillCall refusedOut over
-  refused-answered r k e =
-      rw (k, e) (record { number = refl; read = refl; written = refl; run = refl; lent = refl })
 
-  pub call-answered : (inner : Run) (o : Outcome) (r : TillOutcome) (after : List ℕ) → isRun run && leb last 1 ≡ true → inner ≡ runIn run
-      → Answered (runCall direction inner p piece (eqb last 1) (length before)) o before after → r ≡ outcomeOut o
+-- the first two checks, made twice, are those made once
+checked-once : (shape size : Bool) (next : ℕ) → check 10 shape (check 11 size (check 10 shape (check 11 size next))) ≡ check 10 shape (check 11 size next)
+checked-once true true next = refl
+checked-once true false next = refl
+checked-once false size next = refl
+
+module _ (direction : Direction) (run : TillRun) (p : CodePage) (piece : List ℕ) (last : ℕ) (before : List ℕ) where
+  -- NUMBERS THAT NAME A RUN are refused as that run, with the same number.
+  pub refusal-named : isRun run ≡ true → tillRefusal direction run p (length piece) ≡ refusal direction (runIn run) p (length piece)
+  unfolding tillRefusal refusal
+  refusal-named k = rw k (checked-once (isGood (firstFault p)) (leb (length piece) pieceLimit) _)
+
+  -- A CALL ON THEM gives what that run's call gives.
+  pub call-named : isRun run ≡ true
+      → tillCall direction run p piece last (length before) ≡ calledOut (runCall direction (runIn run) p piece (isLast last) (length before))
+  unfolding tillCall refusedCall
+  call-named k = rw (refusal-named k) (by-test (eqb (refusal direction (runIn run) p (length piece)) 0) refl)
+    where
+      given : TillCalled
+      given = calledOut (runCall direction (runIn run) p piece (isLast last) (length before))
+
+      by-test : (t : Bool) → eqb (refusal direction (runIn run) p (length piece)) 0 ≡ t
+          → pick t given (tillRefused (refusal direction (runIn run) p (length piece)) run) ≡ given
+      by-test true e = refl
+      by-test false e = rw (refused-same direction (runIn run) p piece (isLast last) (length before) (eqb-false _ _ e), numbers-return run k)
+
+  -- A REFUSED CALL gives back the numbers it was handed, reads nothing and writes nothing.
+  pub refused-returns : (tillRefusal direction run p (length piece) ≡ 0 → ⊥)
+      → tillCall direction run p piece last (length before) ≡ tillRefused (tillRefusal direction run p (length piece)) run
+  unfolding tillCall
+  refused-returns h = rw (ne-eqb (tillRefusal direction run p (length piece)) 0 h)
+
+  no-run : isRun run ≡ false → tillRefusal direction run p (length piece) ≡ noRunRefusal p (length piece)
+  unfolding tillRefusal
+  no-run k = rw k
+
+  refused : (shape size : Bool) → check 10 shape (check 11 size 12) ≡ 0 → ⊥
+  refused true true e = omega arith
+  refused true false e = omega arith
+  refused false size e = omega arith
+
+  pub refused-answered : (number : ℕ) (r : TillOutcome) → isRun run ≡ false → number ≡ noRunRefusal p (length piece) → r ≡ refusedOut number run
+      → TillAnswered (tillCall direction run p piece last (length before)) r before before
+  unfolding refusedOut over
+  refused-answered number r k n e =
+      let h : tillRefusal direction run p (length piece) ≡ 0 → ⊥ = λ z. refused (isGood (firstFault p)) (leb (length piece) pieceLimit) (sym (no-run k) ∙ z) in
+      rw (refused-returns h, no-run k, e, n) (record { number = refl; read = refl; written = refl; run = refl; lent = refl })
+
+  pub call-answered : (inner : Run) (mark : Bool) (o : Outcome) (r : TillOutcome) (after : List ℕ) → isRun run ≡ true → inner ≡ runIn run
+      → mark ≡ isLast last → Answered (runCall direction inner p piece mark (length before)) o before after → r ≡ outcomeOut o
       → TillAnswered (tillCall direction run p piece last (length before)) r before after
-  unfolding tillCall outcomeOut
-  call-answered inner o r after k i a e =
-      rw (k, e, ← i) (record { number = a .number; read = a .read; written = a .written; run = ap runOut (a .run); lent = a .lent })
+  unfolding outcomeOut
+  call-answered inner mark o r after k i m a e =
+      rw (call-named k, e, ← i, ← m) (record { number = a .number; read = a .read; written = a .written; run = ap runOut (a .run); lent = a .lent })
 
 -- ---- line writing
 module _ (run : TillRun) (before : List ℕ) where

@@ -1,12 +1,12 @@
 -- The C interface: runs and answers as numbers, and what each exported call gives.
-use mathlib.Core.Bool.{Bool, true, false, _&&_}
+use mathlib.Core.Bool.{Bool, true, false, not, _&&_}
 use mathlib.Core.List.{List, []}
 use mathlib.Core.Option.{Option, none, some}
 use mathlib.Core.Path.{_≡_}
 use Prim.Native.Nat.{ℕ}
 use lib.Dec.{leb, ltb, eqb}
 use lib.ListN.{length}
-use Rattle.codepage.specs.CodePage.{CodePage, codePage, pick, firstFault}
+use Rattle.codepage.specs.CodePage.{CodePage, codePage, pick, firstFault, isGood}
 use Rattle.codepage.specs.declared.Numbers.{Numbers}
 use Rattle.codepage.specs.declared.Fault.{Fault}
 use Rattle.codepage.specs.declared.Fault.the-variants.{Good, Page, ClassesSize, SinglesSize, PairsSize, IndexSize, BlocksSize, Class, Lead, Number}
@@ -18,8 +18,8 @@ use Rattle.convert.specs.declared.Pending.{Pending}
 use Rattle.convert.specs.declared.Pending.the-variants.{Nothing, Byte}
 use Rattle.convert.specs.declared.Run.{Run}
 use Rattle.convert.specs.declared.Outcome.{Outcome}
-use Rattle.convert.specs.Runs.{Start, startOf}
-use Rattle.convert.specs.Calls.{Called, runCall, numberOf}
+use Rattle.convert.specs.Runs.{pieceLimit, Start, startOf}
+use Rattle.convert.specs.Calls.{Called, check, refusal, runCall, numberOf}
 use Rattle.checkpoint.specs.Line.{Saving, unwritten, writeOf, Loading, readOf}
 use Rattle.capi.specs.declared.TillRun.{TillRun}
 use Rattle.capi.specs.declared.TillOutcome.{TillOutcome}
@@ -104,11 +104,26 @@ pub record TillCalled : Type 0 where
 abbrev pub calledOut : Called → TillCalled
 calledOut c = record { number = c .number; read = c .read; output = c .output; run = runOut (c .run) }
 
--- Numbers of no run, and a mark that is neither 0 nor 1, are refused as a run that breaks the rules, before all else.
+-- A run call checks 10 to 16 in that order; numbers that name no run break the run rules, so 12 is their check. 0: it is accepted.
+unfoldable pub tillRefusal : Direction → TillRun → CodePage → (count : ℕ) → ℕ
+tillRefusal direction run p count =
+    check 10 (isGood (firstFault p))
+    (check 11 (leb count pieceLimit)
+    (check 12 (isRun run)
+    (refusal direction (runIn run) p count)))
+
+-- A refused run call gives back the numbers it was handed, read 0, written 0.
+abbrev pub tillRefused : ℕ → TillRun → TillCalled
+tillRefused number run = record { number = number; read = 0; output = []; run = run }
+
+-- Any mark but 0 is last.
+abbrev pub isLast : ℕ → Bool
+isLast last = not (eqb last 0)
+
 unfoldable pub tillCall : Direction → TillRun → CodePage → (piece : List ℕ) → (last : ℕ) → (room : ℕ) → TillCalled
 tillCall direction run p piece last room =
-    pick (isRun run && leb last 1) (calledOut (runCall direction (runIn run) p piece (eqb last 1) room))
-    (record { number = 12; read = 0; output = []; run = run })
+    pick (eqb (tillRefusal direction run p (length piece)) 0) (calledOut (runCall direction (runIn run) p piece (isLast last) room))
+    (tillRefused (tillRefusal direction run p (length piece)) run)
 
 -- The promise of a run call: c is what the rules give, r what it returns, and the lent output before and after.
 pub record TillAnswered (c : TillCalled) (r : TillOutcome) (before after : List ℕ) : Type 0 where
@@ -121,8 +136,12 @@ pub record TillAnswered (c : TillCalled) (r : TillOutcome) (before after : List 
 unfoldable pub outcomeOut : Outcome → TillOutcome
 outcomeOut o = record { run = runOut (o .run); read = o .read; written = o .written; number = numberOf (o .answer) }
 
-unfoldable pub refusedOut : TillRun → TillOutcome
-refusedOut run = record { run = run; read = 0; written = 0; number = 12 }
+-- the first check that fails where the numbers name no run
+abbrev pub noRunRefusal : CodePage → (count : ℕ) → ℕ
+noRunRefusal p count = check 10 (isGood (firstFault p)) (check 11 (leb count pieceLimit) 12)
+
+unfoldable pub refusedOut : ℕ → TillRun → TillOutcome
+refusedOut number run = record { run = run; read = 0; written = 0; number = number }
 
 -- ---- Start and the saved line
 

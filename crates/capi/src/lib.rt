@@ -1,14 +1,13 @@
 // The C interface: exported calls over numbers, slices and structs of numbers. bench/till.h is its header.
 ghost use mathlib.Core.Path.{_≡_};
-ghost use mathlib.Core.Bool.{Bool, _&&_};
+ghost use mathlib.Core.Bool.{Bool};
 ghost use Prim.Native.Nat.{ℕ};
-ghost use lib.Dec.{leb};
 ghost use lib.ListN.{length};
-ghost use Rattle.codepage.specs.CodePage.{firstFault};
+ghost use Rattle.codepage.specs.CodePage.{codePage, firstFault};
 ghost use Rattle.engine.specs.declared.Direction.the-variants.{Decoding, Encoding};
 ghost use Rattle.convert.specs.Runs.{startedAs};
 ghost use Rattle.checkpoint.specs.Line.{readOf, restoredAs, writtenAs};
-ghost use Rattle.capi.specs.Interface.{directionIn, directionOut, pendingIn, pendingOut, flagOut, isRun, runIn, runOut, noRun, tillPage, tillCall, TillAnswered, outcomeOut, refusedOut, startOut, tillStart, loadOut, tillSave, TillSavedAs, faultOut};
+ghost use Rattle.capi.specs.Interface.{directionIn, directionOut, pendingIn, pendingOut, flagOut, isRun, runIn, runOut, noRun, tillPage, isLast, tillCall, TillAnswered, outcomeOut, noRunRefusal, refusedOut, startOut, tillStart, loadOut, tillSave, TillSavedAs, faultOut};
 use checkpoint::Restored;
 use checkpoint::Written;
 use codepage::Fault;
@@ -78,14 +77,11 @@ fn is_run(run: TillRun) -> bool
     run.ended <= 1
 }
 
-// Whether a run call takes its numbers.
-fn is_call(run: TillRun, last: u8) -> bool
-    ensures { λ r. ⌜ r ≡ (isRun run && leb last 1) ⌝ }
+// Any mark but 0 is last.
+fn is_last(mark: u8) -> bool
+    ensures { λ r. ⌜ r ≡ isLast mark ⌝ }
 {
-    if !is_run(run) {
-        return false;
-    }
-    last <= 1
+    mark != 0
 }
 
 fn direction_in(number: u8) -> Direction
@@ -193,15 +189,37 @@ fn outcome_out(o: Outcome) -> TillOutcome
     }
 }
 
-// What a call answers whose numbers are not those of a run.
-fn refused_call(run: TillRun) -> TillOutcome
-    ensures { λ r. ⌜ r ≡ refusedOut run ⌝ }
+// The number that refuses a call on `count` units whose numbers name no run: 10, 11, 12 in that order, as of any run. A call
+// whose numbers name a run tests the shape itself.
+fn no_run_refusal(
+    numbers: Numbers,
+    classes: &[u8],
+    singles: &[u16],
+    pairs: &[u16],
+    index: &[u8],
+    blocks: &[u16],
+    count: usize,
+) -> u8
+    ensures { λ r. ⌜ r ≡ noRunRefusal (codePage numbers (now (classes .entry)) (now (singles .entry)) (now (pairs .entry)) (now (index .entry)) (now (blocks .entry))) count ⌝ }
+{
+    if !codepage::shape::good_shape(numbers, classes, singles, pairs, index, blocks) {
+        return 10;
+    }
+    if Run::PIECE_LIMIT < count {
+        return 11;
+    }
+    12
+}
+
+// What a refused call answers whose numbers name no run.
+fn refused_call(number: u8, run: TillRun) -> TillOutcome
+    ensures { λ r. ⌜ r ≡ refusedOut number run ⌝ }
 {
     TillOutcome {
         run,
         read: 0,
         written: 0,
-        number: 12,
+        number,
     }
 }
 
@@ -223,15 +241,16 @@ pub extern "C" fn till_decode(
 ) -> TillOutcome
     ensures { λ r. ⌜ TillAnswered (tillCall Decoding run (tillPage page «default_byte» «default_unit» (now (classes .entry)) (now (singles .entry)) (now (pairs .entry)) (now (index .entry)) (now (blocks .entry))) (now (piece .entry)) last (length (now (out .entry)))) r (now (out .entry)) (now (out .exit)) ⌝ }
 {
-    if !is_call(run, last) {
-        return refused_call(run);
-    }
-    let inner = run_in(run);
     let numbers = Numbers {
         page,
         default_byte,
         default_unit,
     };
+    if !is_run(run) {
+        let number = no_run_refusal(numbers, classes, singles, pairs, index, blocks, piece.len());
+        return refused_call(number, run);
+    }
+    let inner = run_in(run);
     let o = convert::decode(
         inner,
         numbers,
@@ -241,7 +260,7 @@ pub extern "C" fn till_decode(
         index,
         blocks,
         piece,
-        last == 1,
+        is_last(last),
         out,
     );
     outcome_out(o)
@@ -265,15 +284,16 @@ pub extern "C" fn till_encode(
 ) -> TillOutcome
     ensures { λ r. ⌜ TillAnswered (tillCall Encoding run (tillPage page «default_byte» «default_unit» (now (classes .entry)) (now (singles .entry)) (now (pairs .entry)) (now (index .entry)) (now (blocks .entry))) (now (piece .entry)) last (length (now (out .entry)))) r (now (out .entry)) (now (out .exit)) ⌝ }
 {
-    if !is_call(run, last) {
-        return refused_call(run);
-    }
-    let inner = run_in(run);
     let numbers = Numbers {
         page,
         default_byte,
         default_unit,
     };
+    if !is_run(run) {
+        let number = no_run_refusal(numbers, classes, singles, pairs, index, blocks, piece.len());
+        return refused_call(number, run);
+    }
+    let inner = run_in(run);
     let o = convert::encode(
         inner,
         numbers,
@@ -283,7 +303,7 @@ pub extern "C" fn till_encode(
         index,
         blocks,
         piece,
-        last == 1,
+        is_last(last),
         out,
     );
     outcome_out(o)

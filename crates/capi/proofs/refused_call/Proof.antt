@@ -5,7 +5,7 @@ use Rattle.capi.proofs.refused_call.Tie as tie
 use Rattle.capi.proofs.refused_call.Reads as reads
 use Rattle.capi.proofs.refused_call.Lts as lts
 
--- src/lib.rt:217:1
+-- src/lib.rt:208:1
 returns : tie.Need-returns
 unfolding refusedOut
 returns c = refl

@@ -1,33 +1,44 @@
 use Rattle.capi.proofs.InterfaceLaws.{refused-answered, call-answered}
 use Rattle.engine.specs.declared.Direction.the-variants.{Encoding}
-use mathlib.Core.Path.{_∙_, sym, refl}
+use mathlib.Core.Path.{_∙_, sym}
 use borrow.Author.Tests.{not-true, not-false}
 use borrow.Author.Needs.{needs}
 use Rattle.capi.proofs.till_encode.Statement.{statement}
 use Rattle.capi.proofs.till_encode.Tie as tie
 use Rattle.capi.proofs.till_encode.Reads as reads
 use Rattle.capi.proofs.till_encode.Lts as lts
-use Rattle.capi.proofs.is_call.Reads as is-call-reads
+use Rattle.capi.proofs.is_last.Reads as is-last-reads
+use Rattle.capi.proofs.is_run.Reads as is-run-reads
+use Rattle.capi.proofs.no_run_refusal.Reads as no-run-refusal-reads
 use Rattle.capi.proofs.outcome_out.Reads as outcome-out-reads
 use Rattle.capi.proofs.refused_call.Reads as refused-call-reads
 use Rattle.capi.proofs.run_in.Reads as run-in-reads
 use Rattle.convert.proofs.encode.Reads as encode-reads
 
--- src/lib.rt:288:9
-is-call-requires : tie.Need-is-call-requires
-is-call-requires c κs = search needs
+-- src/lib.rt:292:9
+is-run-requires : tie.Need-is-run-requires
+is-run-requires c κs = search needs
 
--- src/lib.rt:289:9
+-- src/lib.rt:293:13
+no-run-refusal-requires : tie.Need-no-run-refusal-requires
+no-run-refusal-requires c κs = search needs
+
+-- src/lib.rt:294:9
 refused-call-requires : tie.Need-refused-call-requires
 refused-call-requires c κs = search needs
 
--- src/lib.rt:289:9
+-- src/lib.rt:294:9
 returns : tie.Need-returns
-returns c = refused-answered Encoding _ _ _ _ _ _ (sym (c .before .before .is-call .ensures) ∙ not-true _ (c .before .if1 .taken)) (c .refused-call .ensures)
+returns c =
+    refused-answered Encoding _ _ _ _ _ _ _ (sym (c .before .before .before .is-run .ensures) ∙ not-true _ (c .before .before .if1 .taken)) (c .before .no-run-refusal .ensures) (c .refused-call .ensures)
 
--- src/lib.rt:291:9
+-- src/lib.rt:296:9
 run-in-requires : tie.Need-run-in-requires
 run-in-requires c κs = search needs
+
+-- src/lib.rt:306:9
+is-last-requires : tie.Need-is-last-requires
+is-last-requires c κs = search needs
 
 -- src/lib.rt:297:9
 encode-requires : tie.Need-encode-requires
@@ -37,22 +48,27 @@ encode-requires c κs = search needs
 outcome-out-requires : tie.Need-outcome-out-requires
 outcome-out-requires c κs = search needs
 
--- src/lib.rt:271:1
+-- src/lib.rt:270:1
 same-length : tie.Need-same-length
 same-length c = search needs
 
--- src/lib.rt:271:1
+-- src/lib.rt:270:1
 returns-2 : tie.Need-returns-2
-returns-2 c = call-answered Encoding _ _ _ _ _ _ _ _ _ (sym (c .before .before .before .before .before .before .before .is-call .ensures) ∙ not-false _ (c .before .before .before .before .before .before .if1 .left)) (c .before .before .before .before .before .run-in .ensures) (c .before .before .before .encode .ensures) (c .outcome-out .ensures)
+returns-2 c =
+    let found = c .before .before .before .before .before .before in
+    call-answered Encoding _ _ _ _ _ _ _ _ _ _ (sym (found .before .before .is-run .ensures) ∙ not-false _ (found .before .if1 .left)) (found .run-in .ensures)
+    (c .before .before .before .before .before .is-last .ensures) (c .before .before .before .encode .ensures) (c .outcome-out .ensures)
 
 pub till-encode-spec : {M : Type 1} → statement M
 till-encode-spec =
     tie.close
     (tie.spec
-    is-call-requires
+    is-run-requires
+    no-run-refusal-requires
     refused-call-requires
     returns
     run-in-requires
+    is-last-requires
     encode-requires
     outcome-out-requires
     same-length
