@@ -3,7 +3,6 @@
 use checkpoint::Written;
 use codepage::Fault;
 use convert::Outcome;
-use oneshot::Converted;
 use oneshot::Counted;
 use oneshot::Totals;
 use script::texts;
@@ -93,65 +92,28 @@ pub fn put_counted(counted: Counted, out: &mut [u8], at: usize) -> usize {
     }
 }
 
-// What the one-go call answered: the number, and the totals or that there are none.
-struct Report {
-    number: u64,
-    accepted: bool,
-    totals: Totals,
-}
-
-fn accepted(number: u64, totals: Totals) -> Report {
-    Report {
-        number,
-        accepted: true,
-        totals,
-    }
-}
-
-fn refused(number: u64) -> Report {
-    let totals = Totals {
-        flags: 0,
-        read: 0,
-        written: 0,
-    };
-    Report {
-        number,
-        accepted: false,
-        totals,
-    }
-}
-
-fn report_of(converted: Converted) -> Report {
-    match converted {
-        Converted::All(totals) => accepted(0, totals),
-        Converted::OutputFull(totals) => accepted(2, totals),
-        Converted::Stopped(totals) => accepted(3, totals),
-        Converted::BadPolicy => refused(17),
-        Converted::BadShape => refused(10),
-        Converted::TooLong => refused(11),
-    }
-}
-
-pub fn put_decoded(converted: Converted, room: &[u16], out: &mut [u8], at: usize) -> usize {
-    let report = report_of(converted);
-    let totals = report.totals;
+// The word, the number and, where it is no refusal, flags, read and written of the one-go call.
+fn put_converted(number: u8, totals: Totals, out: &mut [u8], at: usize) -> usize {
     let end = print::put(b"convert", out, at);
-    if report.accepted {
-        let end = put_totals(report.number, totals, out, end);
-        return put_units(room, totals.written, out, end);
+    if 10 <= number {
+        return print::put_number(number as u64, out, end);
     }
-    let end = print::put_number(report.number, out, end);
-    print::put_kept(texts::kept_units(room, 0), out, end)
+    put_totals(number as u64, totals, out, end)
 }
 
-pub fn put_encoded(converted: Converted, room: &[u8], out: &mut [u8], at: usize) -> usize {
-    let report = report_of(converted);
-    let totals = report.totals;
-    let end = print::put(b"convert", out, at);
-    if report.accepted {
-        let end = put_totals(report.number, totals, out, end);
-        return put_bytes(room, totals.written, out, end);
+// What the one-go call answered, with the filled part of a call that was not refused.
+pub fn put_decoded(number: u8, totals: Totals, part: &[u16], out: &mut [u8], at: usize) -> usize {
+    let end = put_converted(number, totals, out, at);
+    if 10 <= number {
+        return end;
     }
-    let end = print::put_number(report.number, out, end);
-    print::put_kept(texts::kept_bytes(room, 0), out, end)
+    print::put_hex_units(part, out, end)
+}
+
+pub fn put_encoded(number: u8, totals: Totals, part: &[u8], out: &mut [u8], at: usize) -> usize {
+    let end = put_converted(number, totals, out, at);
+    if 10 <= number {
+        return end;
+    }
+    print::put_hex_bytes(part, out, end)
 }

@@ -4,6 +4,7 @@ use codepage::Numbers;
 use convert::Direction;
 use convert::Policy;
 use oneshot::Counted;
+use oneshot::Totals;
 use script::state::Next;
 use script::state::State;
 use script::texts;
@@ -140,6 +141,7 @@ pub fn count(
     }
 }
 
+// Decodes a text into room that is filled before, and looks at the rest of the room when the part is used.
 fn decode_text(
     policy: Policy,
     numbers: Numbers,
@@ -154,7 +156,10 @@ fn decode_text(
     at: usize,
 ) -> usize {
     texts::fill_units(room);
-    let converted = oneshot::decode_text(
+    let mut number = 0;
+    let mut flags = 0;
+    let mut read = 0;
+    let part = oneshot::decode_filled(
         policy,
         numbers,
         classes,
@@ -163,9 +168,19 @@ fn decode_text(
         index,
         blocks,
         text,
+        &mut number,
+        &mut flags,
+        &mut read,
         room,
     );
-    let end = answers::put_decoded(converted, room, out, at);
+    let written = part.len();
+    let totals = Totals {
+        flags,
+        read,
+        written,
+    };
+    let end = answers::put_decoded(number, totals, part, out, at);
+    let end = print::put_kept(texts::kept_units(room, written), out, end);
     print::put_end(out, end)
 }
 
@@ -183,7 +198,10 @@ fn encode_text(
     at: usize,
 ) -> usize {
     texts::fill_bytes(room);
-    let converted = oneshot::encode_text(
+    let mut number = 0;
+    let mut flags = 0;
+    let mut read = 0;
+    let part = oneshot::encode_filled(
         policy,
         numbers,
         classes,
@@ -192,9 +210,19 @@ fn encode_text(
         index,
         blocks,
         text,
+        &mut number,
+        &mut flags,
+        &mut read,
         room,
     );
-    let end = answers::put_encoded(converted, room, out, at);
+    let written = part.len();
+    let totals = Totals {
+        flags,
+        read,
+        written,
+    };
+    let end = answers::put_encoded(number, totals, part, out, at);
+    let end = print::put_kept(texts::kept_bytes(room, written), out, end);
     print::put_end(out, end)
 }
 

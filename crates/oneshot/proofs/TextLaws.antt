@@ -8,6 +8,7 @@ use Prim.Native.Nat.{ℕ, zero, suc, _+_, _*_, _≤_}
 use native.Mathlib.Omega.{arith}
 use lib.Dec.{leb, eqb}
 use lib.ListN.{length, take, drop}
+use denote.Ref.{RefT, ptr, now}
 use lib.Seq.{take-at}
 use borrow.Author.Tests.{leb-true, eq-eqb, ne-eqb}
 use Rattle.codepage.specs.CodePage.{CodePage, pick, entry, GoodShape, firstFault, isGood}
@@ -26,7 +27,7 @@ use Rattle.convert.specs.Runs.{pieceLimit}
 use Rattle.convert.specs.Calls.{check}
 use Rattle.codepage.specs.Lent.{over}
 use Rattle.engine.specs.Engine.{converterOf}
-use Rattle.oneshot.specs.Texts.{textRefusal, Text, acceptedText, refusedText, textFed, textOf, countedNumber, countedTotals, convertedNumber, convertedTotals, totalsOrNone, CountedAs, ConvertedAs}
+use Rattle.oneshot.specs.Texts.{textRefusal, Text, acceptedText, refusedText, textFed, textOf, countedNumber, countedTotals, convertedNumber, convertedTotals, totalsOrNone, CountedAs, ConvertedAs, FilledAs}
 use Rattle.oneshot.specs.Steps.{totalsBy}
 use Rattle.engine.specs.Steps.{summary, DecodeSizes}
 use Rattle.engine.proofs.EngineLaws.{shape-from}
@@ -163,12 +164,31 @@ module _ (direction : Direction) (policy : Policy) (p : CodePage) (text : List �
       by-test false = refl
 
 -- the filled part is what was written
-pub filled-is : (t : Text) (r : Converted) (before after : List ℕ) → ConvertedAs t r before after → totalsOrNone (t .totals) .written ≡ length (t .output) → (n : ℕ) → n ≡ totalsOrNone (convertedTotals r) .written
-    → take n after ≡ t .output
-unfolding over
-filled-is t r before after w e n q =
-    rw (w .lent) (take-at (t .output) (drop (length (t .output)) before) n (sym (q ∙ ap (λ (o : Option Totals). totalsOrNone o .written) (w .totals) ∙ e)))
+module _ (direction : Direction) (policy : Policy) (p : CodePage) (text : List ℕ) (before after : List ℕ) (r : Converted)
+    (done : ConvertedAs (textOf direction policy p (limit (length before)) text) r before after) (totals : Totals) (known : totals ≡ totalsOrNone (convertedTotals r)) where
+  abbrev given : Text
+  given = textOf direction policy p (limit (length before)) text
 
-pub filled-count : (t : Text) (r : Converted) (before after : List ℕ) → ConvertedAs t r before after → totalsOrNone (t .totals) .written ≡ length (t .output) → (n : ℕ) → n ≡ totalsOrNone (convertedTotals r) .written
-    → n ≡ length (take n after)
-filled-count t r before after w e n q = q ∙ ap (λ (o : Option Totals). totalsOrNone o .written) (w .totals) ∙ e ∙ sym (ap length (filled-is t r before after w e n q))
+  totals-are : totals ≡ totalsOrNone (given .totals)
+  totals-are = known ∙ ap totalsOrNone (done .totals)
+
+  count-is : totals .written ≡ length (given .output)
+  count-is = ap (λ (x : Totals). x .written) totals-are ∙ written-is direction policy p text (limit (length before))
+
+  front-is : take (totals .written) after ≡ given .output
+  unfolding over
+  front-is = rw (done .lent) (take-at (given .output) (drop (length (given .output)) before) (totals .written) (sym count-is))
+
+  pub filled-count : totals .written ≡ length (take (totals .written) after)
+  filled-count = count-is ∙ sym (ap length front-is)
+
+  pub filled-as : (lent part : RefT (List ℕ)) (number : ℕ) → ptr part ≡ ptr lent → now part ≡ take (totals .written) after → number ≡ convertedNumber r
+      → FilledAs given lent part number (totals .flags) (totals .read)
+  filled-as lent part number place front n =
+      record {
+        front = place;
+        output = front ∙ front-is;
+        number = n ∙ done .number;
+        flags = ap (λ (x : Totals). x .flags) totals-are;
+        read = ap (λ (x : Totals). x .read) totals-are;
+      }

@@ -6,6 +6,7 @@ use mathlib.Core.Path.{_≡_}
 use Prim.Native.Nat.{ℕ}
 use lib.Dec.{leb, eqb}
 use lib.ListN.{length}
+use denote.Ref.{RefT, ptr, now}
 use Rattle.codepage.specs.CodePage.{CodePage, pick, firstFault, isGood}
 use Rattle.engine.specs.declared.Direction.{Direction}
 use Rattle.engine.specs.declared.Policy.{Policy}
@@ -99,3 +100,12 @@ pub record ConvertedAs (t : Text) (r : Converted) (before after : List ℕ) : Ty
   pub number : convertedNumber r ≡ t .number
   pub totals : convertedTotals r ≡ t .totals
   pub lent : after ≡ over before (t .output)
+
+-- The promise of the one-go call that hands back the filled part: t is what the rules give, lent the lent output before the call,
+-- part its front that is handed back, and n, f, u the number, flags and units read. Of a refusal flags and read are 0.
+pub record FilledAs (t : Text) (lent part : RefT (List ℕ)) (n f u : ℕ) : Type 0 where
+  pub front : ptr part ≡ ptr lent
+  pub output : now part ≡ t .output
+  pub number : n ≡ t .number
+  pub flags : f ≡ totalsOrNone (t .totals) .flags
+  pub read : u ≡ totalsOrNone (t .totals) .read

@@ -6,7 +6,7 @@ ghost use Prim.Native.Nat.{ℕ, _≤_};
 ghost use lib.ListN.{length};
 ghost use Rattle.codepage.specs.CodePage.{codePage};
 ghost use Rattle.engine.specs.declared.Direction.the-variants.{Decoding, Encoding};
-ghost use Rattle.oneshot.specs.Texts.{textRefusal, countOf, convertOf, countedNumber, countedTotals, convertedNumber, convertedTotals, totalsOrNone, CountedAs, ConvertedAs};
+ghost use Rattle.oneshot.specs.Texts.{textRefusal, countOf, convertOf, countedNumber, countedTotals, convertedNumber, convertedTotals, totalsOrNone, CountedAs, ConvertedAs, FilledAs};
 ghost use Rattle.oneshot.specs.Steps.{totalsBy};
 use codepage::Numbers;
 use convert::Run;
@@ -329,10 +329,7 @@ pub fn decode_filled<'a>(
     read: &mut usize,
     out: &'a mut [u16],
 ) -> &'a mut [u16]
-    ensures { λ r. ⌜ now r ≡ convertOf Decoding policy (codePage numbers (now (classes .entry)) (now (singles .entry)) (now (pairs .entry)) (now (index .entry)) (now (blocks .entry))) (now (text .entry)) (length (now (out .entry))) .output ⌝ }
-    ensures { λ _. ⌜ now (number .exit) ≡ convertOf Decoding policy (codePage numbers (now (classes .entry)) (now (singles .entry)) (now (pairs .entry)) (now (index .entry)) (now (blocks .entry))) (now (text .entry)) (length (now (out .entry))) .number ⌝ }
-    ensures { λ _. ⌜ now (flags .exit) ≡ totalsOrNone (convertOf Decoding policy (codePage numbers (now (classes .entry)) (now (singles .entry)) (now (pairs .entry)) (now (index .entry)) (now (blocks .entry))) (now (text .entry)) (length (now (out .entry))) .totals) .flags ⌝ }
-    ensures { λ _. ⌜ now (read .exit) ≡ totalsOrNone (convertOf Decoding policy (codePage numbers (now (classes .entry)) (now (singles .entry)) (now (pairs .entry)) (now (index .entry)) (now (blocks .entry))) (now (text .entry)) (length (now (out .entry))) .totals) .read ⌝ }
+    ensures { λ r. ⌜ FilledAs (convertOf Decoding policy (codePage numbers (now (classes .entry)) (now (singles .entry)) (now (pairs .entry)) (now (index .entry)) (now (blocks .entry))) (now (text .entry)) (length (now (out .entry)))) (out .entry) r (now (number .exit)) (now (flags .exit)) (now (read .exit)) ⌝ }
 {
     let answer = decode_text(
         policy,
@@ -368,10 +365,7 @@ pub fn encode_filled<'a>(
     read: &mut usize,
     out: &'a mut [u8],
 ) -> &'a mut [u8]
-    ensures { λ r. ⌜ now r ≡ convertOf Encoding policy (codePage numbers (now (classes .entry)) (now (singles .entry)) (now (pairs .entry)) (now (index .entry)) (now (blocks .entry))) (now (text .entry)) (length (now (out .entry))) .output ⌝ }
-    ensures { λ _. ⌜ now (number .exit) ≡ convertOf Encoding policy (codePage numbers (now (classes .entry)) (now (singles .entry)) (now (pairs .entry)) (now (index .entry)) (now (blocks .entry))) (now (text .entry)) (length (now (out .entry))) .number ⌝ }
-    ensures { λ _. ⌜ now (flags .exit) ≡ totalsOrNone (convertOf Encoding policy (codePage numbers (now (classes .entry)) (now (singles .entry)) (now (pairs .entry)) (now (index .entry)) (now (blocks .entry))) (now (text .entry)) (length (now (out .entry))) .totals) .flags ⌝ }
-    ensures { λ _. ⌜ now (read .exit) ≡ totalsOrNone (convertOf Encoding policy (codePage numbers (now (classes .entry)) (now (singles .entry)) (now (pairs .entry)) (now (index .entry)) (now (blocks .entry))) (now (text .entry)) (length (now (out .entry))) .totals) .read ⌝ }
+    ensures { λ r. ⌜ FilledAs (convertOf Encoding policy (codePage numbers (now (classes .entry)) (now (singles .entry)) (now (pairs .entry)) (now (index .entry)) (now (blocks .entry))) (now (text .entry)) (length (now (out .entry)))) (out .entry) r (now (number .exit)) (now (flags .exit)) (now (read .exit)) ⌝ }
 {
     let answer = encode_text(
         policy,
