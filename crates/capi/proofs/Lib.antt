@@ -1,1 +1,2 @@
 pub mod InterfaceLaws
+pub mod EveryList

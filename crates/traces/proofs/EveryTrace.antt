@@ -95,7 +95,7 @@ next-run s m c ok =
     pick-run (isAccepted (says s (m .run) c .number)) m (acceptedBy m c (says s (m .run) c))
     ∙ pick-same (isAccepted (says s (m .run) c .number)) _ _ (accepted-run s m c ok) (m .run)
 
-hand-next : (s : Setting) (m : Model) (hand : Run) (c : Call) (r : Result) → hand ≡ m .run → Allowed s m c → Meets s hand c r → handAfter hand r ≡ next s m c .run
+pub hand-next : (s : Setting) (m : Model) (hand : Run) (c : Call) (r : Result) → hand ≡ m .run → Allowed s m c → Meets s hand c r → handAfter hand r ≡ next s m c .run
 unfolding handAfter
 hand-next s m hand c r e ok w =
     ap (handBy hand) (meets-says s hand c r w) ∙ ap (λ (x : Run). handBy x (says s x c)) e ∙ sym (next-run s m c ok)
