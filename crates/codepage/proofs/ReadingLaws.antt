@@ -5,7 +5,7 @@ use mathlib.Core.Option.{Option, none, some}
 use mathlib.Core.Path.{_≡_, refl, sym, ap, _∙_}
 use Prim.Native.Nat.{ℕ, _+_}
 use lib.ListN.{length, length-append}
-use Rattle.codepage.specs.Reading.{Reader, Code, unitsOf, sizeOf, alone, together, completed, waitsThen, codesAtEnd, callCodes, waitingUnit}
+use Rattle.codepage.specs.Reading.{Reader, Code, unitsOf, sizeOf, alone, together, completed, waitsThen, codesAtEnd, callCodes, waitingUnit, waitingUnits}
 
 -- ---- one unit more: it waits, it is a code alone, or it completes one
 module _ (r : Reader) (last : Bool) where
@@ -53,11 +53,6 @@ module _ (r : Reader) (P : Option ℕ → List ℕ → Type 0) (s : EachUnit r P
   by-units (some c) (b ∷ l) = s .two c b l (by-units none l)
 
 -- ---- the codes cover the units
--- a waiting unit or none, as a list
-abbrev pub waitingUnits : Option ℕ → List ℕ
-waitingUnits none = []
-waitingUnits (some c) = c ∷ []
-
 abbrev pub joined : List Code → List ℕ
 joined [] = []
 joined (k ∷ ks) = unitsOf k ++ joined ks

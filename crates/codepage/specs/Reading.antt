@@ -113,6 +113,11 @@ unfoldable pub waitingUnit : Reader → (last : Bool) → Option ℕ → List �
 waitingUnit r last pending [] = pick last none pending
 waitingUnit r last pending (a ∷ units) = waitingUnit r last (waitsThen r pending a) units
 
+-- a waiting unit or none, as a list
+abbrev pub waitingUnits : Option ℕ → List ℕ
+waitingUnits none = []
+waitingUnits (some c) = c ∷ []
+
 -- The codes of a text, one after the other.
 unfoldable pub codes : Reader → List ℕ → List Code
 codes r text = callCodes r true none text

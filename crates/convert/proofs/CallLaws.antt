@@ -9,7 +9,7 @@ use lib.Dec.{leb, ltb, eqb}
 use lib.ListN.{length, getD, drop, length-append, length-drop, List·getD-eq-default}
 use lib.Bits.{bitOr}
 use Rattle.codepage.specs.CodePage.{CodePage, pick, entry, isLead, GoodShape, firstFault, isGood}
-use Rattle.codepage.specs.Reading.{decoder, encoder}
+use Rattle.codepage.specs.Reading.{decoder, encoder, waitingUnits}
 use Rattle.codepage.proofs.ShapeLaws.{shape-exact}
 use Rattle.engine.specs.declared.Direction.{Direction}
 use Rattle.engine.specs.declared.Direction.the-variants.{Decoding, Encoding}
@@ -29,7 +29,6 @@ use Rattle.engine.specs.Engine.{converterOf}
 use Rattle.convert.specs.Steps.{hasPending, pendingByte, Finished, Refused}
 use Rattle.engine.specs.Steps.{summary, DecodeSizes, optional, decodeFed, encodeFed}
 use Rattle.engine.proofs.EngineLaws.{Waits, Shape, shape-from}
-use Rattle.codepage.proofs.ReadingLaws.{waitingUnits}
 use Rattle.engine.proofs.EncodeLaws.{encoder-waits}
 use Rattle.engine.proofs.EffectLaws.{and-left, and-right}
 

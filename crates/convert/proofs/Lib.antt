@@ -1,4 +1,5 @@
 pub mod CallLaws
+pub mod CallNeeds
 pub mod RunLaws
 pub mod RuleLaws
 pub mod RefusalLaws

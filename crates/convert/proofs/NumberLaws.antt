@@ -10,8 +10,8 @@ use lib.Dec.{eqb}
 use lib.ListN.{length, getD, length-append}
 use borrow.Author.Tests.{eqb-true, eqb-false, eq-eqb, ne-eqb}
 use Rattle.codepage.specs.CodePage.{CodePage, pick}
-use Rattle.codepage.specs.Reading.{Reader, Code, sizeOf, codesAtEnd, callCodes, waitingUnit}
-use Rattle.codepage.proofs.ReadingLaws.{waitingUnits, sizesOf, sizes-cover}
+use Rattle.codepage.specs.Reading.{Reader, Code, sizeOf, codesAtEnd, callCodes, waitingUnit, waitingUnits}
+use Rattle.codepage.proofs.ReadingLaws.{sizesOf, sizes-cover}
 use Rattle.engine.specs.declared.Direction.{Direction}
 use Rattle.engine.specs.Engine.{Converter, converter, converterOf, readerOf, limit, Fed, atEnd}
 use Rattle.engine.proofs.EngineLaws.{Shape}

@@ -9,8 +9,8 @@ use lib.Dec.{leb, eqb}
 use lib.Bits.{or-zero-l}
 use borrow.Author.Tests.{eqb-true}
 use Rattle.codepage.specs.CodePage.{CodePage, pick, entry, isSingle, isLead}
-use Rattle.codepage.specs.Reading.{byteAlone, bytesOf, Reader, decoder, encoder, Code, unitsOf, sizeOf, alone, together, completed, waitsThen, codesAtEnd, callCodes, codes}
-use Rattle.codepage.proofs.ReadingLaws.{waitingUnits, codes-wait, codes-one, codes-two, none-waits, joined, covers}
+use Rattle.codepage.specs.Reading.{byteAlone, bytesOf, Reader, decoder, encoder, Code, unitsOf, sizeOf, alone, together, completed, waitsThen, codesAtEnd, callCodes, codes, waitingUnits}
+use Rattle.codepage.proofs.ReadingLaws.{codes-wait, codes-one, codes-two, none-waits, joined, covers}
 use Rattle.codepage.specs.declared.Kind.the-variants.{Invalid}
 use Rattle.codepage.specs.declared.Lookup.the-variants.{Found, Lacking}
 use Rattle.engine.specs.declared.Direction.the-variants.{Decoding, Encoding}

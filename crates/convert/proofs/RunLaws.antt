@@ -11,6 +11,7 @@ use lib.Dec.{leb, ltb, eqb}
 use lib.ListN.{length, length-append}
 use lib.Bits.{bitOr, or-lt}
 use borrow.Author.Tests.{eqb-true, eqb-false, ltb-true, ltb-false, leb-true, eq-eqb, ne-eqb, lt-ltb, le-ltb, not-true}
+use Rattle.codepage.specs.Reading.{waitingUnits}
 use Rattle.codepage.specs.CodePage.{CodePage, pick}
 use Rattle.engine.specs.declared.Direction.{Direction}
 use Rattle.engine.specs.declared.Direction.the-variants.{Decoding, Encoding}
@@ -25,7 +26,6 @@ use Rattle.convert.specs.Calls.{refusal, pendingUnit, pendingCount, fina
 use Rattle.engine.specs.Engine.{converterOf}
 use Rattle.engine.proofs.EffectLaws.{and-left, and-right}
 use Rattle.engine.proofs.EngineLaws.{Shape}
-use Rattle.codepage.proofs.ReadingLaws.{waitingUnits}
 use Rattle.engine.proofs.EncodeLaws.{encoder-waits}
 use Rattle.engine.proofs.BoundLaws.{Kept, kept-from, reads, widest, bounded-of}
 use Rattle.convert.proofs.CallLaws.{Valid, valid-facts, valid-of, Accepted, accepted-facts, pending-units, encoding-pending, feed-shape, read-le}

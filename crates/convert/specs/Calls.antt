@@ -8,6 +8,7 @@ use lib.Dec.{leb, eqb}
 use lib.ListN.{length}
 use lib.Bits.{bitOr}
 use Rattle.codepage.specs.CodePage.{CodePage, pick, entry, isLead, firstFault, isGood}
+use Rattle.codepage.specs.Reading.{waitingUnits}
 use Rattle.engine.specs.declared.Direction.{Direction}
 use Rattle.engine.specs.declared.Direction.the-variants.{Decoding, Encoding}
 use Rattle.engine.specs.declared.Policy.{Policy}
@@ -69,13 +70,14 @@ pub record Called : Type 0 where
   pub output : List ℕ
   pub run : Run
 
+-- What is pending as a unit that waits. All that a call does with it goes through this.
 abbrev pub pendingUnit : Pending → Option ℕ
 pendingUnit Nothing = none
 pendingUnit (Byte byte) = some byte
 
+-- how many units are pending
 abbrev pub pendingCount : Pending → ℕ
-pendingCount Nothing = 0
-pendingCount (Byte byte) = 1
+pendingCount pending = length (waitingUnits (pendingUnit pending))
 
 -- the final unit: the piece's or, where it is empty, the one that was pending
 abbrev pub finalUnit : Pending → List ℕ → Pending

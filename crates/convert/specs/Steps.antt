@@ -1,22 +1,28 @@
 -- Definitions that the private functions' contracts cite, and that no promise does.
 use mathlib.Core.Bool.{Bool, true, false}
+use mathlib.Core.Option.{Option, none, some}
 use mathlib.Core.Path.{_≡_}
 use Prim.Native.Nat.{ℕ}
 use Rattle.engine.specs.declared.progress.Progress.{Progress}
 use Rattle.convert.specs.declared.Pending.{Pending}
-use Rattle.convert.specs.declared.Pending.the-variants.{Nothing, Byte}
 use Rattle.convert.specs.declared.Run.{Run}
 use Rattle.convert.specs.declared.Outcome.{Outcome}
-use Rattle.convert.specs.Calls.{numberOf, readOf, runAfter, endedAfter}
+use Rattle.convert.specs.Calls.{numberOf, pendingUnit, readOf, runAfter, endedAfter}
 
 -- a pending unit as a flag and a number
+abbrev pub isSome : Option ℕ → Bool
+isSome none = false
+isSome (some unit) = true
+
+abbrev pub orZero : Option ℕ → ℕ
+orZero none = 0
+orZero (some unit) = unit
+
 abbrev pub hasPending : Pending → Bool
-hasPending Nothing = false
-hasPending (Byte byte) = true
+hasPending pending = isSome (pendingUnit pending)
 
 abbrev pub pendingByte : Pending → ℕ
-pendingByte Nothing = 0
-pendingByte (Byte byte) = byte
+pendingByte pending = orZero (pendingUnit pending)
 
 -- the result of an accepted call
 pub record Finished (run : Run) (s : Progress) (pending : Pending) (count : ℕ) (last : Bool) (r : Outcome) : Type 0 where

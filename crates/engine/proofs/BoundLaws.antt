@@ -11,8 +11,8 @@ use lib.ListN.{length, length-append}
 use lib.Bits.{or-lt}
 use borrow.Author.Tests.{le-leb}
 use Rattle.codepage.specs.CodePage.{CodePage, pick}
-use Rattle.codepage.specs.Reading.{unitOf, bytesOf, decoder, encoder, Code, sizeOf, together, callCodes, waitingUnit}
-use Rattle.codepage.proofs.ReadingLaws.{waitingUnits, sizesOf, sizes-cover}
+use Rattle.codepage.specs.Reading.{unitOf, bytesOf, decoder, encoder, Code, sizeOf, together, callCodes, waitingUnit, waitingUnits}
+use Rattle.codepage.proofs.ReadingLaws.{sizesOf, sizes-cover}
 use Rattle.codepage.specs.declared.Kind.{Kind}
 use Rattle.codepage.specs.declared.Kind.the-variants.{UndefinedSingle, UndefinedPair, Invalid}
 use Rattle.codepage.specs.declared.Lookup.{Lookup}

@@ -9,8 +9,8 @@ use native.Mathlib.Numerals.{one-add}
 use native.Mathlib.Omega.{arith}
 use lib.ListN.{length, getD, drop}
 use lib.Bits.{bitOr, or-step, or-zero-l}
-use Rattle.codepage.specs.Reading.{alone, together, callCodes, waitingUnit, completed, waitsThen, codesAtEnd}
-use Rattle.codepage.proofs.ReadingLaws.{waitingUnits, by-units}
+use Rattle.codepage.specs.Reading.{alone, together, callCodes, waitingUnit, completed, waitsThen, codesAtEnd, waitingUnits}
+use Rattle.codepage.proofs.ReadingLaws.{by-units}
 use Rattle.engine.specs.Engine.{Effect, Converter, Room, endless, fits, less, Fed, halt, after, stopAt, takeWhen, takeCode, takeCodes, feedFrom, feed}
 
 -- what a unit alone does, and a waiting unit with the one after it

@@ -9,6 +9,7 @@ use native.Mathlib.Omega.{arith}
 use lib.Dec.{leb, eqb}
 use lib.ListN.{length, take, drop, replicate, length-append, length-take, length-drop, length-replicate, take-append-drop}
 use borrow.Author.Tests.{eqb-true, eqb-false, eq-eqb, ne-eqb, leb-true, leb-false, lt-ltb}
+use Rattle.codepage.specs.Reading.{waitingUnits}
 use Rattle.codepage.specs.CodePage.{CodePage, GoodShape, pick, firstFault, isGood}
 use Rattle.codepage.proofs.ShapeLaws.{shape-exact}
 use Rattle.engine.specs.declared.Direction.{Direction}
@@ -22,7 +23,6 @@ use Rattle.convert.specs.Runs.{pieceLimit, readLimit, validRun, fresh}
 use Rattle.convert.specs.Calls.{leadIn, refusal, Called, pendingUnit, pendingCount, readOf, endedAfter, fedBy, acceptedCall, runCall}
 use Rattle.engine.specs.Engine.{converterOf}
 use Rattle.engine.proofs.EngineLaws.{Waits, Shape}
-use Rattle.codepage.proofs.ReadingLaws.{waitingUnits}
 use Rattle.engine.proofs.BoundLaws.{roomy, widest, bounded-of}
 use Rattle.engine.proofs.DecodeLaws.{decoder-lead}
 use Rattle.convert.proofs.CallLaws.{Accepted, accepted-facts, valid-facts, pending-units, encoding-pending, no-pending, feed-shape}

@@ -10,6 +10,7 @@ use lib.ListN.{length, getD, take, drop, length-append, length-drop, drop-of-len
 use lib.Seq.{drop-append-le, drop-append-add, drop-drop, drop-cons, drop-append-seam}
 use lib.Bits.{bitOr, or-zero-r}
 use borrow.Author.Tests.{eqb-true, eqb-false, eq-eqb, ne-eqb}
+use Rattle.codepage.specs.Reading.{waitingUnits}
 use Rattle.codepage.specs.CodePage.{pick}
 use Rattle.convert.specs.declared.Pending.{Pending}
 use Rattle.convert.specs.declared.Pending.the-variants.{Nothing, Byte}
@@ -17,7 +18,6 @@ use Rattle.convert.specs.declared.Run.{Run}
 use Rattle.engine.specs.Engine.{Converter, limit, endless, Fed, halt, after, feedFrom, feed}
 use Rattle.convert.specs.Calls.{pendingUnit, pendingCount, finalUnit, readOf, pendingAfter, endedAfter, runAfter, acceptedCall}
 use Rattle.engine.proofs.EngineLaws.{uncut, after-none, after-after, Cut, cut, Shape, shape-from, Waits, feed-wait, feed-end}
-use Rattle.codepage.proofs.ReadingLaws.{waitingUnits}
 use Rattle.convert.proofs.CallLaws.{pending-units, pendingUnits, count-le-one, final-is}
 
 -- What a run on a text has done of the whole reading, with its joined output.

@@ -37,7 +37,12 @@ same-length c = search needs
 
 -- src/lib.rt:411:1
 returns-2 : tie.Need-returns-2
-returns-2 c = line-saved _ _ _ _ _ _ (sym (c .before .before .before .before .before .before .before .is-run .ensures) ∙ not-false _ (c .before .before .before .before .before .before .if1 .left)) (c .before .before .before .before .before .run-in .ensures) (c .before .before .before .write .ensures) (c .written-out .ensures .0) (c .written-out .ensures .1)
+returns-2 c =
+    let at-write = c .before .before .before in
+    let at-run-in = at-write .before .before in
+    let at-if1 = at-run-in .before in
+    let at-is-run = at-if1 .before in
+    line-saved _ _ _ _ _ _ (sym (at-is-run .is-run .ensures) ∙ not-false _ (at-if1 .if1 .left)) (at-run-in .run-in .ensures) (at-write .write .ensures) (c .written-out .ensures .0) (c .written-out .ensures .1)
 
 pub till-save-spec : {M : Type 1} → statement M
 till-save-spec =

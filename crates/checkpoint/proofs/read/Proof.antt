@@ -33,7 +33,15 @@ closing-at-requires : tie.Need-closing-at-requires
 closing-at-requires c κs = search needs
 
 returns : tie.Need-returns
-returns c = sym (not-a-line _ _ _ (all-found _ (record { direction = c .before .before .before .before .before .before .before .before .before .letter-at .result .value; page = c .before .before .before .before .before .before .before .before .number-at .result .value; policy = c .before .before .before .before .before .before .before .digits-at .result .value; pending = c .before .before .before .before .before .before .carried-at .result .value; flags = c .before .before .before .before .before .number-at2 .result .value; read = c .before .before .before .before .number-at3 .result .value; written = c .before .before .before .number-at4 .result .value; ended = c .before .before .closing-at .result .value }) _ _ _ _ _ _ _ _ (c .before .before .before .before .before .before .before .before .before .letter-at .ensures) (c .before .before .before .before .before .before .before .before .number-at .ensures .1) (c .before .before .before .before .before .before .before .digits-at .ensures) (c .before .before .before .before .before .before .carried-at .ensures) (c .before .before .before .before .before .number-at2 .ensures .1) (c .before .before .before .before .number-at3 .ensures .1) (c .before .before .before .number-at4 .ensures .1) (c .before .before .closing-at .ensures)) (c .if1 .taken))
+returns c =
+    let at-number-at4 = c .before .before .before in
+    let at-number-at3 = at-number-at4 .before in
+    let at-number-at2 = at-number-at3 .before in
+    let at-carried-at = at-number-at2 .before in
+    let at-digits-at = at-carried-at .before in
+    let at-number-at = at-digits-at .before in
+    let at-letter-at = at-number-at .before in
+    sym (not-a-line _ _ _ (all-found _ (record { direction = at-letter-at .letter-at .result .value; page = at-number-at .number-at .result .value; policy = at-digits-at .digits-at .result .value; pending = at-carried-at .carried-at .result .value; flags = at-number-at2 .number-at2 .result .value; read = at-number-at3 .number-at3 .result .value; written = at-number-at4 .number-at4 .result .value; ended = c .before .before .closing-at .result .value }) _ _ _ _ _ _ _ _ (at-letter-at .letter-at .ensures) (at-number-at .number-at .ensures .1) (at-digits-at .digits-at .ensures) (at-carried-at .carried-at .ensures) (at-number-at2 .number-at2 .ensures .1) (at-number-at3 .number-at3 .ensures .1) (at-number-at4 .number-at4 .ensures .1) (c .before .before .closing-at .ensures)) (c .if1 .taken))
 
 cast-t17 : tie.Need-cast-t17
 cast-t17 c = search needs
@@ -45,10 +53,30 @@ valid-run-requires : tie.Need-valid-run-requires
 valid-run-requires c κs = search needs
 
 returns-2 : tie.Need-returns-2
-returns-2 c = sym (not-valid _ _ _ (all-found _ _ _ _ _ _ _ _ _ _ (c .before .before .before .before .before .before .before .before .before .before .before .before .before .before .letter-at .ensures) (c .before .before .before .before .before .before .before .before .before .before .before .before .before .number-at .ensures .1) (c .before .before .before .before .before .before .before .before .before .before .before .before .digits-at .ensures) (c .before .before .before .before .before .before .before .before .before .before .before .carried-at .ensures) (c .before .before .before .before .before .before .before .before .before .before .number-at2 .ensures .1) (c .before .before .before .before .before .before .before .before .before .number-at3 .ensures .1) (c .before .before .before .before .before .before .before .before .number-at4 .ensures .1) (c .before .before .before .before .before .before .before .closing-at .ensures)) (c .before .before .before .before .before .if1 .left) (sym (c .before .valid-run .ensures) ∙ not-true _ (c .if2 .taken)))
+returns-2 c =
+    let at-if1 = c .before .before .before .before .before in
+    let at-closing-at = at-if1 .before .before in
+    let at-number-at4 = at-closing-at .before in
+    let at-number-at3 = at-number-at4 .before in
+    let at-number-at2 = at-number-at3 .before in
+    let at-carried-at = at-number-at2 .before in
+    let at-digits-at = at-carried-at .before in
+    let at-number-at = at-digits-at .before in
+    let at-letter-at = at-number-at .before in
+    sym (not-valid _ _ _ (all-found _ _ _ _ _ _ _ _ _ _ (at-letter-at .letter-at .ensures) (at-number-at .number-at .ensures .1) (at-digits-at .digits-at .ensures) (at-carried-at .carried-at .ensures) (at-number-at2 .number-at2 .ensures .1) (at-number-at3 .number-at3 .ensures .1) (at-number-at4 .number-at4 .ensures .1) (at-closing-at .closing-at .ensures)) (at-if1 .if1 .left) (sym (c .before .valid-run .ensures) ∙ not-true _ (c .if2 .taken)))
 
 returns-3 : tie.Need-returns-3
-returns-3 c = sym (a-line _ _ _ (all-found _ _ _ _ _ _ _ _ _ _ (c .before .before .before .before .before .before .before .before .before .before .before .before .before .before .letter-at .ensures) (c .before .before .before .before .before .before .before .before .before .before .before .before .before .number-at .ensures .1) (c .before .before .before .before .before .before .before .before .before .before .before .before .digits-at .ensures) (c .before .before .before .before .before .before .before .before .before .before .before .carried-at .ensures) (c .before .before .before .before .before .before .before .before .before .before .number-at2 .ensures .1) (c .before .before .before .before .before .before .before .before .before .number-at3 .ensures .1) (c .before .before .before .before .before .before .before .before .number-at4 .ensures .1) (c .before .before .before .before .before .before .before .closing-at .ensures)) (c .before .before .before .before .before .if1 .left) (c .before .before .before .before .before .before .before .before .before .before .before .before .before .number-at .ensures .0) (sym (c .before .valid-run .ensures) ∙ not-false _ (c .if2 .left)))
+returns-3 c =
+    let at-if1 = c .before .before .before .before .before in
+    let at-closing-at = at-if1 .before .before in
+    let at-number-at4 = at-closing-at .before in
+    let at-number-at3 = at-number-at4 .before in
+    let at-number-at2 = at-number-at3 .before in
+    let at-carried-at = at-number-at2 .before in
+    let at-digits-at = at-carried-at .before in
+    let at-number-at = at-digits-at .before in
+    let at-letter-at = at-number-at .before in
+    sym (a-line _ _ _ (all-found _ _ _ _ _ _ _ _ _ _ (at-letter-at .letter-at .ensures) (at-number-at .number-at .ensures .1) (at-digits-at .digits-at .ensures) (at-carried-at .carried-at .ensures) (at-number-at2 .number-at2 .ensures .1) (at-number-at3 .number-at3 .ensures .1) (at-number-at4 .number-at4 .ensures .1) (at-closing-at .closing-at .ensures)) (at-if1 .if1 .left) (at-number-at .number-at .ensures .0) (sym (c .before .valid-run .ensures) ∙ not-false _ (c .if2 .left)))
 
 pub read-spec : {M : Type 1} → statement M
 read-spec =

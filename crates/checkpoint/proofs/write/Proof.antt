@@ -25,7 +25,12 @@ same-length : tie.Need-same-length
 same-length c = search needs
 
 returns-3 : tie.Need-returns-3
-returns-3 c = saved-line _ _ _ _ _ (sym (c .before .before .before .before .before .before .before .valid-run .ensures) ∙ not-false _ (c .before .before .before .before .before .if1 .left)) (c .before .before .before .before .before .before .line-len .ensures) (c .before .before .before .before .if2 .left) (c .before .before .put-line .ensures)
+returns-3 c =
+    let at-if2 = c .before .before .before .before in
+    let at-if1 = at-if2 .before in
+    let at-line-len = at-if1 .before in
+    let at-valid-run = at-line-len .before in
+    saved-line _ _ _ _ _ (sym (at-valid-run .valid-run .ensures) ∙ not-false _ (at-if1 .if1 .left)) (at-line-len .line-len .ensures) (at-if2 .if2 .left) (c .before .before .put-line .ensures)
 
 pub write-spec : {M : Type 1} → statement M
 write-spec =

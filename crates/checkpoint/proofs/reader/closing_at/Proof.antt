@@ -36,7 +36,11 @@ nowhere-requires-2 c κs = search needs
 
 returns-4 : tie.Need-returns-4
 unfolding closingOf
-returns-4 c = found-none _ closing _ _ _ (closing-none _ _ (c .before .before .before .before .before .before .before .if1 .left) (sym (c .before .before .before .before .before .rest-is .ensures) ∙ c .before .before .before .before .if2 .left) (sym (c .before .before .rest-is2 .ensures) ∙ c .before .if3 .left)) (c .nowhere2 .ensures)
+returns-4 c =
+    let at-if2 = c .before .before .before .before in
+    let at-rest-is = at-if2 .before in
+    let at-if1 = at-rest-is .before .before in
+    found-none _ closing _ _ _ (closing-none _ _ (at-if1 .if1 .left) (sym (at-rest-is .rest-is .ensures) ∙ at-if2 .if2 .left) (sym (c .before .before .rest-is2 .ensures) ∙ c .before .if3 .left)) (c .nowhere2 .ensures)
 
 pub closing-at-spec : {M : Type 1} → statement M
 closing-at-spec =

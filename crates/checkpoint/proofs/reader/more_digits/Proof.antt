@@ -25,7 +25,11 @@ digit-value-requires : tie.Need-digit-value-requires Inv-loop μ-loop
 digit-value-requires c κs = search needs
 
 returns : tie.Need-returns Inv-loop μ-loop
-returns c = (omega arith, digits-stop _ _ _ _ (c .before .before .before .loop-test .taken) (c .before .before .before .before .loop .inv .1) (digit-none (getD (c .before .before .before .before .before .before .args .line .now) (c .before .before .before .before .loop .i) 0) _ (c .before .digit-value .ensures) (c .if1 .taken)) ∙ sym (c .before .before .before .before .loop .inv .3))
+returns c =
+    let at-loop-test = c .before .before .before in
+    let at-loop = at-loop-test .before in
+    let entry = at-loop .before .before in
+    (omega arith, digits-stop _ _ _ _ (at-loop-test .loop-test .taken) (at-loop .loop .inv .1) (digit-none (getD (entry .args .line .now) (at-loop .loop .i) 0) _ (c .before .digit-value .ensures) (c .if1 .taken)) ∙ sym (at-loop .loop .inv .3))
 
 mul-value : tie.Need-mul-value Inv-loop μ-loop
 mul-value c = omega arith
@@ -41,8 +45,12 @@ nowhere-requires c κs = search needs
 
 returns-2 : tie.Need-returns-2 Inv-loop μ-loop
 returns-2 c =
-    let over : c .before .before .before .before .before .before .before .before .args .limit < 10 * c .before .before .before .before .before .before .loop .value + c .before .before .before .digit-value .result = omega arith in
-    (omega arith, found-none _ _ _ _ _ (c .before .before .before .before .before .before .loop .inv .3 ∙ digits-turn _ _ (c .before .before .before .before .before .before .loop .value) (c .before .before .before .before .before .before .loop .i) _ (c .before .before .before .before .before .loop-test .taken) (value-some _ _ (c .before .before .before .digit-value .ensures) (omega arith)) ∙ digits-over _ _ _ _ (omega arith) over) (c .nowhere .ensures))
+    let at-digit-value = c .before .before .before in
+    let at-loop-test = at-digit-value .before .before in
+    let at-loop = at-loop-test .before in
+    let entry = at-loop .before .before in
+    let over : entry .args .limit < 10 * at-loop .loop .value + at-digit-value .digit-value .result = omega arith in
+    (omega arith, found-none _ _ _ _ _ (at-loop .loop .inv .3 ∙ digits-turn _ _ (at-loop .loop .value) (at-loop .loop .i) _ (at-loop-test .loop-test .taken) (value-some _ _ (at-digit-value .digit-value .ensures) (omega arith)) ∙ digits-over _ _ _ _ (omega arith) over) (c .nowhere .ensures))
 
 add-i : tie.Need-add-i Inv-loop μ-loop
 add-i c = omega arith
@@ -51,7 +59,10 @@ loop-less : tie.Need-loop-less Inv-loop μ-loop
 loop-less c = omega arith
 
 loop-again : tie.Need-loop-again Inv-loop μ-loop
-loop-again c = (omega arith, omega arith, omega arith, c .before .before .before .before .before .loop .inv .3 ∙ digits-turn _ _ (c .before .before .before .before .before .loop .value) (c .before .before .before .before .before .loop .i) _ (c .before .before .before .before .loop-test .taken) (value-some _ _ (c .before .before .digit-value .ensures) (omega arith)))
+loop-again c =
+    let at-loop-test = c .before .before .before .before in
+    let at-loop = at-loop-test .before in
+    (omega arith, omega arith, omega arith, at-loop .loop .inv .3 ∙ digits-turn _ _ (at-loop .loop .value) (at-loop .loop .i) _ (at-loop-test .loop-test .taken) (value-some _ _ (c .before .before .digit-value .ensures) (omega arith)))
 
 returns-3 : tie.Need-returns-3 Inv-loop μ-loop
 returns-3 c = (omega arith, digits-end _ _ _ _ (c .loop-test .left) (c .before .loop .inv .0) (c .before .loop .inv .1) ∙ sym (c .before .loop .inv .3))

@@ -25,7 +25,10 @@ nowhere-requires-2 : tie.Need-nowhere-requires-2
 nowhere-requires-2 c κs = search needs
 
 returns-2 : tie.Need-returns-2
-returns-2 c = (omega arith, found-none _ (field (upTo (c .before .before .before .before .before .before .args .limit) number)) _ _ _ (field-none (upTo (c .before .before .before .before .before .before .args .limit) number) _ _ (limited-none _ _ _ (c .before .before .before .before .if1 .left) (digit-none (getD (c .before .before .before .before .before .before .args .line .now) (c .before .before .before .before .before .before .args .at) 0) _ (c .before .before .digit-value .ensures) (c .before .if2 .taken)))) (c .nowhere2 .ensures))
+returns-2 c =
+    let at-if1 = c .before .before .before .before in
+    let entry = at-if1 .before .before in
+    (omega arith, found-none _ (field (upTo (entry .args .limit) number)) _ _ _ (field-none (upTo (entry .args .limit) number) _ _ (limited-none _ _ _ (at-if1 .if1 .left) (digit-none (getD (entry .args .line .now) (entry .args .at) 0) _ (c .before .before .digit-value .ensures) (c .before .if2 .taken)))) (c .nowhere2 .ensures))
 
 add-tab-at : tie.Need-add-tab-at
 add-tab-at c = search needs
@@ -35,8 +38,11 @@ tab-at-requires c κs = search needs
 
 returns-3 : tie.Need-returns-3
 returns-3 c =
-    let zero-first : c .before .before .before .digit-value .result ≡ 0 = omega (arith, c .before .if3 .taken) in
-    (omega arith, field-found (upTo (c .before .before .before .before .before .before .before .args .limit) number) _ _ _ _ _ (limited-zero _ _ _ (c .before .before .before .before .before .if1 .left) (value-some _ _ (c .before .before .before .digit-value .ensures) (omega arith) ∙ ap some zero-first)) (c .tab-at .ensures))
+    let at-digit-value = c .before .before .before in
+    let at-if1 = at-digit-value .before .before in
+    let entry = at-if1 .before .before in
+    let zero-first : at-digit-value .digit-value .result ≡ 0 = omega (arith, c .before .if3 .taken) in
+    (omega arith, field-found (upTo (entry .args .limit) number) _ _ _ _ _ (limited-zero _ _ _ (at-if1 .if1 .left) (value-some _ _ (at-digit-value .digit-value .ensures) (omega arith) ∙ ap some zero-first)) (c .tab-at .ensures))
 
 add-more-digits : tie.Need-add-more-digits
 add-more-digits c = search needs
@@ -51,7 +57,11 @@ tab-at-requires-2 : tie.Need-tab-at-requires-2
 tab-at-requires-2 c κs = search needs
 
 returns-4 : tie.Need-returns-4
-returns-4 c = (c .before .more-digits .ensures .0, field-found (upTo (c .before .before .before .before .before .before .before .before .args .limit) number) _ _ _ _ _ (c .before .more-digits .ensures .1 ∙ sym (limited-first _ _ _ _ (c .before .before .before .before .before .before .if1 .left) (value-some _ _ (c .before .before .before .before .digit-value .ensures) (omega arith)) (omega arith))) (c .tab-at2 .ensures))
+returns-4 c =
+    let at-digit-value = c .before .before .before .before in
+    let at-if1 = at-digit-value .before .before in
+    let entry = at-if1 .before .before in
+    (c .before .more-digits .ensures .0, field-found (upTo (entry .args .limit) number) _ _ _ _ _ (c .before .more-digits .ensures .1 ∙ sym (limited-first _ _ _ _ (at-if1 .if1 .left) (value-some _ _ (at-digit-value .digit-value .ensures) (omega arith)) (omega arith))) (c .tab-at2 .ensures))
 
 pub number-at-spec : {M : Type 1} → statement M
 number-at-spec =

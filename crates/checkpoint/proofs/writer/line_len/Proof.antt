@@ -30,25 +30,130 @@ closing-len-requires : tie.Need-closing-len-requires
 closing-len-requires c κs = search needs
 
 add-result : tie.Need-add-result
-add-result c = omega (arith, carried-length (c .before .before .before .before .before .before .before .before .args .run .pending), closing-length (c .before .before .before .before .before .before .before .before .args .run .ended), c .before .before .before .before .before .before .decimal-len .ensures .1, c .before .before .before .decimal-len2 .ensures .1, c .before .before .decimal-len3 .ensures .1, c .before .decimal-len4 .ensures .1, c .before .before .before .before .before .carried-len .ensures, c .closing-len .ensures)
+add-result c =
+    let at-decimal-len2 = c .before .before .before in
+    let at-carried-len = at-decimal-len2 .before .before in
+    let at-decimal-len = at-carried-len .before in
+    let entry = at-decimal-len .before .before in
+    omega (
+      arith,
+      carried-length (entry .args .run .pending),
+      closing-length (entry .args .run .ended),
+      at-decimal-len .decimal-len .ensures .1,
+      at-decimal-len2 .decimal-len2 .ensures .1,
+      c .before .before .decimal-len3 .ensures .1,
+      c .before .decimal-len4 .ensures .1,
+      at-carried-len .carried-len .ensures,
+      c .closing-len .ensures,
+    )
 
 add-result-2 : tie.Need-add-result-2
-add-result-2 c = omega (arith, carried-length (c .before .before .before .before .before .before .before .before .args .run .pending), closing-length (c .before .before .before .before .before .before .before .before .args .run .ended), c .before .before .before .before .before .before .decimal-len .ensures .1, c .before .before .before .decimal-len2 .ensures .1, c .before .before .decimal-len3 .ensures .1, c .before .decimal-len4 .ensures .1, c .before .before .before .before .before .carried-len .ensures, c .closing-len .ensures)
+add-result-2 c =
+    let at-decimal-len2 = c .before .before .before in
+    let at-carried-len = at-decimal-len2 .before .before in
+    let at-decimal-len = at-carried-len .before in
+    let entry = at-decimal-len .before .before in
+    omega (
+      arith,
+      carried-length (entry .args .run .pending),
+      closing-length (entry .args .run .ended),
+      at-decimal-len .decimal-len .ensures .1,
+      at-decimal-len2 .decimal-len2 .ensures .1,
+      c .before .before .decimal-len3 .ensures .1,
+      c .before .decimal-len4 .ensures .1,
+      at-carried-len .carried-len .ensures,
+      c .closing-len .ensures,
+    )
 
 add-result-3 : tie.Need-add-result-3
-add-result-3 c = omega (arith, carried-length (c .before .before .before .before .before .before .before .before .args .run .pending), closing-length (c .before .before .before .before .before .before .before .before .args .run .ended), c .before .before .before .before .before .before .decimal-len .ensures .1, c .before .before .before .decimal-len2 .ensures .1, c .before .before .decimal-len3 .ensures .1, c .before .decimal-len4 .ensures .1, c .before .before .before .before .before .carried-len .ensures, c .closing-len .ensures)
+add-result-3 c =
+    let at-decimal-len2 = c .before .before .before in
+    let at-carried-len = at-decimal-len2 .before .before in
+    let at-decimal-len = at-carried-len .before in
+    let entry = at-decimal-len .before .before in
+    omega (
+      arith,
+      carried-length (entry .args .run .pending),
+      closing-length (entry .args .run .ended),
+      at-decimal-len .decimal-len .ensures .1,
+      at-decimal-len2 .decimal-len2 .ensures .1,
+      c .before .before .decimal-len3 .ensures .1,
+      c .before .decimal-len4 .ensures .1,
+      at-carried-len .carried-len .ensures,
+      c .closing-len .ensures,
+    )
 
 add-result-4 : tie.Need-add-result-4
-add-result-4 c = omega (arith, carried-length (c .before .before .before .before .before .before .before .before .args .run .pending), closing-length (c .before .before .before .before .before .before .before .before .args .run .ended), c .before .before .before .before .before .before .decimal-len .ensures .1, c .before .before .before .decimal-len2 .ensures .1, c .before .before .decimal-len3 .ensures .1, c .before .decimal-len4 .ensures .1, c .before .before .before .before .before .carried-len .ensures, c .closing-len .ensures)
+add-result-4 c =
+    let at-decimal-len2 = c .before .before .before in
+    let at-carried-len = at-decimal-len2 .before .before in
+    let at-decimal-len = at-carried-len .before in
+    let entry = at-decimal-len .before .before in
+    omega (
+      arith,
+      carried-length (entry .args .run .pending),
+      closing-length (entry .args .run .ended),
+      at-decimal-len .decimal-len .ensures .1,
+      at-decimal-len2 .decimal-len2 .ensures .1,
+      c .before .before .decimal-len3 .ensures .1,
+      c .before .decimal-len4 .ensures .1,
+      at-carried-len .carried-len .ensures,
+      c .closing-len .ensures,
+    )
 
 add-result-5 : tie.Need-add-result-5
-add-result-5 c = omega (arith, carried-length (c .before .before .before .before .before .before .before .before .args .run .pending), closing-length (c .before .before .before .before .before .before .before .before .args .run .ended), c .before .before .before .before .before .before .decimal-len .ensures .1, c .before .before .before .decimal-len2 .ensures .1, c .before .before .decimal-len3 .ensures .1, c .before .decimal-len4 .ensures .1, c .before .before .before .before .before .carried-len .ensures, c .closing-len .ensures)
+add-result-5 c =
+    let at-decimal-len2 = c .before .before .before in
+    let at-carried-len = at-decimal-len2 .before .before in
+    let at-decimal-len = at-carried-len .before in
+    let entry = at-decimal-len .before .before in
+    omega (
+      arith,
+      carried-length (entry .args .run .pending),
+      closing-length (entry .args .run .ended),
+      at-decimal-len .decimal-len .ensures .1,
+      at-decimal-len2 .decimal-len2 .ensures .1,
+      c .before .before .decimal-len3 .ensures .1,
+      c .before .decimal-len4 .ensures .1,
+      at-carried-len .carried-len .ensures,
+      c .closing-len .ensures,
+    )
 
 add-result-6 : tie.Need-add-result-6
-add-result-6 c = omega (arith, carried-length (c .before .before .before .before .before .before .before .before .args .run .pending), closing-length (c .before .before .before .before .before .before .before .before .args .run .ended), c .before .before .before .before .before .before .decimal-len .ensures .1, c .before .before .before .decimal-len2 .ensures .1, c .before .before .decimal-len3 .ensures .1, c .before .decimal-len4 .ensures .1, c .before .before .before .before .before .carried-len .ensures, c .closing-len .ensures)
+add-result-6 c =
+    let at-decimal-len2 = c .before .before .before in
+    let at-carried-len = at-decimal-len2 .before .before in
+    let at-decimal-len = at-carried-len .before in
+    let entry = at-decimal-len .before .before in
+    omega (
+      arith,
+      carried-length (entry .args .run .pending),
+      closing-length (entry .args .run .ended),
+      at-decimal-len .decimal-len .ensures .1,
+      at-decimal-len2 .decimal-len2 .ensures .1,
+      c .before .before .decimal-len3 .ensures .1,
+      c .before .decimal-len4 .ensures .1,
+      at-carried-len .carried-len .ensures,
+      c .closing-len .ensures,
+    )
 
 returns : tie.Need-returns
-returns c = omega (arith, line-length (c .before .before .before .before .before .before .before .before .args .run), letter-length (c .before .before .before .before .before .before .before .before .args .run .direction), c .before .before .before .before .before .before .decimal-len .ensures .0, c .before .before .before .decimal-len2 .ensures .0, c .before .before .decimal-len3 .ensures .0, c .before .decimal-len4 .ensures .0, c .before .before .before .before .before .carried-len .ensures, c .closing-len .ensures)
+returns c =
+    let at-decimal-len2 = c .before .before .before in
+    let at-carried-len = at-decimal-len2 .before .before in
+    let at-decimal-len = at-carried-len .before in
+    let entry = at-decimal-len .before .before in
+    omega (
+      arith,
+      line-length (entry .args .run),
+      letter-length (entry .args .run .direction),
+      at-decimal-len .decimal-len .ensures .0,
+      at-decimal-len2 .decimal-len2 .ensures .0,
+      c .before .before .decimal-len3 .ensures .0,
+      c .before .decimal-len4 .ensures .0,
+      at-carried-len .carried-len .ensures,
+      c .closing-len .ensures,
+    )
 
 pub line-len-spec : {M : Type 1} → statement M
 line-len-spec =

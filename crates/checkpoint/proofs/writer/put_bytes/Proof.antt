@@ -33,7 +33,9 @@ loop-less : tie.Need-loop-less Inv-loop μ-loop
 loop-less c = omega arith
 
 loop-again : tie.Need-loop-again Inv-loop μ-loop
-loop-again c = (omega arith, omega arith, simp length-set (c .before .before .loop .inv .2), ap (λ (l : List ℕ). set l (c .before .before .before .args .at + c .before .before .loop .i) (getD (c .before .before .before .args .bytes .now) (c .before .before .loop .i) 0)) (c .before .before .loop .inv .3) ∙ copy-turn _ _ _ (c .before .before .loop .i) (c .before .loop-test .taken))
+loop-again c =
+    let entry = c .before .before .before in
+    (omega arith, omega arith, simp length-set (c .before .before .loop .inv .2), ap (λ (l : List ℕ). set l (entry .args .at + c .before .before .loop .i) (getD (entry .args .bytes .now) (c .before .before .loop .i) 0)) (c .before .before .loop .inv .3) ∙ copy-turn _ _ _ (c .before .before .loop .i) (c .before .loop-test .taken))
 
 add-result : tie.Need-add-result Inv-loop μ-loop
 add-result c = omega arith

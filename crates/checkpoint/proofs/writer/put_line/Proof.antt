@@ -7,22 +7,41 @@ use Rattle.checkpoint.proofs.writer.put_line.Statement.{statement}
 use Rattle.checkpoint.proofs.writer.put_line.Tie as tie
 
 put-start-requires : tie.Need-put-start-requires
-put-start-requires c κs = (c .before .before .pre .0, front-room (startFields (c .before .before .args .run)) (fieldOf (carriedOf (c .before .before .args .run .pending))) _ _ (front-room ((startFields (c .before .before .args .run)) ++ (fieldOf (carriedOf (c .before .before .args .run .pending)))) (totalFields (c .before .before .args .run)) _ _ (front-room ((startFields (c .before .before .args .run)) ++ (fieldOf (carriedOf (c .before .before .args .run .pending))) ++ (totalFields (c .before .before .args .run))) (closingOf (c .before .before .args .run .ended)) _ _ (line-room (c .before .before .args .run) _ (c .before .before .pre .1)))))
+put-start-requires c κs =
+    let a = c .before .before .args in
+    (c .before .before .pre .0, front-room (startFields (a .run)) (fieldOf (carriedOf (a .run .pending))) _ _ (front-room ((startFields (a .run)) ++ (fieldOf (carriedOf (a .run .pending)))) (totalFields (a .run)) _ _ (front-room ((startFields (a .run)) ++ (fieldOf (carriedOf (a .run .pending))) ++ (totalFields (a .run))) (closingOf (a .run .ended)) _ _ (line-room (a .run) _ (c .before .before .pre .1)))))
 
 put-carried-requires : tie.Need-put-carried-requires
-put-carried-requires c κs = put-room (fieldOf (carriedOf (c .before .before .before .before .before .before .args .run .pending))) (c .before .before .before .put-start .ensures) (front-room ((startFields (c .before .before .before .before .before .before .args .run)) ++ (fieldOf (carriedOf (c .before .before .before .before .before .before .args .run .pending)))) (totalFields (c .before .before .before .before .before .before .args .run)) _ _ (front-room ((startFields (c .before .before .before .before .before .before .args .run)) ++ (fieldOf (carriedOf (c .before .before .before .before .before .before .args .run .pending))) ++ (totalFields (c .before .before .before .before .before .before .args .run))) (closingOf (c .before .before .before .before .before .before .args .run .ended)) _ _ (line-room (c .before .before .before .before .before .before .args .run) _ (c .before .before .before .before .before .before .pre .1))))
+put-carried-requires c κs =
+    let at-put-start = c .before .before .before in
+    let entry = at-put-start .before .before .before in
+    put-room (fieldOf (carriedOf (entry .args .run .pending))) (at-put-start .put-start .ensures) (front-room ((startFields (entry .args .run)) ++ (fieldOf (carriedOf (entry .args .run .pending)))) (totalFields (entry .args .run)) _ _ (front-room ((startFields (entry .args .run)) ++ (fieldOf (carriedOf (entry .args .run .pending))) ++ (totalFields (entry .args .run))) (closingOf (entry .args .run .ended)) _ _ (line-room (entry .args .run) _ (entry .pre .1))))
 
 put-totals-requires : tie.Need-put-totals-requires
-put-totals-requires c κs = put-room (totalFields (c .before .before .before .before .before .before .before .before .before .before .args .run)) (put-then (c .before .before .before .before .before .before .before .put-start .ensures) (c .before .before .before .put-carried .ensures)) (front-room ((startFields (c .before .before .before .before .before .before .before .before .before .before .args .run)) ++ (fieldOf (carriedOf (c .before .before .before .before .before .before .before .before .before .before .args .run .pending))) ++ (totalFields (c .before .before .before .before .before .before .before .before .before .before .args .run))) (closingOf (c .before .before .before .before .before .before .before .before .before .before .args .run .ended)) _ _ (line-room (c .before .before .before .before .before .before .before .before .before .before .args .run) _ (c .before .before .before .before .before .before .before .before .before .before .pre .1)))
+put-totals-requires c κs =
+    let at-put-carried = c .before .before .before in
+    let at-put-start = at-put-carried .before .before .before .before in
+    let entry = at-put-start .before .before .before in
+    put-room (totalFields (entry .args .run)) (put-then (at-put-start .put-start .ensures) (at-put-carried .put-carried .ensures)) (front-room ((startFields (entry .args .run)) ++ (fieldOf (carriedOf (entry .args .run .pending))) ++ (totalFields (entry .args .run))) (closingOf (entry .args .run .ended)) _ _ (line-room (entry .args .run) _ (entry .pre .1)))
 
 put-closing-requires : tie.Need-put-closing-requires
-put-closing-requires c κs = put-room (closingOf (c .before .before .before .before .before .before .before .before .before .before .before .before .before .before .args .run .ended)) (put-then (put-then (c .before .before .before .before .before .before .before .before .before .before .before .put-start .ensures) (c .before .before .before .before .before .before .before .put-carried .ensures)) (c .before .before .before .put-totals .ensures)) (line-room (c .before .before .before .before .before .before .before .before .before .before .before .before .before .before .args .run) _ (c .before .before .before .before .before .before .before .before .before .before .before .before .before .before .pre .1))
+put-closing-requires c κs =
+    let at-put-totals = c .before .before .before in
+    let at-put-carried = at-put-totals .before .before .before .before in
+    let at-put-start = at-put-carried .before .before .before .before in
+    let entry = at-put-start .before .before .before in
+    put-room (closingOf (entry .args .run .ended)) (put-then (put-then (at-put-start .put-start .ensures) (at-put-carried .put-carried .ensures)) (at-put-totals .put-totals .ensures)) (line-room (entry .args .run) _ (entry .pre .1))
 
 same-length : tie.Need-same-length
 same-length c = search needs
 
 returns : tie.Need-returns
-returns c = put-is (line-parts (c .before .before .before .before .before .before .before .before .before .before .before .before .before .before .before .before .before .args .run)) (put-then (put-then (put-then (c .before .before .before .before .before .before .before .before .before .before .before .before .before .before .put-start .ensures) (c .before .before .before .before .before .before .before .before .before .before .put-carried .ensures)) (c .before .before .before .before .before .before .put-totals .ensures)) (c .before .before .put-closing .ensures))
+returns c =
+    let at-put-totals = c .before .before .before .before .before .before in
+    let at-put-carried = at-put-totals .before .before .before .before in
+    let at-put-start = at-put-carried .before .before .before .before in
+    let entry = at-put-start .before .before .before in
+    put-is (line-parts (entry .args .run)) (put-then (put-then (put-then (at-put-start .put-start .ensures) (at-put-carried .put-carried .ensures)) (at-put-totals .put-totals .ensures)) (c .before .before .put-closing .ensures))
 
 pub put-line-spec : {M : Type 1} → statement M
 put-line-spec =

@@ -25,7 +25,9 @@ ended-after-requires c κs = search needs
 
 -- src/finish.rt:128:15
 add-t15 : tie.Need-add-t15
-add-t15 c = omega (arith, c .before .before .before .before .before .before .before .pre .1, c .before .before .before .before .before .read-of .ensures, read-le (c .before .before .before .before .before .before .before .args .run .pending) (c .before .before .before .before .before .before .before .args .count) (c .before .before .before .before .before .before .before .args .s .answer) (c .before .before .before .before .before .before .before .args .s .used) (c .before .before .before .before .before .before .before .pre .1 .0))
+add-t15 c =
+    let a = c .before .before .before .before .before .before .before .args in
+    omega (arith, c .before .before .before .before .before .before .before .pre .1, c .before .before .before .before .before .read-of .ensures, read-le (a .run .pending) (a .count) (a .s .answer) (a .s .used) (c .before .before .before .before .before .before .before .pre .1 .0))
 
 -- src/finish.rt:129:18
 add-t17 : tie.Need-add-t17
@@ -34,7 +36,11 @@ add-t17 c = search needs
 -- src/finish.rt:111:1
 returns : tie.Need-returns
 unfolding runAfter
-returns c = record { number = c .before .before .before .before .before .before .before .answer-of .ensures; read = c .before .before .before .before .before .before .read-of .ensures; written = refl; run′ = rw (← c .before .before .before .before .before .before .read-of .ensures, ← c .before .before .before .before .before .ended-after .ensures) }
+returns c =
+    let at-ended-after = c .before .before .before .before .before in
+    let at-read-of = at-ended-after .before in
+    let at-answer-of = at-read-of .before in
+    record { number = at-answer-of .answer-of .ensures; read = at-read-of .read-of .ensures; written = refl; run′ = rw (← at-read-of .read-of .ensures, ← at-ended-after .ended-after .ensures) }
 
 pub accepted-spec : {M : Type 1} → statement M
 accepted-spec =

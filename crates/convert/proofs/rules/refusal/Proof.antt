@@ -34,12 +34,23 @@ same-direction-requires c κs = search needs
 -- src/rules.rt:150:9
 returns-3 : tie.Need-returns-3
 unfolding refusal
-returns-3 c = rw (c .before .before .before .before .before .before .before .before .before .before .pre, le-leb _ _ (c .before .before .before .before .if1 .left), sym (c .before .before .before .valid-run .ensures) ∙ not-false _ (c .before .before .if2 .left), sym (c .before .same-direction .ensures) ∙ not-true _ (c .if3 .taken))
+returns-3 c =
+    let at-valid-run = c .before .before .before in
+    let at-if1 = at-valid-run .before in
+    let entry = at-if1 .before .before .before .before .before .before in
+    rw (entry .pre, le-leb _ _ (at-if1 .if1 .left), sym (at-valid-run .valid-run .ensures) ∙ not-false _ (c .before .before .if2 .left), sym (c .before .same-direction .ensures) ∙ not-true _ (c .if3 .taken))
 
 -- src/rules.rt:153:9
 returns-4 : tie.Need-returns-4
 unfolding refusal
-returns-4 c = rw (c .before .before .before .before .before .before .before .before .before .before .before .before .before .pre, le-leb _ _ (c .before .before .before .before .before .before .before .if1 .left), sym (c .before .before .before .before .before .before .valid-run .ensures) ∙ not-false _ (c .before .before .before .before .before .if2 .left), sym (c .before .before .before .before .same-direction .ensures) ∙ not-false _ (c .before .before .before .if3 .left), ne-eqb _ _ (c .if4 .taken))
+returns-4 c =
+    let at-if3 = c .before .before .before in
+    let at-same-direction = at-if3 .before in
+    let at-if2 = at-same-direction .before in
+    let at-valid-run = at-if2 .before in
+    let at-if1 = at-valid-run .before in
+    let entry = at-if1 .before .before .before .before .before .before in
+    rw (entry .pre, le-leb _ _ (at-if1 .if1 .left), sym (at-valid-run .valid-run .ensures) ∙ not-false _ (at-if2 .if2 .left), sym (at-same-direction .same-direction .ensures) ∙ not-false _ (at-if3 .if3 .left), ne-eqb _ _ (c .if4 .taken))
 
 -- src/rules.rt:156:9
 pending-is-lead-requires : tie.Need-pending-is-lead-requires
@@ -48,26 +59,99 @@ pending-is-lead-requires c κs = shape-exact _ .0 (c .before .before .before .be
 -- src/rules.rt:157:9
 returns-5 : tie.Need-returns-5
 unfolding refusal
-returns-5 c = rw (c .before .before .before .before .before .before .before .before .before .before .before .before .before .before .before .pre, le-leb _ _ (c .before .before .before .before .before .before .before .before .before .if1 .left), sym (c .before .before .before .before .before .before .before .before .valid-run .ensures) ∙ not-false _ (c .before .before .before .before .before .before .before .if2 .left), sym (c .before .before .before .before .before .before .same-direction .ensures) ∙ not-false _ (c .before .before .before .before .before .if3 .left), eq-eqb _ _ (c .before .before .if4 .left), sym (c .before .pending-is-lead .ensures) ∙ not-true _ (c .if5 .taken))
+returns-5 c =
+    let at-if3 = c .before .before .before .before .before in
+    let at-same-direction = at-if3 .before in
+    let at-if2 = at-same-direction .before in
+    let at-valid-run = at-if2 .before in
+    let at-if1 = at-valid-run .before in
+    let entry = at-if1 .before .before .before .before .before .before in
+    rw (
+      entry .pre,
+      le-leb _ _ (at-if1 .if1 .left),
+      sym (at-valid-run .valid-run .ensures) ∙ not-false _ (at-if2 .if2 .left),
+      sym (at-same-direction .same-direction .ensures) ∙ not-false _ (at-if3 .if3 .left),
+      eq-eqb _ _ (c .before .before .if4 .left),
+      sym (c .before .pending-is-lead .ensures) ∙ not-true _ (c .if5 .taken),
+    )
 
 -- src/rules.rt:160:9
 returns-6 : tie.Need-returns-6
 unfolding refusal
-returns-6 c = rw (c .before .before .before .before .before .before .before .before .before .before .before .before .before .before .before .before .pre, le-leb _ _ (c .before .before .before .before .before .before .before .before .before .before .if1 .left), sym (c .before .before .before .before .before .before .before .before .before .valid-run .ensures) ∙ not-false _ (c .before .before .before .before .before .before .before .before .if2 .left), sym (c .before .before .before .before .before .before .before .same-direction .ensures) ∙ not-false _ (c .before .before .before .before .before .before .if3 .left), eq-eqb _ _ (c .before .before .before .if4 .left), sym (c .before .before .pending-is-lead .ensures) ∙ not-false _ (c .before .if5 .left), c .if6 .taken)
+returns-6 c =
+    let at-if4 = c .before .before .before in
+    let at-if3 = at-if4 .before .before .before in
+    let at-same-direction = at-if3 .before in
+    let at-if2 = at-same-direction .before in
+    let at-valid-run = at-if2 .before in
+    let at-if1 = at-valid-run .before in
+    let entry = at-if1 .before .before .before .before .before .before in
+    rw (
+      entry .pre,
+      le-leb _ _ (at-if1 .if1 .left),
+      sym (at-valid-run .valid-run .ensures) ∙ not-false _ (at-if2 .if2 .left),
+      sym (at-same-direction .same-direction .ensures) ∙ not-false _ (at-if3 .if3 .left),
+      eq-eqb _ _ (at-if4 .if4 .left),
+      sym (c .before .before .pending-is-lead .ensures) ∙ not-false _ (c .before .if5 .left),
+      c .if6 .taken,
+    )
 
 -- src/rules.rt:162:26
 add-if7 : tie.Need-add-if7
-add-if7 c = omega (arith, c .before .before .before .before .before .before .before .before .before .before .before .if1 .left, valid-read (c .before .before .before .before .before .before .before .before .before .before .before .before .before .before .before .before .before .args .run) (sym (c .before .before .before .before .before .before .before .before .before .before .valid-run .ensures) ∙ not-false _ (c .before .before .before .before .before .before .before .before .before .if2 .left)))
+add-if7 c =
+    let at-if2 = c .before .before .before .before .before .before .before .before .before in
+    let at-valid-run = at-if2 .before in
+    let at-if1 = at-valid-run .before in
+    let entry = at-if1 .before .before .before .before .before .before in
+    omega (arith, at-if1 .if1 .left, valid-read (entry .args .run) (sym (at-valid-run .valid-run .ensures) ∙ not-false _ (at-if2 .if2 .left)))
 
 -- src/rules.rt:163:9
 returns-7 : tie.Need-returns-7
 unfolding refusal
-returns-7 c = rw (c .before .before .before .before .before .before .before .before .before .before .before .before .before .before .before .before .before .before .pre, le-leb _ _ (c .before .before .before .before .before .before .before .before .before .before .before .before .if1 .left), sym (c .before .before .before .before .before .before .before .before .before .before .before .valid-run .ensures) ∙ not-false _ (c .before .before .before .before .before .before .before .before .before .before .if2 .left), sym (c .before .before .before .before .before .before .before .before .before .same-direction .ensures) ∙ not-false _ (c .before .before .before .before .before .before .before .before .if3 .left), eq-eqb _ _ (c .before .before .before .before .before .if4 .left), sym (c .before .before .before .before .pending-is-lead .ensures) ∙ not-false _ (c .before .before .before .if5 .left), c .before .before .if6 .left, lt-leb _ _ (c .if7 .taken))
+returns-7 c =
+    let at-if5 = c .before .before .before in
+    let at-pending-is-lead = at-if5 .before in
+    let at-if4 = at-pending-is-lead .before in
+    let at-if3 = at-if4 .before .before .before in
+    let at-same-direction = at-if3 .before in
+    let at-if2 = at-same-direction .before in
+    let at-valid-run = at-if2 .before in
+    let at-if1 = at-valid-run .before in
+    let entry = at-if1 .before .before .before .before .before .before in
+    rw (
+      entry .pre,
+      le-leb _ _ (at-if1 .if1 .left),
+      sym (at-valid-run .valid-run .ensures) ∙ not-false _ (at-if2 .if2 .left),
+      sym (at-same-direction .same-direction .ensures) ∙ not-false _ (at-if3 .if3 .left),
+      eq-eqb _ _ (at-if4 .if4 .left),
+      sym (at-pending-is-lead .pending-is-lead .ensures) ∙ not-false _ (at-if5 .if5 .left),
+      c .before .before .if6 .left,
+      lt-leb _ _ (c .if7 .taken),
+    )
 
 -- src/rules.rt:128:1
 returns-8 : tie.Need-returns-8
 unfolding refusal
-returns-8 c = rw (c .before .before .before .before .before .before .before .before .before .before .before .before .before .before .before .before .before .before .pre, le-leb _ _ (c .before .before .before .before .before .before .before .before .before .before .before .before .if1 .left), sym (c .before .before .before .before .before .before .before .before .before .before .before .valid-run .ensures) ∙ not-false _ (c .before .before .before .before .before .before .before .before .before .before .if2 .left), sym (c .before .before .before .before .before .before .before .before .before .same-direction .ensures) ∙ not-false _ (c .before .before .before .before .before .before .before .before .if3 .left), eq-eqb _ _ (c .before .before .before .before .before .if4 .left), sym (c .before .before .before .before .pending-is-lead .ensures) ∙ not-false _ (c .before .before .before .if5 .left), c .before .before .if6 .left, le-leb _ _ (c .if7 .left))
+returns-8 c =
+    let at-if5 = c .before .before .before in
+    let at-pending-is-lead = at-if5 .before in
+    let at-if4 = at-pending-is-lead .before in
+    let at-if3 = at-if4 .before .before .before in
+    let at-same-direction = at-if3 .before in
+    let at-if2 = at-same-direction .before in
+    let at-valid-run = at-if2 .before in
+    let at-if1 = at-valid-run .before in
+    let entry = at-if1 .before .before .before .before .before .before in
+    rw (
+      entry .pre,
+      le-leb _ _ (at-if1 .if1 .left),
+      sym (at-valid-run .valid-run .ensures) ∙ not-false _ (at-if2 .if2 .left),
+      sym (at-same-direction .same-direction .ensures) ∙ not-false _ (at-if3 .if3 .left),
+      eq-eqb _ _ (at-if4 .if4 .left),
+      sym (at-pending-is-lead .pending-is-lead .ensures) ∙ not-false _ (at-if5 .if5 .left),
+      c .before .before .if6 .left,
+      le-leb _ _ (c .if7 .left),
+    )
 
 pub refusal-spec : {M : Type 1} → statement M
 refusal-spec =

@@ -44,7 +44,13 @@ most-written-requires c κs = search needs
 -- src/rules.rt:108:9
 returns-5 : tie.Need-returns-5
 unfolding validRun
-returns-5 c = rw (ne-eqb _ _ (c .before .before .before .before .before .before .before .before .before .if1 .left), sym (c .before .before .before .before .before .before .before .before .allowed .ensures) ∙ not-false _ (c .before .before .before .before .before .before .before .if2 .left), le-leb _ _ (c .before .before .before .before .before .if3 .left), le-leb _ _ (c .before .before .before .if4 .left), ← c .before .before .most-written .ensures, lt-leb _ _ (c .if5 .taken))
+returns-5 c =
+    let at-if4 = c .before .before .before in
+    let at-if3 = at-if4 .before .before in
+    let at-if2 = at-if3 .before .before in
+    let at-allowed = at-if2 .before in
+    let at-if1 = at-allowed .before in
+    rw (ne-eqb _ _ (at-if1 .if1 .left), sym (at-allowed .allowed .ensures) ∙ not-false _ (at-if2 .if2 .left), le-leb _ _ (at-if3 .if3 .left), le-leb _ _ (at-if4 .if4 .left), ← c .before .before .most-written .ensures, lt-leb _ _ (c .if5 .taken))
 
 -- src/rules.rt:110:9
 end-agrees-requires : tie.Need-end-agrees-requires
@@ -53,7 +59,22 @@ end-agrees-requires c κs = search needs
 -- src/rules.rt:111:9
 returns-6 : tie.Need-returns-6
 unfolding validRun
-returns-6 c = rw (ne-eqb _ _ (c .before .before .before .before .before .before .before .before .before .before .before .if1 .left), sym (c .before .before .before .before .before .before .before .before .before .before .allowed .ensures) ∙ not-false _ (c .before .before .before .before .before .before .before .before .before .if2 .left), le-leb _ _ (c .before .before .before .before .before .before .before .if3 .left), le-leb _ _ (c .before .before .before .before .before .if4 .left), ← c .before .before .before .before .most-written .ensures, le-leb _ _ (c .before .before .if5 .left), sym (c .before .end-agrees .ensures) ∙ not-true _ (c .if6 .taken))
+returns-6 c =
+    let at-most-written = c .before .before .before .before in
+    let at-if4 = at-most-written .before in
+    let at-if3 = at-if4 .before .before in
+    let at-if2 = at-if3 .before .before in
+    let at-allowed = at-if2 .before in
+    let at-if1 = at-allowed .before in
+    rw (
+      ne-eqb _ _ (at-if1 .if1 .left),
+      sym (at-allowed .allowed .ensures) ∙ not-false _ (at-if2 .if2 .left),
+      le-leb _ _ (at-if3 .if3 .left),
+      le-leb _ _ (at-if4 .if4 .left),
+      ← at-most-written .most-written .ensures,
+      le-leb _ _ (c .before .before .if5 .left),
+      sym (c .before .end-agrees .ensures) ∙ not-true _ (c .if6 .taken),
+    )
 
 -- src/rules.rt:113:5
 pending-agrees-requires : tie.Need-pending-agrees-requires
@@ -62,7 +83,23 @@ pending-agrees-requires c κs = search needs
 -- src/rules.rt:89:1
 returns-7 : tie.Need-returns-7
 unfolding validRun
-returns-7 c = rw (ne-eqb _ _ (c .before .before .before .before .before .before .before .before .before .before .before .before .if1 .left), sym (c .before .before .before .before .before .before .before .before .before .before .before .allowed .ensures) ∙ not-false _ (c .before .before .before .before .before .before .before .before .before .before .if2 .left), le-leb _ _ (c .before .before .before .before .before .before .before .before .if3 .left), le-leb _ _ (c .before .before .before .before .before .before .if4 .left), ← c .before .before .before .before .before .most-written .ensures, le-leb _ _ (c .before .before .before .if5 .left), sym (c .before .before .end-agrees .ensures) ∙ not-false _ (c .before .if6 .left)) (c .pending-agrees .ensures ∙ sym (and-true _))
+returns-7 c =
+    let at-if5 = c .before .before .before in
+    let at-most-written = at-if5 .before .before in
+    let at-if4 = at-most-written .before in
+    let at-if3 = at-if4 .before .before in
+    let at-if2 = at-if3 .before .before in
+    let at-allowed = at-if2 .before in
+    let at-if1 = at-allowed .before in
+    rw (
+      ne-eqb _ _ (at-if1 .if1 .left),
+      sym (at-allowed .allowed .ensures) ∙ not-false _ (at-if2 .if2 .left),
+      le-leb _ _ (at-if3 .if3 .left),
+      le-leb _ _ (at-if4 .if4 .left),
+      ← at-most-written .most-written .ensures,
+      le-leb _ _ (at-if5 .if5 .left),
+      sym (c .before .before .end-agrees .ensures) ∙ not-false _ (c .before .if6 .left),
+    ) (c .pending-agrees .ensures ∙ sym (and-true _))
 
 pub valid-run-spec : {M : Type 1} → statement M
 valid-run-spec =
