@@ -82,15 +82,6 @@ hex-length pending byte e = ap length (hex-field pending byte (hexByte (byte / 1
 pub closing-is : (ended value : Bool) → ended ≡ value → {before after : List ℕ} {at next : ℕ} → Put (closingOf value) before at next after → Put (closingOf ended) before at next after
 closing-is ended value e p = rw e p
 
-pub carried-length : (pending : Pending) → length (carriedOf pending) ≤ 2
-carried-length Nothing = omega arith
-carried-length (Byte byte) = omega arith
-
-pub closing-length : (ended : Bool) → length (closingOf ended) ≤ 5
-unfolding closingOf
-closing-length true = omega arith
-closing-length false = omega arith
-
 -- ---- a loop that copies bytes
 pub copy-turn : (bytes l : List ℕ) (at i : ℕ) → i < length bytes → set (sets l at (take i bytes)) (at + i) (getD bytes i 0) ≡ sets l at (take (i + 1) bytes)
 copy-turn bytes l at i h =

@@ -29,6 +29,7 @@ fn decimal_len(number: u64) -> usize
 
 fn carried_len(pending: Pending) -> usize
     ensures { λ r. ⌜ r ≡ length (carriedOf pending) ⌝ }
+    ensures { λ r. ⌜ r ≤ 2 ⌝ }
 {
     match pending {
         Pending::Nothing => 1,
@@ -38,6 +39,7 @@ fn carried_len(pending: Pending) -> usize
 
 fn closing_len(ended: bool) -> usize
     ensures { λ r. ⌜ r ≡ length (closingOf ended) ⌝ }
+    ensures { λ r. ⌜ r ≤ 5 ⌝ }
 {
     if ended {
         return words::OVER.len();

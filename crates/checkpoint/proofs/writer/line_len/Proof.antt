@@ -1,7 +1,6 @@
 use native.Mathlib.Omega.{arith}
 use borrow.Author.Needs.{needs}
 use Rattle.checkpoint.proofs.LineLaws.{line-length, letter-length}
-use Rattle.checkpoint.proofs.WriteLaws.{carried-length, closing-length}
 use Rattle.checkpoint.proofs.writer.line_len.Statement.{statement}
 use Rattle.checkpoint.proofs.writer.line_len.Tie as tie
 
@@ -30,112 +29,22 @@ closing-len-requires : tie.Need-closing-len-requires
 closing-len-requires c κs = search needs
 
 add-result : tie.Need-add-result
-add-result c =
-    let at-decimal-len2 = c .before .before .before in
-    let at-carried-len = at-decimal-len2 .before .before in
-    let at-decimal-len = at-carried-len .before in
-    let entry = at-decimal-len .before .before in
-    omega (
-      arith,
-      carried-length (entry .args .run .pending),
-      closing-length (entry .args .run .ended),
-      at-decimal-len .decimal-len .ensures .1,
-      at-decimal-len2 .decimal-len2 .ensures .1,
-      c .before .before .decimal-len3 .ensures .1,
-      c .before .decimal-len4 .ensures .1,
-      at-carried-len .carried-len .ensures,
-      c .closing-len .ensures,
-    )
+add-result c = search needs
 
 add-result-2 : tie.Need-add-result-2
-add-result-2 c =
-    let at-decimal-len2 = c .before .before .before in
-    let at-carried-len = at-decimal-len2 .before .before in
-    let at-decimal-len = at-carried-len .before in
-    let entry = at-decimal-len .before .before in
-    omega (
-      arith,
-      carried-length (entry .args .run .pending),
-      closing-length (entry .args .run .ended),
-      at-decimal-len .decimal-len .ensures .1,
-      at-decimal-len2 .decimal-len2 .ensures .1,
-      c .before .before .decimal-len3 .ensures .1,
-      c .before .decimal-len4 .ensures .1,
-      at-carried-len .carried-len .ensures,
-      c .closing-len .ensures,
-    )
+add-result-2 c = search needs
 
 add-result-3 : tie.Need-add-result-3
-add-result-3 c =
-    let at-decimal-len2 = c .before .before .before in
-    let at-carried-len = at-decimal-len2 .before .before in
-    let at-decimal-len = at-carried-len .before in
-    let entry = at-decimal-len .before .before in
-    omega (
-      arith,
-      carried-length (entry .args .run .pending),
-      closing-length (entry .args .run .ended),
-      at-decimal-len .decimal-len .ensures .1,
-      at-decimal-len2 .decimal-len2 .ensures .1,
-      c .before .before .decimal-len3 .ensures .1,
-      c .before .decimal-len4 .ensures .1,
-      at-carried-len .carried-len .ensures,
-      c .closing-len .ensures,
-    )
+add-result-3 c = search needs
 
 add-result-4 : tie.Need-add-result-4
-add-result-4 c =
-    let at-decimal-len2 = c .before .before .before in
-    let at-carried-len = at-decimal-len2 .before .before in
-    let at-decimal-len = at-carried-len .before in
-    let entry = at-decimal-len .before .before in
-    omega (
-      arith,
-      carried-length (entry .args .run .pending),
-      closing-length (entry .args .run .ended),
-      at-decimal-len .decimal-len .ensures .1,
-      at-decimal-len2 .decimal-len2 .ensures .1,
-      c .before .before .decimal-len3 .ensures .1,
-      c .before .decimal-len4 .ensures .1,
-      at-carried-len .carried-len .ensures,
-      c .closing-len .ensures,
-    )
+add-result-4 c = search needs
 
 add-result-5 : tie.Need-add-result-5
-add-result-5 c =
-    let at-decimal-len2 = c .before .before .before in
-    let at-carried-len = at-decimal-len2 .before .before in
-    let at-decimal-len = at-carried-len .before in
-    let entry = at-decimal-len .before .before in
-    omega (
-      arith,
-      carried-length (entry .args .run .pending),
-      closing-length (entry .args .run .ended),
-      at-decimal-len .decimal-len .ensures .1,
-      at-decimal-len2 .decimal-len2 .ensures .1,
-      c .before .before .decimal-len3 .ensures .1,
-      c .before .decimal-len4 .ensures .1,
-      at-carried-len .carried-len .ensures,
-      c .closing-len .ensures,
-    )
+add-result-5 c = search needs
 
 add-result-6 : tie.Need-add-result-6
-add-result-6 c =
-    let at-decimal-len2 = c .before .before .before in
-    let at-carried-len = at-decimal-len2 .before .before in
-    let at-decimal-len = at-carried-len .before in
-    let entry = at-decimal-len .before .before in
-    omega (
-      arith,
-      carried-length (entry .args .run .pending),
-      closing-length (entry .args .run .ended),
-      at-decimal-len .decimal-len .ensures .1,
-      at-decimal-len2 .decimal-len2 .ensures .1,
-      c .before .before .decimal-len3 .ensures .1,
-      c .before .decimal-len4 .ensures .1,
-      at-carried-len .carried-len .ensures,
-      c .closing-len .ensures,
-    )
+add-result-6 c = search needs
 
 returns : tie.Need-returns
 returns c =
@@ -151,8 +60,8 @@ returns c =
       at-decimal-len2 .decimal-len2 .ensures .0,
       c .before .before .decimal-len3 .ensures .0,
       c .before .decimal-len4 .ensures .0,
-      at-carried-len .carried-len .ensures,
-      c .closing-len .ensures,
+      at-carried-len .carried-len .ensures .0,
+      c .closing-len .ensures .0,
     )
 
 pub line-len-spec : {M : Type 1} → statement M
