@@ -19,7 +19,11 @@ same-length : tie.Need-same-length
 same-length c = search needs
 
 returns : tie.Need-returns
-returns c = hex-byte-printed _ _ _ (c .before .before .before .before .before .before .before .before .before .hex-digit .ensures) (c .before .before .before .before .hex-digit2 .ensures) (c .before .before .before .before .before .before .before .put-byte .ensures) (c .before .before .put-byte2 .ensures)
+returns c =
+    let at-hex-digit2 = c .before .before .before .before in
+    let at-put-byte = at-hex-digit2 .before .before .before in
+    let at-hex-digit = at-put-byte .before .before in
+    hex-byte-printed _ _ _ (at-hex-digit .hex-digit .ensures) (at-hex-digit2 .hex-digit2 .ensures) (at-put-byte .put-byte .ensures) (c .before .before .put-byte2 .ensures)
 
 pub put-hex-byte-spec : {M : Type 1} → statement M
 put-hex-byte-spec =

@@ -45,13 +45,21 @@ loop-less : tie.Need-loop-less Inv-loop μ-loop
 loop-less c = search needs
 
 loop-again : tie.Need-loop-again Inv-loop μ-loop
-loop-again c = (omega arith, c .before .before .put-hex-byte .ensures .same ∙ c .before .before .before .before .before .before .loop .inv .1, spread-turn hexOfByte (c .before .before .before .before .before .before .before .before .before .before .before .before .before .before .args .bytes .now) (c .before .before .before .before .before .before .loop .i) (c .before .before .before .before .before .loop-test .taken) (c .before .before .before .before .before .before .loop .inv .2) (c .before .before .put-hex-byte .ensures))
+loop-again c =
+    let at-loop-test = c .before .before .before .before .before in
+    let at-loop = at-loop-test .before in
+    let entry = at-loop .before .before .before .before .before .before .before .before in
+    (omega arith, c .before .before .put-hex-byte .ensures .same ∙ at-loop .loop .inv .1, spread-turn hexOfByte (entry .args .bytes .now) (at-loop .loop .i) (at-loop-test .loop-test .taken) (at-loop .loop .inv .2) (c .before .before .put-hex-byte .ensures))
 
 same-length-2 : tie.Need-same-length-2 Inv-loop μ-loop
 same-length-2 c = search needs
 
 returns-2 : tie.Need-returns-2 Inv-loop μ-loop
-returns-2 c = run-end hexOfByte (c .before .before .before .before .before .before .before .before .before .args .bytes .now) (c .before .loop .i) (c .before .before .before .before .before .before .if1 .left) (c .loop-test .left) (c .before .before .before .before .put-byte .ensures) (c .before .loop .inv .2)
+returns-2 c =
+    let at-put-byte = c .before .before .before .before in
+    let at-if1 = at-put-byte .before .before in
+    let entry = at-if1 .before .before .before in
+    run-end hexOfByte (entry .args .bytes .now) (c .before .loop .i) (at-if1 .if1 .left) (c .loop-test .left) (at-put-byte .put-byte .ensures) (c .before .loop .inv .2)
 
 pub put-hex-bytes-spec : {M : Type 1} → statement M
 put-hex-bytes-spec =
