@@ -54,7 +54,8 @@ valid-run-requires c κs = search needs
 
 returns-2 : tie.Need-returns-2
 returns-2 c =
-    let at-if1 = c .before .before .before .before .before in
+    let at-before = c .before .before .before .before in
+    let at-if1 = at-before .before in
     let at-closing-at = at-if1 .before .before in
     let at-number-at4 = at-closing-at .before in
     let at-number-at3 = at-number-at4 .before in
@@ -67,7 +68,8 @@ returns-2 c =
 
 returns-3 : tie.Need-returns-3
 returns-3 c =
-    let at-if1 = c .before .before .before .before .before in
+    let at-before = c .before .before .before .before in
+    let at-if1 = at-before .before in
     let at-closing-at = at-if1 .before .before in
     let at-number-at4 = at-closing-at .before in
     let at-number-at3 = at-number-at4 .before in

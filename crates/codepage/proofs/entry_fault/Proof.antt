@@ -4,44 +4,31 @@ use borrow.Author.Needs.{needs}
 use Rattle.codepage.specs.CodePage.{entriesFault, classFault}
 use Rattle.codepage.proofs.entry_fault.Statement.{statement}
 use Rattle.codepage.proofs.entry_fault.Tie as tie
-use Rattle.codepage.proofs.entry_fault.Reads as reads
-use Rattle.codepage.proofs.entry_fault.Lts as lts
-use Rattle.codepage.proofs.first_bad_class.Reads as first-bad-class-reads
-use Rattle.codepage.proofs.first_bad_number.Reads as first-bad-number-reads
-use Rattle.codepage.proofs.is_known_class.Reads as is-known-class-reads
 
--- src/lib.rt:196:9
 first-bad-class-requires : tie.Need-first-bad-class-requires
 first-bad-class-requires c κs = search needs
 
--- src/lib.rt:198:27
 shared-slice-read-is-known-class : tie.Need-shared-slice-read-is-known-class
 shared-slice-read-is-known-class c = search needs
 
--- src/lib.rt:198:12
 is-known-class-requires : tie.Need-is-known-class-requires
 is-known-class-requires c κs = search needs
 
--- src/lib.rt:199:13
 returns : tie.Need-returns
 unfolding entriesFault classFault
 returns c = rw (← c .before .before .before .before .first-bad-class .ensures, lt-ltb _ _ (c .before .before .before .if1 .taken), sym (c .before .is-known-class .ensures) ∙ c .if2 .taken)
 
--- src/lib.rt:201:9
 returns-2 : tie.Need-returns-2
 unfolding entriesFault classFault
 returns-2 c = rw (← c .before .before .before .before .first-bad-class .ensures, lt-ltb _ _ (c .before .before .before .if1 .taken), sym (c .before .is-known-class .ensures) ∙ c .if2 .left)
 
--- src/lib.rt:203:9
 first-bad-number-requires : tie.Need-first-bad-number-requires
 first-bad-number-requires c κs = search needs
 
--- src/lib.rt:205:9
 returns-3 : tie.Need-returns-3
 unfolding entriesFault
 returns-3 c = rw (← c .before .before .before .first-bad-class .ensures, le-ltb _ _ (c .before .before .if1 .left), ← c .before .first-bad-number .ensures, lt-ltb _ _ (c .if3 .taken))
 
--- src/lib.rt:192:1
 returns-4 : tie.Need-returns-4
 unfolding entriesFault
 returns-4 c = rw (← c .before .before .before .first-bad-class .ensures, le-ltb _ _ (c .before .before .if1 .left), ← c .before .first-bad-number .ensures, le-ltb _ _ (c .if3 .left))

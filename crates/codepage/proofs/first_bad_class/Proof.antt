@@ -7,9 +7,6 @@ use Rattle.codepage.specs.CodePage.{firstBad, badClass}
 use Rattle.codepage.proofs.ShapeLaws.{bad-turn, bad-found, bad-none}
 use Rattle.codepage.proofs.first_bad_class.Statement.{statement}
 use Rattle.codepage.proofs.first_bad_class.Tie as tie
-use Rattle.codepage.proofs.first_bad_class.Reads as reads
-use Rattle.codepage.proofs.first_bad_class.Lts as lts
-use Rattle.codepage.proofs.is_bad_class.Reads as is-bad-class-reads
 
 abbrev Inv-loop : tie.InvT-loop
 Inv-loop classes i₀ i = (i ≤ length classes) × (firstBad badClass 0 classes ≡ firstBad badClass i (drop i classes))
@@ -17,35 +14,27 @@ Inv-loop classes i₀ i = (i ≤ length classes) × (firstBad badClass 0 classes
 abbrev μ-loop : tie.MeasureT-loop
 μ-loop classes i₀ i = length classes - i
 
--- src/lib.rt:105:9
 loop-holds : tie.Need-loop-holds Inv-loop μ-loop
 loop-holds c = (omega arith, refl)
 
--- src/lib.rt:109:28
 shared-slice-read-is-bad-class : tie.Need-shared-slice-read-is-bad-class Inv-loop μ-loop
 shared-slice-read-is-bad-class c = omega arith
 
--- src/lib.rt:109:12
 is-bad-class-requires : tie.Need-is-bad-class-requires Inv-loop μ-loop
 is-bad-class-requires c κs = search needs
 
--- src/lib.rt:112:9
 add-i : tie.Need-add-i Inv-loop μ-loop
 add-i c = omega arith
 
--- src/lib.rt:105:9
 loop-less : tie.Need-loop-less Inv-loop μ-loop
 loop-less c = omega arith
 
--- src/lib.rt:105:9
 loop-again : tie.Need-loop-again Inv-loop μ-loop
 loop-again c = (omega arith, bad-turn badClass _ _ _ (c .before .before .before .before .loop .inv .1) (omega arith) (sym (c .before .is-bad-class .ensures) ∙ c .if2 .left))
 
--- src/lib.rt:101:1
 returns : tie.Need-returns Inv-loop μ-loop
 returns c = sym (bad-none badClass _ _ _ (c .before .loop .inv .1) (c .if1 .taken))
 
--- src/lib.rt:101:1
 returns-2 : tie.Need-returns-2 Inv-loop μ-loop
 returns-2 c = sym (bad-found badClass _ _ _ (c .before .before .before .before .loop .inv .1) (omega arith) (sym (c .before .is-bad-class .ensures) ∙ c .if2 .taken))
 

@@ -8,8 +8,6 @@ use Rattle.codepage.specs.CodePage.{firstBad, badNumber}
 use Rattle.codepage.proofs.ShapeLaws.{bad-turn, bad-found, bad-none}
 use Rattle.codepage.proofs.first_bad_number.Statement.{statement}
 use Rattle.codepage.proofs.first_bad_number.Tie as tie
-use Rattle.codepage.proofs.first_bad_number.Reads as reads
-use Rattle.codepage.proofs.first_bad_number.Lts as lts
 
 abbrev Inv-loop : tie.InvT-loop
 Inv-loop index count i₀ i = (i ≤ length index) × (firstBad (badNumber count) 0 index ≡ firstBad (badNumber count) i (drop i index))
@@ -17,36 +15,28 @@ Inv-loop index count i₀ i = (i ≤ length index) × (firstBad (badNumber count
 abbrev μ-loop : tie.MeasureT-loop
 μ-loop index count i₀ i = length index - i
 
--- src/lib.rt:122:9
 loop-holds : tie.Need-loop-holds Inv-loop μ-loop
 loop-holds c = (omega arith, refl)
 
--- src/lib.rt:126:22
 shared-slice-read-if2 : tie.Need-shared-slice-read-if2 Inv-loop μ-loop
 shared-slice-read-if2 c = omega arith
 
--- src/lib.rt:126:22
 cast-if2 : tie.Need-cast-if2 Inv-loop μ-loop
 cast-if2 c = omega (arith, c .shared-slice-known .given (c .before .before .loop .i))
 
--- src/lib.rt:129:9
 add-i : tie.Need-add-i Inv-loop μ-loop
 add-i c = omega arith
 
--- src/lib.rt:122:9
 loop-less : tie.Need-loop-less Inv-loop μ-loop
 loop-less c = omega arith
 
--- src/lib.rt:122:9
 loop-again : tie.Need-loop-again Inv-loop μ-loop
 unfolding badNumber
 loop-again c = (omega arith, bad-turn (badNumber (c .before .before .before .before .args .count)) _ _ _ (c .before .before .before .loop .inv .1) (omega arith) (lt-leb _ _ (c .if2 .left)))
 
--- src/lib.rt:118:1
 returns : tie.Need-returns Inv-loop μ-loop
 returns c = sym (bad-none (badNumber (c .before .before .args .count)) _ _ _ (c .before .loop .inv .1) (c .if1 .taken))
 
--- src/lib.rt:118:1
 returns-2 : tie.Need-returns-2 Inv-loop μ-loop
 unfolding badNumber
 returns-2 c = sym (bad-found (badNumber (c .before .before .before .before .args .count)) _ _ _ (c .before .before .before .loop .inv .1) (omega arith) (le-leb _ _ (c .if2 .taken)))

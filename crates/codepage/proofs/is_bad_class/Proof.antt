@@ -4,30 +4,21 @@ use Rattle.codepage.specs.CodePage.{badClass}
 use borrow.Author.Needs.{needs}
 use Rattle.codepage.proofs.is_bad_class.Statement.{statement}
 use Rattle.codepage.proofs.is_bad_class.Tie as tie
-use Rattle.codepage.proofs.is_bad_class.Reads as reads
-use Rattle.codepage.proofs.is_bad_class.Lts as lts
-use Rattle.codepage.proofs.is_known_class.Reads as is-known-class-reads
-use Rattle.codepage.proofs.is_lead_class.Reads as is-lead-class-reads
 
--- src/lib.rt:75:9
 is-known-class-requires : tie.Need-is-known-class-requires
 is-known-class-requires c κs = search needs
 
--- src/lib.rt:76:9
 returns : tie.Need-returns
 unfolding badClass
 returns c = rw (sym (c .before .is-known-class .ensures) ∙ not-true _ (c .if1 .taken))
 
--- src/lib.rt:79:9
 is-lead-class-requires : tie.Need-is-lead-class-requires
 is-lead-class-requires c κs = search needs
 
--- src/lib.rt:79:9
 returns-2 : tie.Need-returns-2
 unfolding badClass
 returns-2 c = rw (sym (c .before .before .before .is-known-class .ensures) ∙ not-false _ (c .before .before .if1 .left), lt-ltb _ _ (c .before .if2 .taken)) (c .is-lead-class .ensures)
 
--- src/lib.rt:72:1
 returns-3 : tie.Need-returns-3
 unfolding badClass
 returns-3 c = rw (sym (c .before .before .is-known-class .ensures) ∙ not-false _ (c .before .if1 .left), le-ltb _ _ (c .if2 .left))

@@ -2,20 +2,15 @@ use borrow.Author.Tests.{le-leb, lt-leb}
 use Rattle.codepage.specs.CodePage.{isKnown}
 use Rattle.codepage.proofs.is_known_class.Statement.{statement}
 use Rattle.codepage.proofs.is_known_class.Tie as tie
-use Rattle.codepage.proofs.is_known_class.Reads as reads
-use Rattle.codepage.proofs.is_known_class.Lts as lts
 
--- src/lib.rt:63:9
 returns : tie.Need-returns
 unfolding isKnown
 returns c = rw (le-leb _ _ (c .if1 .taken))
 
--- src/lib.rt:66:9
 returns-2 : tie.Need-returns-2
 unfolding isKnown
 returns-2 c = rw (lt-leb _ _ (c .before .if1 .left), lt-leb _ _ (c .if2 .taken))
 
--- src/lib.rt:59:1
 returns-3 : tie.Need-returns-3
 unfolding isKnown
 returns-3 c = rw (lt-leb _ _ (c .before .if1 .left), le-leb _ _ (c .if2 .left))

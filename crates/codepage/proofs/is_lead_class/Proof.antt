@@ -2,15 +2,11 @@ use borrow.Author.Tests.{eq-eqb, ne-eqb}
 use Rattle.codepage.specs.CodePage.{isLead}
 use Rattle.codepage.proofs.is_lead_class.Statement.{statement}
 use Rattle.codepage.proofs.is_lead_class.Tie as tie
-use Rattle.codepage.proofs.is_lead_class.Reads as reads
-use Rattle.codepage.proofs.is_lead_class.Lts as lts
 
--- src/lib.rt:53:9
 returns : tie.Need-returns
 unfolding isLead
 returns c = rw (eq-eqb _ _ (c .if1 .taken))
 
--- src/lib.rt:49:1
 returns-2 : tie.Need-returns-2
 unfolding isLead
 returns-2 c = rw (ne-eqb _ _ (c .if1 .left))

@@ -3,15 +3,11 @@ use Rattle.codepage.specs.CodePage.{isSingle}
 use borrow.Author.Needs.{needs}
 use Rattle.codepage.proofs.is_single_class.Statement.{statement}
 use Rattle.codepage.proofs.is_single_class.Tie as tie
-use Rattle.codepage.proofs.is_single_class.Reads as reads
-use Rattle.codepage.proofs.is_single_class.Lts as lts
 
--- src/lib.rt:63:9
 returns : tie.Need-returns
 unfolding isSingle
 returns c = rw (eq-eqb _ _ (c .if1 .taken))
 
--- src/lib.rt:59:1
 returns-2 : tie.Need-returns-2
 unfolding isSingle
 returns-2 c = rw (ne-eqb _ _ (c .if1 .left))

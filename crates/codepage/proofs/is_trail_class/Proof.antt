@@ -2,10 +2,7 @@ use Rattle.codepage.specs.CodePage.{isTrail}
 use mathlib.Core.Path.{refl}
 use Rattle.codepage.proofs.is_trail_class.Statement.{statement}
 use Rattle.codepage.proofs.is_trail_class.Tie as tie
-use Rattle.codepage.proofs.is_trail_class.Reads as reads
-use Rattle.codepage.proofs.is_trail_class.Lts as lts
 
--- src/lib.rt:71:1
 returns : tie.Need-returns
 unfolding isTrail
 returns c = refl

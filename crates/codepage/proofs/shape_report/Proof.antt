@@ -5,29 +5,19 @@ use Rattle.codepage.specs.CodePage.{isGood}
 use Rattle.codepage.proofs.ShapeLaws.{sizes-classes, report-bad, report-good}
 use Rattle.codepage.proofs.shape_report.Statement.{statement}
 use Rattle.codepage.proofs.shape_report.Tie as tie
-use Rattle.codepage.proofs.shape_report.Reads as reads
-use Rattle.codepage.proofs.shape_report.Lts as lts
-use Rattle.codepage.proofs.entry_fault.Reads as entry-fault-reads
-use Rattle.codepage.proofs.is_good.Reads as is-good-reads
-use Rattle.codepage.proofs.size_fault.Reads as size-fault-reads
 
--- src/lib.rt:230:9
 size-fault-requires : tie.Need-size-fault-requires
 size-fault-requires c κs = search needs
 
--- src/lib.rt:231:9
 is-good-requires : tie.Need-is-good-requires
 is-good-requires c κs = search needs
 
--- src/lib.rt:232:9
 returns : tie.Need-returns
 returns c = report-bad _ _ (c .before .before .size-fault .ensures) (sym (c .before .is-good .ensures) ∙ not-true _ (c .if1 .taken))
 
--- src/lib.rt:234:5
 entry-fault-requires : tie.Need-entry-fault-requires
 entry-fault-requires c κs = sizes-classes _ (ap isGood (sym (c .before .before .size-fault .ensures)) ∙ sym (c .before .is-good .ensures) ∙ not-false _ (c .if1 .left))
 
--- src/lib.rt:220:1
 returns-2 : tie.Need-returns-2
 returns-2 c = report-good _ _ (ap isGood (sym (c .before .before .before .size-fault .ensures)) ∙ sym (c .before .before .is-good .ensures) ∙ not-false _ (c .before .if1 .left)) (c .entry-fault .ensures)
 

@@ -38,19 +38,38 @@ load-bytes-requires : tie.Need-load-bytes-requires
 load-bytes-requires c κs = omega (arith, image-known _ _ _ (sym (c .before .before .before .before .before .before .before .is-image .ensures) ∙ not-false _ (c .before .before .before .before .before .before .if1 .left)) (c .before .before .before .before .before .sizes-of .ensures .0))
 
 load-units-requires : tie.Need-load-units-requires
-load-units-requires c κs = omega (arith, image-known _ _ _ (sym (c .before .before .before .before .before .before .before .before .before .before .before .is-image .ensures) ∙ not-false _ (c .before .before .before .before .before .before .before .before .before .before .if1 .left)) (c .before .before .before .before .before .before .before .before .before .sizes-of .ensures .0))
+load-units-requires c κs =
+    let at-sizes-of = c .before .before .before .before .before .before .before .before .before in
+    let at-if1 = at-sizes-of .before in
+    let at-is-image = at-if1 .before in
+    omega (arith, image-known _ _ _ (sym (at-is-image .is-image .ensures) ∙ not-false _ (at-if1 .if1 .left)) (at-sizes-of .sizes-of .ensures .0))
 
 load-units-requires-2 : tie.Need-load-units-requires-2
-load-units-requires-2 c κs = omega (arith, image-known _ _ _ (sym (c .before .before .before .before .before .before .before .before .before .before .before .before .before .before .before .is-image .ensures) ∙ not-false _ (c .before .before .before .before .before .before .before .before .before .before .before .before .before .before .if1 .left)) (c .before .before .before .before .before .before .before .before .before .before .before .before .before .sizes-of .ensures .0))
+load-units-requires-2 c κs =
+    let at-sizes-of = c .before .before .before .before .before .before .before .before .before .before .before .before .before in
+    let at-if1 = at-sizes-of .before in
+    let at-is-image = at-if1 .before in
+    omega (arith, image-known _ _ _ (sym (at-is-image .is-image .ensures) ∙ not-false _ (at-if1 .if1 .left)) (at-sizes-of .sizes-of .ensures .0))
 
 load-bytes-requires-2 : tie.Need-load-bytes-requires-2
-load-bytes-requires-2 c κs = omega (arith, image-known _ _ _ (sym (c .before .before .before .before .before .before .before .before .before .before .before .before .before .before .before .before .before .before .before .is-image .ensures) ∙ not-false _ (c .before .before .before .before .before .before .before .before .before .before .before .before .before .before .before .before .before .before .if1 .left)) (c .before .before .before .before .before .before .before .before .before .before .before .before .before .before .before .before .before .sizes-of .ensures .0))
+load-bytes-requires-2 c κs =
+    let at-sizes-of = c .before .before .before .before .before .before .before .before .before .before .before .before .before .before .before .before .before in
+    let at-if1 = at-sizes-of .before in
+    let at-is-image = at-if1 .before in
+    omega (arith, image-known _ _ _ (sym (at-is-image .is-image .ensures) ∙ not-false _ (at-if1 .if1 .left)) (at-sizes-of .sizes-of .ensures .0))
 
 load-units-requires-3 : tie.Need-load-units-requires-3
-load-units-requires-3 c κs = omega (arith, image-known _ _ _ (sym (c .before .before .before .before .before .before .before .before .before .before .before .before .before .before .before .before .before .before .before .before .before .before .before .is-image .ensures) ∙ not-false _ (c .before .before .before .before .before .before .before .before .before .before .before .before .before .before .before .before .before .before .before .before .before .before .if1 .left)) (c .before .before .before .before .before .before .before .before .before .before .before .before .before .before .before .before .before .before .before .before .before .sizes-of .ensures .0))
+load-units-requires-3 c κs =
+    let at-sizes-of = c .before .before .before .before .before .before .before .before .before .before .before .before .before .before .before .before .before .before .before .before .before in
+    let at-if1 = at-sizes-of .before in
+    let at-is-image = at-if1 .before in
+    omega (arith, image-known _ _ _ (sym (at-is-image .is-image .ensures) ∙ not-false _ (at-if1 .if1 .left)) (at-sizes-of .sizes-of .ensures .0))
 
 numbers-of-requires : tie.Need-numbers-of-requires
-numbers-of-requires c κs = image-head _ _ (sym (c .before .before .before .before .before .before .before .before .before .before .before .before .before .before .before .before .before .before .before .before .before .before .before .before .before .before .is-image .ensures) ∙ not-false _ (c .before .before .before .before .before .before .before .before .before .before .before .before .before .before .before .before .before .before .before .before .before .before .before .before .before .if1 .left))
+numbers-of-requires c κs =
+    let at-if1 = c .before .before .before .before .before .before .before .before .before .before .before .before .before .before .before .before .before .before .before .before .before .before .before .before .before in
+    let at-is-image = at-if1 .before in
+    image-head _ _ (sym (at-is-image .is-image .ensures) ∙ not-false _ (at-if1 .if1 .left))
 
 same-length : tie.Need-same-length
 same-length c = search needs
@@ -70,8 +89,16 @@ same-length-5 c = search needs
 returns-2 : tie.Need-returns-2
 unfolding singlesAt pairsAt indexAt blocksAt
 returns-2 c =
-    accepted _ _ _ _ _ _ _ _ _ _ _ _ _ (sym (c .before .before .before .before .before .before .before .before .before .before .before .before .before .before .before .before .before .before .before .before .before .before .before .before .before .before .before .is-image .ensures) ∙ not-false _ (c .before .before .before .before .before .before .before .before .before .before .before .before .before .before .before .before .before .before .before .before .before .before .before .before .before .before .if1 .left)) (c .numbers-of .ensures) (c .before .before .before .before .before .before .before .before .before .before .before .before .before .before .before .before .before .before .before .before .before .before .before .before .before .sizes-of .ensures .0) (c .before .before .before .before .before .before .before .before .before .before .before .before .before .before .before .before .before .before .before .load-bytes .ensures) (c .before .before .before .before .before .before .before .before .before .before .before .before .before .before .before .load-units .ensures) (c .before .before .before .before .before .before .before .before .before .before .before .load-units2 .ensures)
-    (c .before .before .before .before .before .before .before .load-bytes2 .ensures) (c .before .before .before .load-units3 .ensures)
+    let at-load-units3 = c .before .before .before in
+    let at-load-bytes2 = at-load-units3 .before .before .before .before in
+    let at-load-units2 = at-load-bytes2 .before .before .before .before in
+    let at-load-units = at-load-units2 .before .before .before .before in
+    let at-load-bytes = at-load-units .before .before .before .before in
+    let at-sizes-of = at-load-bytes .before .before .before .before .before .before in
+    let at-if1 = at-sizes-of .before in
+    let at-is-image = at-if1 .before in
+    accepted _ _ _ _ _ _ _ _ _ _ _ _ _ (sym (at-is-image .is-image .ensures) ∙ not-false _ (at-if1 .if1 .left)) (c .numbers-of .ensures) (at-sizes-of .sizes-of .ensures .0) (at-load-bytes .load-bytes .ensures) (at-load-units .load-units .ensures) (at-load-units2 .load-units2 .ensures)
+    (at-load-bytes2 .load-bytes2 .ensures) (at-load-units3 .load-units3 .ensures)
 
 pub load-spec : {M : Type 1} → statement M
 load-spec =

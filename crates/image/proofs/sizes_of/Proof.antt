@@ -20,7 +20,18 @@ four-at-requires-5 c κs = search needs
 
 returns : tie.Need-returns
 unfolding sizesOf
-returns c = (rw (← c .before .before .before .before .four-at .ensures .0, ← c .before .before .before .four-at2 .ensures .0, ← c .before .before .four-at3 .ensures .0, ← c .before .four-at4 .ensures .0, ← c .four-at5 .ensures .0), (c .before .before .before .before .four-at .ensures .1, c .before .before .before .four-at2 .ensures .1, c .before .before .four-at3 .ensures .1, c .before .four-at4 .ensures .1, c .four-at5 .ensures .1))
+returns c =
+    let at-four-at2 = c .before .before .before in
+    let at-four-at = at-four-at2 .before in (
+      rw (
+        ← at-four-at .four-at .ensures .0,
+        ← at-four-at2 .four-at2 .ensures .0,
+        ← c .before .before .four-at3 .ensures .0,
+        ← c .before .four-at4 .ensures .0,
+        ← c .four-at5 .ensures .0,
+      ),
+      (at-four-at .four-at .ensures .1, at-four-at2 .four-at2 .ensures .1, c .before .before .four-at3 .ensures .1, c .before .four-at4 .ensures .1, c .four-at5 .ensures .1),
+    )
 
 pub sizes-of-spec : {M : Type 1} → statement M
 sizes-of-spec =

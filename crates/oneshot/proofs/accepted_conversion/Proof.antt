@@ -4,23 +4,16 @@ use Rattle.oneshot.proofs.TextLaws.{third}
 use borrow.Author.Needs.{needs}
 use Rattle.oneshot.proofs.accepted_conversion.Statement.{statement}
 use Rattle.oneshot.proofs.accepted_conversion.Tie as tie
-use Rattle.oneshot.proofs.accepted_conversion.Reads as reads
-use Rattle.oneshot.proofs.accepted_conversion.Lts as lts
-use Rattle.oneshot.proofs.totals_by.Reads as totals-by-reads
 
--- src/lib.rt:99:9
 totals-by-requires : tie.Need-totals-by-requires
 totals-by-requires c κs = search needs
 
--- src/lib.rt:101:9
 returns : tie.Need-returns
 returns c = (sym (c .if1 .taken), ap some (c .before .before .totals-by .ensures))
 
--- src/lib.rt:104:9
 returns-2 : tie.Need-returns-2
 returns-2 c = (sym (c .if2 .taken), ap some (c .before .before .before .before .totals-by .ensures))
 
--- src/lib.rt:95:1
 returns-3 : tie.Need-returns-3
 returns-3 c = (third _ 0 2 3 (c .before .before .before .before .before .pre) (c .before .before .if1 .left) (c .if2 .left), ap some (c .before .before .before .before .totals-by .ensures))
 

@@ -4,25 +4,16 @@ use Rattle.oneshot.proofs.TextLaws.{filled-count, filled-as}
 use borrow.Author.Needs.{needs}
 use Rattle.oneshot.proofs.decode_filled.Statement.{statement}
 use Rattle.oneshot.proofs.decode_filled.Tie as tie
-use Rattle.oneshot.proofs.decode_filled.Reads as reads
-use Rattle.oneshot.proofs.decode_filled.Lts as lts
-use Rattle.oneshot.proofs.decode_text.Reads as decode-text-reads
-use Rattle.oneshot.proofs.number_of.Reads as number-of-reads
-use Rattle.oneshot.proofs.totals_of.Reads as totals-of-reads
 
--- src/lib.rt:311:9
 decode-text-requires : tie.Need-decode-text-requires
 decode-text-requires c κs = search needs
 
--- src/lib.rt:314:9
 totals-of-requires : tie.Need-totals-of-requires
 totals-of-requires c κs = search needs
 
--- src/lib.rt:315:15
 number-of-requires : tie.Need-number-of-requires
 number-of-requires c κs = search needs
 
--- src/lib.rt:319:5
 slice-aggregate-result : tie.Need-slice-aggregate-result
 slice-aggregate-result c = filled-count Decoding _ _ _ _ _ _ (c .before .before .before .before .before .decode-text .ensures) _ (c .before .before .totals-of .ensures)
 

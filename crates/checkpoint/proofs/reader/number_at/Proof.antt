@@ -26,7 +26,8 @@ nowhere-requires-2 c κs = search needs
 
 returns-2 : tie.Need-returns-2
 returns-2 c =
-    let at-if1 = c .before .before .before .before in
+    let at-before = c .before .before .before in
+    let at-if1 = at-before .before in
     let entry = at-if1 .before .before in
     (omega arith, found-none _ (field (upTo (entry .args .limit) number)) _ _ _ (field-none (upTo (entry .args .limit) number) _ _ (limited-none _ _ _ (at-if1 .if1 .left) (digit-none (getD (entry .args .line .now) (entry .args .at) 0) _ (c .before .before .digit-value .ensures) (c .before .if2 .taken)))) (c .nowhere2 .ensures))
 

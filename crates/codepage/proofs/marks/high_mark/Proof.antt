@@ -2,14 +2,10 @@ use Rattle.codepage.proofs.MarkLaws.{high-three, high-class}
 use native.Mathlib.Omega.{arith}
 use Rattle.codepage.proofs.marks.high_mark.Statement.{statement}
 use Rattle.codepage.proofs.marks.high_mark.Tie as tie
-use Rattle.codepage.proofs.marks.high_mark.Reads as reads
-use Rattle.codepage.proofs.marks.high_mark.Lts as lts
 
--- src/marks.rt:35:9
 returns : tie.Need-returns
 returns c = λ byte h. high-three byte (c .before .args .class) (c .if1 .taken)
 
--- src/marks.rt:31:1
 returns-2 : tie.Need-returns-2
 returns-2 c = λ byte h. high-class byte (c .before .args .class) (omega arith) h (c .if1 .left)
 

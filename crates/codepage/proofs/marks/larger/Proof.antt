@@ -2,14 +2,10 @@ use native.Mathlib.Omega.{arith}
 use borrow.Author.Tests.{lt-ltb, le-ltb}
 use Rattle.codepage.proofs.marks.larger.Statement.{statement}
 use Rattle.codepage.proofs.marks.larger.Tie as tie
-use Rattle.codepage.proofs.marks.larger.Reads as reads
-use Rattle.codepage.proofs.marks.larger.Lts as lts
 
--- src/marks.rt:57:9
 returns : tie.Need-returns
 returns c = ((omega arith, omega arith), rw (lt-ltb _ _ (c .if1 .taken)))
 
--- src/marks.rt:52:1
 returns-2 : tie.Need-returns-2
 returns-2 c = ((omega arith, omega arith), rw (le-ltb _ _ (c .if1 .left)))
 

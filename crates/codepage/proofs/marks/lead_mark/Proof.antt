@@ -3,18 +3,13 @@ use Rattle.codepage.specs.Marks.{markOf}
 use Rattle.codepage.proofs.MarkLaws.{lead-two, lead-six, lead-neither}
 use Rattle.codepage.proofs.marks.lead_mark.Statement.{statement}
 use Rattle.codepage.proofs.marks.lead_mark.Tie as tie
-use Rattle.codepage.proofs.marks.lead_mark.Reads as reads
-use Rattle.codepage.proofs.marks.lead_mark.Lts as lts
 
--- src/marks.rt:15:9
 returns : tie.Need-returns
 returns c = ap markOf (sym (lead-two (c .before .args .class) (c .if1 .taken)))
 
--- src/marks.rt:18:9
 returns-2 : tie.Need-returns-2
 returns-2 c = ap markOf (sym (lead-six (c .before .before .args .class) (c .if2 .taken)))
 
--- src/marks.rt:11:1
 returns-3 : tie.Need-returns-3
 returns-3 c = ap markOf (sym (lead-neither (c .before .before .args .class) (c .before .if1 .left) (c .if2 .left)))
 

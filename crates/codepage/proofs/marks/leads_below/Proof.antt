@@ -7,9 +7,6 @@ use mathlib.Core.Path.{_≡_, refl, _∙_, ap}
 use Prim.Native.Nat.{ℕ, _≤_, _-_}
 use Rattle.codepage.proofs.marks.leads_below.Statement.{statement}
 use Rattle.codepage.proofs.marks.leads_below.Tie as tie
-use Rattle.codepage.proofs.marks.leads_below.Reads as reads
-use Rattle.codepage.proofs.marks.leads_below.Lts as lts
-use Rattle.codepage.proofs.marks.lead_mark.Reads as lead-mark-reads
 
 abbrev Inv-loop : tie.InvT-loop
 Inv-loop classes byte count₀ i₀ count i = (i ≤ byte) × (count ≤ i) × (count ≡ leads (take i classes))
@@ -17,44 +14,37 @@ Inv-loop classes byte count₀ i₀ count i = (i ≤ byte) × (count ≤ i) × (
 abbrev μ-loop : tie.MeasureT-loop
 μ-loop classes byte count₀ i₀ count i = byte - i
 
--- src/lib.rt:103:5
 loop-holds : tie.Need-loop-holds Inv-loop μ-loop
 unfolding leads
 loop-holds c = (omega arith, omega arith, refl)
 
--- src/lib.rt:104:35
 shared-slice-read-lead-mark : tie.Need-shared-slice-read-lead-mark Inv-loop μ-loop
 shared-slice-read-lead-mark c = omega arith
 
--- src/lib.rt:104:18
 lead-mark-requires : tie.Need-lead-mark-requires Inv-loop μ-loop
 lead-mark-requires c κs = search needs
 
--- src/lib.rt:104:18
 cast-count : tie.Need-cast-count Inv-loop μ-loop
 cast-count c = let m = mark-le (isLead _) _ (c .lead-mark .ensures) in omega (arith, m)
 
--- src/lib.rt:104:9
 add-count : tie.Need-add-count Inv-loop μ-loop
 add-count c = let m = mark-le (isLead _) _ (c .lead-mark .ensures) in omega (arith, m)
 
--- src/lib.rt:105:9
 add-i : tie.Need-add-i Inv-loop μ-loop
 add-i c = omega arith
 
--- src/lib.rt:103:5
 loop-less : tie.Need-loop-less Inv-loop μ-loop
 loop-less c = omega arith
 
--- src/lib.rt:103:5
 loop-again : tie.Need-loop-again Inv-loop μ-loop
-loop-again c = let m = mark-le (isLead _) _ (c .lead-mark .ensures) in (omega arith, omega (arith, m), count-mark (c .before .before .before .before .before .args .classes .now) (c .before .before .before .loop .i) (c .before .before .before .loop .count) _ (c .before .before .before .loop .inv .2) (omega arith) (c .lead-mark .ensures))
+loop-again c =
+    let at-loop = c .before .before .before in
+    let entry = at-loop .before .before in
+    let m = mark-le (isLead _) _ (c .lead-mark .ensures) in (omega arith, omega (arith, m), count-mark (entry .args .classes .now) (at-loop .loop .i) (at-loop .loop .count) _ (at-loop .loop .inv .2) (omega arith) (c .lead-mark .ensures))
 
--- src/lib.rt:107:5
 cast-result : tie.Need-cast-result Inv-loop μ-loop
 cast-result c = omega (arith, c .before .loop .inv .1)
 
--- src/lib.rt:97:1
 returns : tie.Need-returns Inv-loop μ-loop
 unfolding leadsBelow
 returns c =

@@ -2,10 +2,7 @@ use Rattle.codepage.proofs.MarkLaws.{low-class}
 use native.Mathlib.Omega.{arith}
 use Rattle.codepage.proofs.marks.low_mark.Statement.{statement}
 use Rattle.codepage.proofs.marks.low_mark.Tie as tie
-use Rattle.codepage.proofs.marks.low_mark.Reads as reads
-use Rattle.codepage.proofs.marks.low_mark.Lts as lts
 
--- src/marks.rt:24:1
 returns : tie.Need-returns
 returns c = λ byte h. low-class byte (c .args .class) (omega arith) h
 

@@ -3,35 +3,27 @@ use borrow.Author.Tests.{eq-eqb, ne-eqb, le-leb, lt-leb}
 use Rattle.codepage.specs.Marks.{goodSizes}
 use Rattle.codepage.proofs.shape.good_sizes.Statement.{statement}
 use Rattle.codepage.proofs.shape.good_sizes.Tie as tie
-use Rattle.codepage.proofs.shape.good_sizes.Reads as reads
-use Rattle.codepage.proofs.shape.good_sizes.Lts as lts
 
--- src/shape.rt:24:9
 returns : tie.Need-returns
 unfolding goodSizes
 returns c = rw (ne-eqb _ _ (c .if1 .taken))
 
--- src/shape.rt:27:9
 returns-2 : tie.Need-returns-2
 unfolding goodSizes
 returns-2 c = rw (eq-eqb _ _ (c .before .if1 .left), ne-eqb _ _ (c .if2 .taken))
 
--- src/shape.rt:30:9
 returns-3 : tie.Need-returns-3
 unfolding goodSizes
 returns-3 c = rw (eq-eqb _ _ (c .before .before .if1 .left), eq-eqb _ _ (c .before .if2 .left), ne-eqb _ _ (c .if3 .taken))
 
--- src/shape.rt:33:9
 returns-4 : tie.Need-returns-4
 unfolding goodSizes
 returns-4 c = rw (eq-eqb _ _ (c .before .before .before .if1 .left), eq-eqb _ _ (c .before .before .if2 .left), eq-eqb _ _ (c .before .if3 .left), ne-eqb _ _ (c .if4 .taken))
 
--- src/shape.rt:36:9
 returns-5 : tie.Need-returns-5
 unfolding goodSizes
 returns-5 c = rw (eq-eqb _ _ (c .before .before .before .before .if1 .left), eq-eqb _ _ (c .before .before .before .if2 .left), eq-eqb _ _ (c .before .before .if3 .left), eq-eqb _ _ (c .before .if4 .left), lt-leb _ _ (c .if5 .taken))
 
--- src/shape.rt:15:1
 returns-6 : tie.Need-returns-6
 unfolding goodSizes
 returns-6 c = rw (eq-eqb _ _ (c .before .before .before .before .if1 .left), eq-eqb _ _ (c .before .before .before .if2 .left), eq-eqb _ _ (c .before .before .if3 .left), eq-eqb _ _ (c .before .if4 .left), le-leb _ _ (c .if5 .left))

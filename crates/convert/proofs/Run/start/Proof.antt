@@ -4,25 +4,18 @@ use Rattle.convert.specs.Runs.{startOf}
 use borrow.Author.Needs.{needs}
 use Rattle.convert.proofs.Run.start.Statement.{statement}
 use Rattle.convert.proofs.Run.start.Tie as tie
-use Rattle.convert.proofs.Run.start.Reads as reads
-use Rattle.convert.proofs.Run.start.Lts as lts
-use Rattle.engine.proofs.policies.allowed.Reads as allowed-reads
 
--- src/lib.rt:102:13
 returns : tie.Need-returns
 unfolding startOf
 returns c = rw (eq-eqb _ _ (c .if1 .taken))
 
--- src/lib.rt:104:13
 allowed-requires : tie.Need-allowed-requires
 allowed-requires c κs = search needs
 
--- src/lib.rt:105:13
 returns-2 : tie.Need-returns-2
 unfolding startOf
 returns-2 c = rw (ne-eqb _ _ (c .before .before .if1 .left), sym (c .before .allowed .ensures) ∙ not-true _ (c .if2 .taken))
 
--- src/lib.rt:98:5
 returns-3 : tie.Need-returns-3
 unfolding startOf
 returns-3 c = rw (ne-eqb _ _ (c .before .before .if1 .left), sym (c .before .allowed .ensures) ∙ not-false _ (c .if2 .left))

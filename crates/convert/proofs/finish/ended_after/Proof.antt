@@ -3,20 +3,15 @@ use Rattle.convert.specs.Calls.{endedAfter}
 use borrow.Author.Needs.{needs}
 use Rattle.convert.proofs.finish.ended_after.Statement.{statement}
 use Rattle.convert.proofs.finish.ended_after.Tie as tie
-use Rattle.convert.proofs.finish.ended_after.Reads as reads
-use Rattle.convert.proofs.finish.ended_after.Lts as lts
 
--- src/finish.rt:75:9
 returns : tie.Need-returns
 unfolding endedAfter
 returns c = rw (eq-eqb _ _ (c .if1 .taken))
 
--- src/finish.rt:78:9
 returns-2 : tie.Need-returns-2
 unfolding endedAfter
 returns-2 c = rw (ne-eqb _ _ (c .before .if1 .left), eq-eqb _ _ (c .if2 .taken))
 
--- src/finish.rt:71:1
 returns-3 : tie.Need-returns-3
 unfolding endedAfter
 returns-3 c = rw (ne-eqb _ _ (c .before .if1 .left), ne-eqb _ _ (c .if2 .left))

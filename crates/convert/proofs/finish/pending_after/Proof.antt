@@ -5,33 +5,25 @@ use Rattle.convert.proofs.CallLaws.{final-empty, final-last}
 use borrow.Author.Needs.{needs}
 use Rattle.convert.proofs.finish.pending_after.Statement.{statement}
 use Rattle.convert.proofs.finish.pending_after.Tie as tie
-use Rattle.convert.proofs.finish.pending_after.Reads as reads
-use Rattle.convert.proofs.finish.pending_after.Lts as lts
 
--- src/finish.rt:47:13
 returns : tie.Need-returns
 unfolding pendingAfter
 returns c = rw (eq-eqb _ _ (c .before .if1 .taken)) (final-empty (c .before .before .before .args .pending) (c .before .before .before .args .piece .now) (c .if2 .taken))
 
--- src/finish.rt:49:36
 sub-t7 : tie.Need-sub-t7
 sub-t7 c = search needs
 
--- src/finish.rt:49:30
 shared-slice-read-t9 : tie.Need-shared-slice-read-t9
 shared-slice-read-t9 c = search needs
 
--- src/finish.rt:49:9
 returns-2 : tie.Need-returns-2
 unfolding pendingAfter
 returns-2 c = rw (eq-eqb _ _ (c .before .before .if1 .taken)) (final-last (c .before .before .before .before .args .pending) (c .before .before .before .before .args .piece .now) (c .before .if2 .left))
 
--- src/finish.rt:52:9
 returns-3 : tie.Need-returns-3
 unfolding pendingAfter
 returns-3 c = rw (ne-eqb _ _ (c .before .before .if1 .left), eq-eqb _ _ (c .if3 .taken))
 
--- src/finish.rt:42:1
 returns-4 : tie.Need-returns-4
 unfolding pendingAfter
 returns-4 c = rw (ne-eqb _ _ (c .before .before .if1 .left), ne-eqb _ _ (c .if3 .left))

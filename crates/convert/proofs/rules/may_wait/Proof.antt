@@ -3,23 +3,16 @@ use mathlib.Core.Path.{_∙_, sym}
 use borrow.Author.Needs.{needs}
 use Rattle.convert.proofs.rules.may_wait.Statement.{statement}
 use Rattle.convert.proofs.rules.may_wait.Tie as tie
-use Rattle.convert.proofs.rules.may_wait.Reads as reads
-use Rattle.convert.proofs.rules.may_wait.Lts as lts
-use Rattle.convert.proofs.rules.is_decoding.Reads as is-decoding-reads
 
--- src/rules.rt:63:9
 is-decoding-requires : tie.Need-is-decoding-requires
 is-decoding-requires c κs = search needs
 
--- src/rules.rt:64:9
 returns : tie.Need-returns
 returns c = rw (sym (c .before .is-decoding .ensures) ∙ not-true _ (c .if1 .taken))
 
--- src/rules.rt:67:9
 returns-2 : tie.Need-returns-2
 returns-2 c = rw (sym (c .before .before .is-decoding .ensures) ∙ not-false _ (c .before .if1 .left), c .if2 .taken)
 
--- src/rules.rt:60:1
 returns-3 : tie.Need-returns-3
 returns-3 c = rw (sym (c .before .before .is-decoding .ensures) ∙ not-false _ (c .before .if1 .left), c .if2 .left)
 

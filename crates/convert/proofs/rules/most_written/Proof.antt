@@ -1,26 +1,19 @@
 use borrow.Author.Needs.{needs}
 use Rattle.convert.proofs.rules.most_written.Statement.{statement}
 use Rattle.convert.proofs.rules.most_written.Tie as tie
-use Rattle.convert.proofs.rules.most_written.Reads as reads
-use Rattle.convert.proofs.rules.most_written.Lts as lts
 
--- src/rules.rt:45:32
 enum-told : tie.Need-enum-told
 enum-told c = search needs
 
--- src/rules.rt:46:32
 enum-told-2 : tie.Need-enum-told-2
 enum-told-2 c = search needs
 
--- src/rules.rt:46:32
 mul-result : tie.Need-mul-result
 mul-result c = search needs
 
--- src/rules.rt:40:1
 returns : tie.Need-returns
 returns c = search needs
 
--- src/rules.rt:40:1
 returns-2 : tie.Need-returns-2
 returns-2 c = rw (c .enum-told2 .given .1)
 

@@ -1,27 +1,19 @@
 use borrow.Author.Needs.{needs}
 use Rattle.convert.proofs.rules.pending_agrees.Statement.{statement}
 use Rattle.convert.proofs.rules.pending_agrees.Tie as tie
-use Rattle.convert.proofs.rules.pending_agrees.Reads as reads
-use Rattle.convert.proofs.rules.pending_agrees.Lts as lts
-use Rattle.convert.proofs.rules.may_wait.Reads as may-wait-reads
 
--- src/rules.rt:83:29
 enum-told : tie.Need-enum-told
 enum-told c = search needs
 
--- src/rules.rt:84:29
 enum-told-2 : tie.Need-enum-told-2
 enum-told-2 c = search needs
 
--- src/rules.rt:84:29
 may-wait-requires : tie.Need-may-wait-requires
 may-wait-requires c κs = search needs
 
--- src/rules.rt:73:1
 returns : tie.Need-returns
 returns c = search needs
 
--- src/rules.rt:73:1
 returns-2 : tie.Need-returns-2
 returns-2 c = rw (c .before .enum-told2 .given .1) (c .may-wait .ensures)
 

@@ -1,27 +1,19 @@
 use borrow.Author.Needs.{needs}
 use Rattle.convert.proofs.rules.pending_is_lead.Statement.{statement}
 use Rattle.convert.proofs.rules.pending_is_lead.Tie as tie
-use Rattle.convert.proofs.rules.pending_is_lead.Reads as reads
-use Rattle.convert.proofs.rules.pending_is_lead.Lts as lts
-use Rattle.lookup.proofs.is_lead.Reads as is-lead-reads
 
--- src/rules.rt:122:29
 enum-told : tie.Need-enum-told
 enum-told c = search needs
 
--- src/rules.rt:123:23
 enum-known-pending : tie.Need-enum-known-pending
 enum-known-pending c = search needs
 
--- src/rules.rt:123:32
 is-lead-requires : tie.Need-is-lead-requires
 is-lead-requires c κs = search needs
 
--- src/rules.rt:117:1
 returns : tie.Need-returns
 returns c = search needs
 
--- src/rules.rt:117:1
 returns-2 : tie.Need-returns-2
 returns-2 c = rw (c .before .before .pending .given .1) (c .is-lead .ensures)
 

@@ -7,31 +7,21 @@ use native.Mathlib.Omega.{arith}
 use borrow.Author.Needs.{needs}
 use Rattle.convert.proofs.rules.refusal.Statement.{statement}
 use Rattle.convert.proofs.rules.refusal.Tie as tie
-use Rattle.convert.proofs.rules.refusal.Reads as reads
-use Rattle.convert.proofs.rules.refusal.Lts as lts
-use Rattle.convert.proofs.rules.pending_is_lead.Reads as pending-is-lead-reads
-use Rattle.convert.proofs.rules.same_direction.Reads as same-direction-reads
-use Rattle.convert.proofs.rules.valid_run.Reads as valid-run-reads
 
--- src/rules.rt:143:9
 returns : tie.Need-returns
 unfolding refusal
 returns c = rw (c .before .before .before .before .before .before .pre, lt-leb _ _ (c .if1 .taken))
 
--- src/rules.rt:145:9
 valid-run-requires : tie.Need-valid-run-requires
 valid-run-requires c κs = search needs
 
--- src/rules.rt:146:9
 returns-2 : tie.Need-returns-2
 unfolding refusal
 returns-2 c = rw (c .before .before .before .before .before .before .before .before .pre, le-leb _ _ (c .before .before .if1 .left), sym (c .before .valid-run .ensures) ∙ not-true _ (c .if2 .taken))
 
--- src/rules.rt:149:9
 same-direction-requires : tie.Need-same-direction-requires
 same-direction-requires c κs = search needs
 
--- src/rules.rt:150:9
 returns-3 : tie.Need-returns-3
 unfolding refusal
 returns-3 c =
@@ -40,7 +30,6 @@ returns-3 c =
     let entry = at-if1 .before .before .before .before .before .before in
     rw (entry .pre, le-leb _ _ (at-if1 .if1 .left), sym (at-valid-run .valid-run .ensures) ∙ not-false _ (c .before .before .if2 .left), sym (c .before .same-direction .ensures) ∙ not-true _ (c .if3 .taken))
 
--- src/rules.rt:153:9
 returns-4 : tie.Need-returns-4
 unfolding refusal
 returns-4 c =
@@ -52,11 +41,9 @@ returns-4 c =
     let entry = at-if1 .before .before .before .before .before .before in
     rw (entry .pre, le-leb _ _ (at-if1 .if1 .left), sym (at-valid-run .valid-run .ensures) ∙ not-false _ (at-if2 .if2 .left), sym (at-same-direction .same-direction .ensures) ∙ not-false _ (at-if3 .if3 .left), ne-eqb _ _ (c .if4 .taken))
 
--- src/rules.rt:156:9
 pending-is-lead-requires : tie.Need-pending-is-lead-requires
 pending-is-lead-requires c κs = shape-exact _ .0 (c .before .before .before .before .before .before .before .before .before .before .before .before .before .pre) .classes
 
--- src/rules.rt:157:9
 returns-5 : tie.Need-returns-5
 unfolding refusal
 returns-5 c =
@@ -75,7 +62,6 @@ returns-5 c =
       sym (c .before .pending-is-lead .ensures) ∙ not-true _ (c .if5 .taken),
     )
 
--- src/rules.rt:160:9
 returns-6 : tie.Need-returns-6
 unfolding refusal
 returns-6 c =
@@ -96,7 +82,6 @@ returns-6 c =
       c .if6 .taken,
     )
 
--- src/rules.rt:162:26
 add-if7 : tie.Need-add-if7
 add-if7 c =
     let at-if2 = c .before .before .before .before .before .before .before .before .before in
@@ -105,7 +90,6 @@ add-if7 c =
     let entry = at-if1 .before .before .before .before .before .before in
     omega (arith, at-if1 .if1 .left, valid-read (entry .args .run) (sym (at-valid-run .valid-run .ensures) ∙ not-false _ (at-if2 .if2 .left)))
 
--- src/rules.rt:163:9
 returns-7 : tie.Need-returns-7
 unfolding refusal
 returns-7 c =
@@ -129,7 +113,6 @@ returns-7 c =
       lt-leb _ _ (c .if7 .taken),
     )
 
--- src/rules.rt:128:1
 returns-8 : tie.Need-returns-8
 unfolding refusal
 returns-8 c =

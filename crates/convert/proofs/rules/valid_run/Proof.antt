@@ -6,42 +6,29 @@ use Rattle.convert.specs.Runs.{validRun}
 use borrow.Author.Needs.{needs}
 use Rattle.convert.proofs.rules.valid_run.Statement.{statement}
 use Rattle.convert.proofs.rules.valid_run.Tie as tie
-use Rattle.convert.proofs.rules.valid_run.Reads as reads
-use Rattle.convert.proofs.rules.valid_run.Lts as lts
-use Rattle.engine.proofs.policies.allowed.Reads as allowed-reads
-use Rattle.convert.proofs.rules.end_agrees.Reads as end-agrees-reads
-use Rattle.convert.proofs.rules.most_written.Reads as most-written-reads
-use Rattle.convert.proofs.rules.pending_agrees.Reads as pending-agrees-reads
 
--- src/rules.rt:96:9
 returns : tie.Need-returns
 unfolding validRun
 returns c = rw (eq-eqb _ _ (c .if1 .taken))
 
--- src/rules.rt:98:9
 allowed-requires : tie.Need-allowed-requires
 allowed-requires c κs = search needs
 
--- src/rules.rt:99:9
 returns-2 : tie.Need-returns-2
 unfolding validRun
 returns-2 c = rw (ne-eqb _ _ (c .before .before .if1 .left), sym (c .before .allowed .ensures) ∙ not-true _ (c .if2 .taken))
 
--- src/rules.rt:102:9
 returns-3 : tie.Need-returns-3
 unfolding validRun
 returns-3 c = rw (ne-eqb _ _ (c .before .before .before .before .if1 .left), sym (c .before .before .before .allowed .ensures) ∙ not-false _ (c .before .before .if2 .left), lt-leb _ _ (c .if3 .taken))
 
--- src/rules.rt:105:9
 returns-4 : tie.Need-returns-4
 unfolding validRun
 returns-4 c = rw (ne-eqb _ _ (c .before .before .before .before .before .before .if1 .left), sym (c .before .before .before .before .before .allowed .ensures) ∙ not-false _ (c .before .before .before .before .if2 .left), le-leb _ _ (c .before .before .if3 .left), lt-leb _ _ (c .if4 .taken))
 
--- src/rules.rt:107:8
 most-written-requires : tie.Need-most-written-requires
 most-written-requires c κs = search needs
 
--- src/rules.rt:108:9
 returns-5 : tie.Need-returns-5
 unfolding validRun
 returns-5 c =
@@ -52,11 +39,9 @@ returns-5 c =
     let at-if1 = at-allowed .before in
     rw (ne-eqb _ _ (at-if1 .if1 .left), sym (at-allowed .allowed .ensures) ∙ not-false _ (at-if2 .if2 .left), le-leb _ _ (at-if3 .if3 .left), le-leb _ _ (at-if4 .if4 .left), ← c .before .before .most-written .ensures, lt-leb _ _ (c .if5 .taken))
 
--- src/rules.rt:110:9
 end-agrees-requires : tie.Need-end-agrees-requires
 end-agrees-requires c κs = search needs
 
--- src/rules.rt:111:9
 returns-6 : tie.Need-returns-6
 unfolding validRun
 returns-6 c =
@@ -76,11 +61,9 @@ returns-6 c =
       sym (c .before .end-agrees .ensures) ∙ not-true _ (c .if6 .taken),
     )
 
--- src/rules.rt:113:5
 pending-agrees-requires : tie.Need-pending-agrees-requires
 pending-agrees-requires c κs = search needs
 
--- src/rules.rt:89:1
 returns-7 : tie.Need-returns-7
 unfolding validRun
 returns-7 c =

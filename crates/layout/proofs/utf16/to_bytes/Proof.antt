@@ -61,13 +61,16 @@ loop-less : tie.Need-loop-less Inv-loop μ-loop
 loop-less c = omega arith
 
 loop-again : tie.Need-loop-again Inv-loop μ-loop
-loop-again c = (
-  omega arith,
-  c .before .before .before .before .before .loop .inv .1,
-  simp length-set (c .before .before .before .before .before .loop .inv .2),
-  c .before .before .before .before .before .loop .inv .3,
-  two-turn _ _ _ _ _ _ _ (c .before .before .before .before .before .loop .inv .4) (c .before .before .before .before .loop-test .taken) (c .before .before .before .before .before .loop .inv .3) (omega arith) (c .before .before .low-half .ensures ∙ fitting-low (c .before .before .before .before .before .before .before .before .before .args .units .now) (length (c .before .before .before .before .before .before .before .before .before .args .bytes .now)) _ (c .before .before .before .before .before .loop .inv .1) _ (c .before .before .before .before .loop-test .taken)) (c .high-half .ensures ∙ fitting-high (c .before .before .before .before .before .before .before .before .before .args .units .now) (length (c .before .before .before .before .before .before .before .before .before .args .bytes .now)) _ (c .before .before .before .before .before .loop .inv .1) _ (c .before .before .before .before .loop-test .taken)),
-)
+loop-again c =
+    let at-loop-test = c .before .before .before .before in
+    let at-loop = at-loop-test .before in
+    let entry = at-loop .before .before .before .before in (
+      omega arith,
+      at-loop .loop .inv .1,
+      simp length-set (at-loop .loop .inv .2),
+      at-loop .loop .inv .3,
+      two-turn _ _ _ _ _ _ _ (at-loop .loop .inv .4) (at-loop-test .loop-test .taken) (at-loop .loop .inv .3) (omega arith) (c .before .before .low-half .ensures ∙ fitting-low (entry .args .units .now) (length (entry .args .bytes .now)) _ (at-loop .loop .inv .1) _ (at-loop-test .loop-test .taken)) (c .high-half .ensures ∙ fitting-high (entry .args .units .now) (length (entry .args .bytes .now)) _ (at-loop .loop .inv .1) _ (at-loop-test .loop-test .taken)),
+    )
 
 mul-result : tie.Need-mul-result Inv-loop μ-loop
 mul-result c = omega arith

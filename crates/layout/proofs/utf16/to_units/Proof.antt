@@ -52,13 +52,16 @@ loop-less : tie.Need-loop-less Inv-loop μ-loop
 loop-less c = omega arith
 
 loop-again : tie.Need-loop-again Inv-loop μ-loop
-loop-again c = (
-  omega arith,
-  c .before .before .before .before .loop .inv .1,
-  simp length-set (c .before .before .before .before .loop .inv .2),
-  c .before .before .before .before .loop .inv .3,
-  lay-turn _ _ _ _ _ (c .before .before .before .before .loop .inv .4) (omega arith) (omega arith) (c .joined .ensures ∙ fitting-unit (c .before .before .before .before .before .before .before .before .args .bytes .now) (length (c .before .before .before .before .before .before .before .before .args .units .now)) _ (c .before .before .before .before .loop .inv .1) _ (c .before .before .before .loop-test .taken)),
-)
+loop-again c =
+    let at-loop-test = c .before .before .before in
+    let at-loop = at-loop-test .before in
+    let entry = at-loop .before .before .before .before in (
+      omega arith,
+      at-loop .loop .inv .1,
+      simp length-set (at-loop .loop .inv .2),
+      at-loop .loop .inv .3,
+      lay-turn _ _ _ _ _ (at-loop .loop .inv .4) (omega arith) (omega arith) (c .joined .ensures ∙ fitting-unit (entry .args .bytes .now) (length (entry .args .units .now)) _ (at-loop .loop .inv .1) _ (at-loop-test .loop-test .taken)),
+    )
 
 same-length : tie.Need-same-length Inv-loop μ-loop
 same-length c = c .before .loop .inv .2

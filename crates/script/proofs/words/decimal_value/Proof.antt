@@ -28,10 +28,18 @@ cast-digit : tie.Need-cast-digit Inv-loop μ-loop
 cast-digit c = search needs
 
 returns : tie.Need-returns Inv-loop μ-loop
-returns c = (omega arith, sym (c .before .before .before .before .loop .inv .2 ∙ none-turn _ (c .before .before .before .before .before .before .args .word .now) (c .before .before .before .before .loop .value) (c .before .before .before .before .loop .i) (c .before .before .before .loop-test .taken) (digit-none (getD (c .before .before .before .before .before .before .args .word .now) (c .before .before .before .before .loop .i) 0) _ (c .before .digit-value .ensures .1) (c .if1 .taken))))
+returns c =
+    let at-loop-test = c .before .before .before in
+    let at-loop = at-loop-test .before in
+    let entry = at-loop .before .before in
+    (omega arith, sym (at-loop .loop .inv .2 ∙ none-turn _ (entry .args .word .now) (at-loop .loop .value) (at-loop .loop .i) (at-loop-test .loop-test .taken) (digit-none (getD (entry .args .word .now) (at-loop .loop .i) 0) _ (c .before .digit-value .ensures .1) (c .if1 .taken))))
 
 returns-2 : tie.Need-returns-2 Inv-loop μ-loop
-returns-2 c = (omega arith, sym (c .before .before .before .before .before .loop .inv .2 ∙ over-turn _ (c .before .before .before .before .before .before .before .args .word .now) (c .before .before .before .before .before .loop .value) (c .before .before .before .before .before .loop .i) _ (c .before .before .before .before .loop-test .taken) (value-some _ _ (c .before .before .digit-value .ensures .1) (omega arith)) (omega arith)))
+returns-2 c =
+    let at-loop-test = c .before .before .before .before in
+    let at-loop = at-loop-test .before in
+    let entry = at-loop .before .before in
+    (omega arith, sym (at-loop .loop .inv .2 ∙ over-turn _ (entry .args .word .now) (at-loop .loop .value) (at-loop .loop .i) _ (at-loop-test .loop-test .taken) (value-some _ _ (c .before .before .digit-value .ensures .1) (omega arith)) (omega arith)))
 
 mul-if3 : tie.Need-mul-if3 Inv-loop μ-loop
 mul-if3 c = search needs
@@ -40,7 +48,12 @@ sub-if3 : tie.Need-sub-if3 Inv-loop μ-loop
 sub-if3 c = search needs
 
 returns-3 : tie.Need-returns-3 Inv-loop μ-loop
-returns-3 c = (omega arith, sym (c .before .before .before .before .before .before .loop .inv .2 ∙ over-turn _ (c .before .before .before .before .before .before .before .before .args .word .now) (c .before .before .before .before .before .before .loop .value) (c .before .before .before .before .before .before .loop .i) _ (c .before .before .before .before .before .loop-test .taken) (value-some _ _ (c .before .before .before .digit-value .ensures .1) (omega arith)) (omega arith)))
+returns-3 c =
+    let at-digit-value = c .before .before .before in
+    let at-loop-test = at-digit-value .before .before in
+    let at-loop = at-loop-test .before in
+    let entry = at-loop .before .before in
+    (omega arith, sym (at-loop .loop .inv .2 ∙ over-turn _ (entry .args .word .now) (at-loop .loop .value) (at-loop .loop .i) _ (at-loop-test .loop-test .taken) (value-some _ _ (at-digit-value .digit-value .ensures .1) (omega arith)) (omega arith)))
 
 mul-value : tie.Need-mul-value Inv-loop μ-loop
 mul-value c = search needs
@@ -55,7 +68,12 @@ loop-less : tie.Need-loop-less Inv-loop μ-loop
 loop-less c = search needs
 
 loop-again : tie.Need-loop-again Inv-loop μ-loop
-loop-again c = (omega arith, omega arith, c .before .before .before .before .before .before .loop .inv .2 ∙ ap (atMost _) (spelled-turn (c .before .before .before .before .before .before .before .before .args .word .now) (c .before .before .before .before .before .before .loop .value) (c .before .before .before .before .before .before .loop .i) _ (c .before .before .before .before .before .loop-test .taken) (value-some _ _ (c .before .before .before .digit-value .ensures .1) (omega arith))))
+loop-again c =
+    let at-digit-value = c .before .before .before in
+    let at-loop-test = at-digit-value .before .before in
+    let at-loop = at-loop-test .before in
+    let entry = at-loop .before .before in
+    (omega arith, omega arith, at-loop .loop .inv .2 ∙ ap (atMost _) (spelled-turn (entry .args .word .now) (at-loop .loop .value) (at-loop .loop .i) _ (at-loop-test .loop-test .taken) (value-some _ _ (at-digit-value .digit-value .ensures .1) (omega arith))))
 
 returns-4 : tie.Need-returns-4 Inv-loop μ-loop
 returns-4 c = (omega arith, sym (c .before .loop .inv .2 ∙ end-turn _ (c .before .before .before .args .word .now) (c .before .loop .value) (c .before .loop .i) (c .loop-test .left) (omega arith)))

@@ -25,7 +25,11 @@ hex-value-requires : tie.Need-hex-value-requires Inv-loop μ-loop
 hex-value-requires c κs = search needs
 
 returns : tie.Need-returns Inv-loop μ-loop
-returns c = sym (c .before .before .before .before .loop .inv .1 ∙ hex-stop (c .before .before .before .before .before .before .args .word .now) (c .before .before .before .before .loop .i) (c .before .before .before .loop-test .taken) (hex-none (getD (c .before .before .before .before .before .before .args .word .now) (c .before .before .before .before .loop .i) 0) _ (c .before .hex-value .ensures .1) (c .if1 .taken)))
+returns c =
+    let at-loop-test = c .before .before .before in
+    let at-loop = at-loop-test .before in
+    let entry = at-loop .before .before in
+    sym (at-loop .loop .inv .1 ∙ hex-stop (entry .args .word .now) (at-loop .loop .i) (at-loop-test .loop-test .taken) (hex-none (getD (entry .args .word .now) (at-loop .loop .i) 0) _ (c .before .hex-value .ensures .1) (c .if1 .taken)))
 
 add-i : tie.Need-add-i Inv-loop μ-loop
 add-i c = search needs
@@ -34,7 +38,11 @@ loop-less : tie.Need-loop-less Inv-loop μ-loop
 loop-less c = search needs
 
 loop-again : tie.Need-loop-again Inv-loop μ-loop
-loop-again c = (omega arith, c .before .before .before .before .loop .inv .1 ∙ hex-turn (c .before .before .before .before .before .before .args .word .now) (c .before .before .before .before .loop .i) _ (c .before .before .before .loop-test .taken) (value-some _ _ (c .before .hex-value .ensures .1) (omega arith)))
+loop-again c =
+    let at-loop-test = c .before .before .before in
+    let at-loop = at-loop-test .before in
+    let entry = at-loop .before .before in
+    (omega arith, at-loop .loop .inv .1 ∙ hex-turn (entry .args .word .now) (at-loop .loop .i) _ (at-loop-test .loop-test .taken) (value-some _ _ (c .before .hex-value .ensures .1) (omega arith)))
 
 returns-2 : tie.Need-returns-2 Inv-loop μ-loop
 returns-2 c = sym (c .before .loop .inv .1 ∙ hex-end (c .before .before .before .args .word .now) (c .before .loop .i) (c .loop-test .left))
