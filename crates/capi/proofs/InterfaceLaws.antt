@@ -1,7 +1,7 @@
 -- Laws of the C interface: a run's numbers return, and what the calls behind the interface promise is what it promises.
 use mathlib.Core.Bool.{Bool, true, false, _&&_}
 use mathlib.Core.List.{List}
-use mathlib.Core.Path.{_≡_, refl, sym, ap, _∙_}
+use mathlib.Core.Path.{_≡_, refl, sym, ap, _∙_, subst}
 use Prim.Native.Nat.{ℕ, _<_, _≤_}
 use lib.Dec.{leb, ltb, eqb}
 use lib.ListN.{length}
@@ -16,15 +16,15 @@ use Rattle.convert.specs.declared.Pending.{Pending}
 use Rattle.convert.specs.declared.Pending.the-variants.{Nothing, Byte}
 use Rattle.convert.specs.declared.Run.{Run}
 use Rattle.convert.specs.declared.Outcome.{Outcome}
-use Rattle.convert.specs.Runs.{pieceLimit}
-use Rattle.convert.specs.Calls.{check, refusal, refusedCall, runCall, Answered}
+use Rattle.convert.specs.Runs.{pieceLimit, validRun}
+use Rattle.convert.specs.Calls.{numberOf, check, refusal, Called, refusedCall, runCall, Answered}
 use Rattle.convert.proofs.RunLaws.{refused-same}
 use Rattle.checkpoint.specs.declared.Written.{Written}
 use Rattle.checkpoint.specs.Line.{writeOf, writtenAs, Saved, CarriedFits, Representable}
 use Rattle.capi.specs.declared.TillRun.{TillRun}
 use Rattle.capi.specs.declared.TillOutcome.{TillOutcome}
 use Rattle.capi.specs.declared.TillSaved.{TillSaved}
-use Rattle.capi.specs.Interface.{directionIn, directionOut, pendingIn, pendingOut, flagOut, isRun, runIn, runOut, TillCalled, calledOut, tillRefusal, tillRefused, isLast, tillCall, TillAnswered, outcomeOut, noRunRefusal, refusedOut, tillSave, TillSavedAs}
+use Rattle.capi.specs.Interface.{directionIn, directionOut, pendingIn, pendingOut, flagOut, isRun, runOn, runIn, runOut, TillCalled, calledOut, tillRefusal, tillRefused, isLast, tillCall, TillAnswered, pageNamed, answerOut, tillSave, TillSavedAs}
 
 -- ---- a run and its numbers
 direction-returns : (n : ℕ) → n ≤ 1 → directionOut (directionIn n) ≡ n
@@ -50,7 +50,7 @@ ended-returns n h = by-test (eqb n 1) refl
 
 -- THE NUMBERS OF A RUN return.
 pub numbers-return : (run : TillRun) → isRun run ≡ true → runOut (runIn run) ≡ run
-unfolding isRun runIn runOut
+unfolding isRun runOn runOut
 numbers-return run e =
     let rest = and-right (leb (run .direction) 1) _ e in
     rw (
@@ -85,7 +85,7 @@ ended-is true = refl
 ended-is false = refl
 
 pub run-returns : (run : Run) → Representable run → (runIn (runOut run) ≡ run) × (isRun (runOut run) ≡ true)
-unfolding isRun runIn runOut
+unfolding isRun runOn runOut
 run-returns run fits = (
   rw (direction-named (run .direction), pending-named (run .pending) (fits .pending), ended-named (run .ended)),
   rw (direction-is (run .direction), pending-is (run .pending) (fits .pending), ended-is (run .ended)),
@@ -125,28 +125,37 @@ module _ (direction : Direction) (run : TillRun) (p : CodePage) (piece : List �
   unfolding tillCall
   refused-returns h = rw (ne-eqb (tillRefusal direction run p (length piece)) 0 h)
 
-  no-run : isRun run ≡ false → tillRefusal direction run p (length piece) ≡ noRunRefusal p (length piece)
-  unfolding tillRefusal
+  -- numbers that name no run: the call is refused, as that of a run of page 0 is
+  no-run : isRun run ≡ false → tillRefusal direction run p (length piece) ≡ refusal direction (runOn 0 run) p (length piece)
+  unfolding tillRefusal refusal validRun runOn
   no-run k = rw k
 
-  refused : (shape size : Bool) → check 10 shape (check 11 size 12) ≡ 0 → ⊥
-  refused true true e = omega arith
-  refused true false e = omega arith
-  refused false size e = omega arith
+  no-run-refused : refusal direction (runOn 0 run) p (length piece) ≡ 0 → ⊥
+  unfolding refusal validRun runOn
+  no-run-refused = never (isGood (firstFault p)) (leb (length piece) pieceLimit)
+    where
+      never : (shape size : Bool) → check 10 shape (check 11 size 12) ≡ 0 → ⊥
+      never true true e = omega arith
+      never true false e = omega arith
+      never false size e = omega arith
 
-  pub refused-answered : (number : ℕ) (r : TillOutcome) → isRun run ≡ false → number ≡ noRunRefusal p (length piece) → r ≡ refusedOut number run
-      → TillAnswered (tillCall direction run p piece last (length before)) r before before
-  unfolding refusedOut over
-  refused-answered number r k n e =
-      let h : tillRefusal direction run p (length piece) ≡ 0 → ⊥ = λ z. refused (isGood (firstFault p)) (leb (length piece) pieceLimit) (sym (no-run k) ∙ z) in
-      rw (refused-returns h, no-run k, e, n) (record { number = refl; read = refl; written = refl; run = refl; lent = refl })
-
-  pub call-answered : (inner : Run) (mark : Bool) (o : Outcome) (r : TillOutcome) (after : List ℕ) → isRun run ≡ true → inner ≡ runIn run
-      → mark ≡ isLast last → Answered (runCall direction inner p piece mark (length before)) o before after → r ≡ outcomeOut o
-      → TillAnswered (tillCall direction run p piece last (length before)) r before after
-  unfolding outcomeOut
-  call-answered inner mark o r after k i m a e =
-      rw (call-named k, e, ← i, ← m) (record { number = a .number; read = a .read; written = a .written; run = ap runOut (a .run); lent = a .lent })
+  pub call-answered : (inner : Run) (mark : Bool) (o : Outcome) (r : TillOutcome) (after : List ℕ) → inner ≡ runOn (pageNamed run) run → mark ≡ isLast last
+      → Answered (runCall direction inner p piece mark (length before)) o before after → r ≡ answerOut run o → TillAnswered (tillCall direction run p piece last (length before)) r before after
+  unfolding answerOut refusedCall
+  call-answered inner mark o r after i m a e = rw e (by-test (isRun run) refl)
+    where
+      by-test : (t : Bool) → isRun run ≡ t
+          → TillAnswered (tillCall direction run p piece last (length before)) (record { run = pick t (runOut (o .run)) run; read = o .read; written = o .written; number = numberOf (o .answer) }) before
+          after
+      by-test true k =
+          rw (call-named k, ← m, ← rw k at i)
+          (record { number = a .number; read = a .read; written = a .written; run = ap runOut (a .run); lent = a .lent })
+      by-test false k =
+          let h : tillRefusal direction run p (length piece) ≡ 0 → ⊥ = λ z. no-run-refused (sym (no-run k) ∙ z) in
+          let b : Answered (refusedCall (refusal direction (runOn 0 run) p (length piece)) (runOn 0 run)) o before after =
+          subst (λ (x : Called). Answered x o before after)
+          (ap (λ (x : Run). runCall direction x p piece mark (length before)) (rw k at i) ∙ refused-same direction (runOn 0 run) p piece mark (length before) no-run-refused) a in
+          rw (refused-returns h, no-run k) (record { number = b .number; read = b .read; written = b .written; run = refl; lent = b .lent })
 
 -- ---- line writing
 module _ (run : TillRun) (before : List ℕ) where

@@ -57,12 +57,12 @@ isRun r = leb (r .direction) 1 && (leb (r .pending) 256 && leb (r .ended) 1)
 abbrev pub policyOf : (single pair invalid : ℕ) → Policy
 policyOf single pair invalid = record { single = single; pair = pair; invalid = invalid }
 
--- The run that the numbers name.
-unfoldable pub runIn : TillRun → Run
-runIn r =
+-- The run that the numbers name, on a page.
+unfoldable pub runOn : (page : ℕ) → TillRun → Run
+runOn page r =
     record {
       direction = directionIn (r .direction);
-      page = r .page;
+      page = page;
       policy = policyOf (r .single) (r .pair) (r .invalid);
       pending = pendingIn (r .pending);
       flags = r .flags;
@@ -70,6 +70,9 @@ runIn r =
       written = r .written;
       ended = eqb (r .ended) 1;
     }
+
+abbrev pub runIn : TillRun → Run
+runIn r = runOn (r .page) r
 
 -- The numbers of a run.
 unfoldable pub runOut : Run → TillRun
@@ -133,15 +136,13 @@ pub record TillAnswered (c : TillCalled) (r : TillOutcome) (before after : List 
   pub run : r .run ≡ c .run
   pub lent : after ≡ over before (c .output)
 
-unfoldable pub outcomeOut : Outcome → TillOutcome
-outcomeOut o = record { run = runOut (o .run); read = o .read; written = o .written; number = numberOf (o .answer) }
+-- the page of numbers that name a run; no run has page 0
+abbrev pub pageNamed : TillRun → ℕ
+pageNamed r = pick (isRun r) (r .page) 0
 
--- the first check that fails where the numbers name no run
-abbrev pub noRunRefusal : CodePage → (count : ℕ) → ℕ
-noRunRefusal p count = check 10 (isGood (firstFault p)) (check 11 (leb count pieceLimit) 12)
-
-unfoldable pub refusedOut : ℕ → TillRun → TillOutcome
-refusedOut number run = record { run = run; read = 0; written = 0; number = number }
+-- what a call answers by the outcome of the run's call: numbers that name no run are given back as they were
+unfoldable pub answerOut : TillRun → Outcome → TillOutcome
+answerOut run o = record { run = pick (isRun run) (runOut (o .run)) run; read = o .read; written = o .written; number = numberOf (o .answer) }
 
 -- ---- Start and the saved line
 

@@ -3,11 +3,11 @@ ghost use mathlib.Core.Path.{_≡_};
 ghost use mathlib.Core.Bool.{Bool};
 ghost use Prim.Native.Nat.{ℕ};
 ghost use lib.ListN.{length};
-ghost use Rattle.codepage.specs.CodePage.{codePage, firstFault};
+ghost use Rattle.codepage.specs.CodePage.{firstFault};
 ghost use Rattle.engine.specs.declared.Direction.the-variants.{Decoding, Encoding};
 ghost use Rattle.convert.specs.Runs.{startedAs};
 ghost use Rattle.checkpoint.specs.Line.{readOf, restoredAs, writtenAs};
-ghost use Rattle.capi.specs.Interface.{directionIn, directionOut, pendingIn, pendingOut, flagOut, isRun, runIn, runOut, noRun, tillPage, isLast, tillCall, TillAnswered, outcomeOut, noRunRefusal, refusedOut, startOut, tillStart, loadOut, tillSave, TillSavedAs, faultOut};
+ghost use Rattle.capi.specs.Interface.{directionIn, directionOut, pendingIn, pendingOut, flagOut, isRun, runOn, runOut, noRun, tillPage, isLast, tillCall, TillAnswered, pageNamed, answerOut, startOut, tillStart, loadOut, tillSave, TillSavedAs, faultOut};
 use checkpoint::Restored;
 use checkpoint::Written;
 use codepage::Fault;
@@ -129,8 +129,9 @@ fn flag_out(flag: bool) -> u8
     0
 }
 
-fn run_in(run: TillRun) -> Run
-    ensures { λ r. ⌜ r ≡ runIn run ⌝ }
+// The run that numbers name, on a page.
+fn run_on(page: u16, run: TillRun) -> Run
+    ensures { λ r. ⌜ r ≡ runOn page run ⌝ }
 {
     let direction = direction_in(run.direction);
     let pending = pending_in(run.pending);
@@ -141,7 +142,7 @@ fn run_in(run: TillRun) -> Run
     };
     Run {
         direction,
-        page: run.page,
+        page,
         policy,
         pending,
         flags: run.flags,
@@ -174,51 +175,36 @@ fn run_out(run: Run) -> TillRun
     }
 }
 
-fn outcome_out(o: Outcome) -> TillOutcome
-    ensures { λ r. ⌜ r ≡ outcomeOut o ⌝ }
+// The page of numbers that name a run, or 0: a run of page 0 is refused with 10, 11 or 12.
+fn page_named(run: TillRun) -> u16
+    ensures { λ r. ⌜ r ≡ pageNamed run ⌝ }
+{
+    if is_run(run) {
+        return run.page;
+    }
+    0
+}
+
+// What a call answers by the outcome of the run's call: numbers that name no run are given back as they were.
+fn answer_out(run: TillRun, o: Outcome) -> TillOutcome
+    ensures { λ r. ⌜ r ≡ answerOut run o ⌝ }
 {
     let answer = o.answer;
+    let number = answer.number();
+    if !is_run(run) {
+        return TillOutcome {
+            run,
+            read: o.read,
+            written: o.written,
+            number,
+        };
+    }
     let inner = o.run;
     let run = run_out(inner);
-    let number = answer.number();
     TillOutcome {
         run,
         read: o.read,
         written: o.written,
-        number,
-    }
-}
-
-// The number that refuses a call on `count` units whose numbers name no run: 10, 11, 12 in that order, as of any run. A call
-// whose numbers name a run tests the shape itself.
-fn no_run_refusal(
-    numbers: Numbers,
-    classes: &[u8],
-    singles: &[u16],
-    pairs: &[u16],
-    index: &[u8],
-    blocks: &[u16],
-    count: usize,
-) -> u8
-    ensures { λ r. ⌜ r ≡ noRunRefusal (codePage numbers (now (classes .entry)) (now (singles .entry)) (now (pairs .entry)) (now (index .entry)) (now (blocks .entry))) count ⌝ }
-{
-    if !codepage::shape::good_shape(numbers, classes, singles, pairs, index, blocks) {
-        return 10;
-    }
-    if Run::PIECE_LIMIT < count {
-        return 11;
-    }
-    12
-}
-
-// What a refused call answers whose numbers name no run.
-fn refused_call(number: u8, run: TillRun) -> TillOutcome
-    ensures { λ r. ⌜ r ≡ refusedOut number run ⌝ }
-{
-    TillOutcome {
-        run,
-        read: 0,
-        written: 0,
         number,
     }
 }
@@ -246,11 +232,7 @@ pub extern "C" fn till_decode(
         default_byte,
         default_unit,
     };
-    if !is_run(run) {
-        let number = no_run_refusal(numbers, classes, singles, pairs, index, blocks, piece.len());
-        return refused_call(number, run);
-    }
-    let inner = run_in(run);
+    let inner = run_on(page_named(run), run);
     let o = convert::decode(
         inner,
         numbers,
@@ -263,7 +245,7 @@ pub extern "C" fn till_decode(
         is_last(last),
         out,
     );
-    outcome_out(o)
+    answer_out(run, o)
 }
 
 // One call of an encoding run.
@@ -289,11 +271,7 @@ pub extern "C" fn till_encode(
         default_byte,
         default_unit,
     };
-    if !is_run(run) {
-        let number = no_run_refusal(numbers, classes, singles, pairs, index, blocks, piece.len());
-        return refused_call(number, run);
-    }
-    let inner = run_in(run);
+    let inner = run_on(page_named(run), run);
     let o = convert::encode(
         inner,
         numbers,
@@ -306,7 +284,7 @@ pub extern "C" fn till_encode(
         is_last(last),
         out,
     );
-    outcome_out(o)
+    answer_out(run, o)
 }
 
 // The numbers beside a refusal: no run has page 0.
@@ -418,7 +396,7 @@ pub extern "C" fn till_save(run: TillRun, out: &mut [u8]) -> TillSaved
             number: 12,
         };
     }
-    let inner = run_in(run);
+    let inner = run_on(run.page, run);
     let written = checkpoint::write(inner, out);
     written_out(written)
 }

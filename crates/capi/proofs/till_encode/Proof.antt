@@ -1,75 +1,34 @@
-use Rattle.capi.proofs.InterfaceLaws.{refused-answered, call-answered}
+use Rattle.capi.proofs.InterfaceLaws.{call-answered}
+use Rattle.capi.specs.Interface.{runOn}
 use Rattle.engine.specs.declared.Direction.the-variants.{Encoding}
-use mathlib.Core.Path.{_∙_, sym}
-use borrow.Author.Tests.{not-true, not-false}
+use mathlib.Core.Path.{_∙_, ap}
+use Prim.Native.Nat.{ℕ}
 use borrow.Author.Needs.{needs}
 use Rattle.capi.proofs.till_encode.Statement.{statement}
 use Rattle.capi.proofs.till_encode.Tie as tie
-use Rattle.capi.proofs.till_encode.Reads as reads
-use Rattle.capi.proofs.till_encode.Lts as lts
-use Rattle.capi.proofs.is_last.Reads as is-last-reads
-use Rattle.capi.proofs.is_run.Reads as is-run-reads
-use Rattle.capi.proofs.no_run_refusal.Reads as no-run-refusal-reads
-use Rattle.capi.proofs.outcome_out.Reads as outcome-out-reads
-use Rattle.capi.proofs.refused_call.Reads as refused-call-reads
-use Rattle.capi.proofs.run_in.Reads as run-in-reads
-use Rattle.convert.proofs.encode.Reads as encode-reads
 
--- src/lib.rt:292:9
-is-run-requires : tie.Need-is-run-requires
-is-run-requires c κs = search needs
+page-named-requires : tie.Need-page-named-requires
+page-named-requires c κs = search needs
 
--- src/lib.rt:293:13
-no-run-refusal-requires : tie.Need-no-run-refusal-requires
-no-run-refusal-requires c κs = search needs
+run-on-requires : tie.Need-run-on-requires
+run-on-requires c κs = search needs
 
--- src/lib.rt:294:9
-refused-call-requires : tie.Need-refused-call-requires
-refused-call-requires c κs = search needs
-
--- src/lib.rt:294:9
-returns : tie.Need-returns
-returns c =
-    refused-answered Encoding _ _ _ _ _ _ _ (sym (c .before .before .before .is-run .ensures) ∙ not-true _ (c .before .before .if1 .taken)) (c .before .no-run-refusal .ensures) (c .refused-call .ensures)
-
--- src/lib.rt:296:9
-run-in-requires : tie.Need-run-in-requires
-run-in-requires c κs = search needs
-
--- src/lib.rt:306:9
 is-last-requires : tie.Need-is-last-requires
 is-last-requires c κs = search needs
 
--- src/lib.rt:297:9
 encode-requires : tie.Need-encode-requires
 encode-requires c κs = search needs
 
--- src/lib.rt:309:5
-outcome-out-requires : tie.Need-outcome-out-requires
-outcome-out-requires c κs = search needs
+answer-out-requires : tie.Need-answer-out-requires
+answer-out-requires c κs = search needs
 
--- src/lib.rt:270:1
 same-length : tie.Need-same-length
 same-length c = search needs
 
--- src/lib.rt:270:1
-returns-2 : tie.Need-returns-2
-returns-2 c =
-    let found = c .before .before .before .before .before .before in
-    call-answered Encoding _ _ _ _ _ _ _ _ _ _ (sym (found .before .before .is-run .ensures) ∙ not-false _ (found .before .if1 .left)) (found .run-in .ensures)
-    (c .before .before .before .before .before .is-last .ensures) (c .before .before .before .encode .ensures) (c .outcome-out .ensures)
+returns : tie.Need-returns
+returns c =
+    let inner = c .before .before .before .before .before .before .run-on .ensures ∙ ap (λ (page : ℕ). runOn page (c .before .before .before .before .before .before .before .before .before .before .before .before .before .before .before .args .run)) (c .before .before .before .before .before .before .before .page-named .ensures) in
+    call-answered Encoding _ _ _ _ _ _ _ _ _ _ inner (c .before .before .before .before .before .is-last .ensures) (c .before .before .before .encode .ensures) (c .answer-out .ensures)
 
 pub till-encode-spec : {M : Type 1} → statement M
-till-encode-spec =
-    tie.close
-    (tie.spec
-    is-run-requires
-    no-run-refusal-requires
-    refused-call-requires
-    returns
-    run-in-requires
-    is-last-requires
-    encode-requires
-    outcome-out-requires
-    same-length
-    returns-2)
+till-encode-spec = tie.close (tie.spec page-named-requires run-on-requires is-last-requires encode-requires answer-out-requires same-length returns)

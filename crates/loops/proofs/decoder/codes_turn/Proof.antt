@@ -1,0 +1,26 @@
+use borrow.Author.Needs.{needs}
+use Rattle.loops.proofs.decoder.codes_turn.Statement.{statement}
+use Rattle.loops.proofs.decoder.codes_turn.Tie as tie
+
+settle-requires : tie.Need-settle-requires
+settle-requires c κs =
+    let pre = c .before .before .before .before .before .before .before .pre in
+    (pre .0, (pre .1 .0, (pre .1 .1 .0, (c .before .if1 .taken, pre .1 .1 .1 (c .before .if1 .taken)))))
+
+same-length : tie.Need-same-length
+same-length c = search needs
+
+returns : tie.Need-returns
+returns c = search needs
+
+advance-requires : tie.Need-advance-requires
+advance-requires c κs = search needs
+
+same-length-2 : tie.Need-same-length-2
+same-length-2 c = search needs
+
+returns-2 : tie.Need-returns-2
+returns-2 c = search needs
+
+pub codes-turn-spec : {M : Type 1} → statement M
+codes-turn-spec = tie.close (tie.spec settle-requires same-length returns advance-requires same-length-2 returns-2)

@@ -1,0 +1,53 @@
+use lib.ListN.{length}
+use mathlib.Core.Bool.{false, false≢true}
+use mathlib.Core.Path.{_≡_, _∙_, ap}
+use Rattle.codepage.specs.Reading.{encoder}
+use Rattle.engine.specs.Engine.{converter}
+use Rattle.engine.specs.Steps.{encodeFed}
+use Rattle.loops.specs.Turns.{stepsLeft}
+use Rattle.loops.specs.declared.turns.Turn.{Turn}
+use Rattle.loops.proofs.TurnedLaws.{Loop, loop-start, loop-turn, loop-stop, loop-end, closed-none}
+use borrow.Author.Needs.{needs}
+use Rattle.loops.proofs.encoder.encode_units.Statement.{statement}
+use Rattle.loops.proofs.encoder.encode_units.Tie as tie
+
+abbrev Inv-loop : tie.InvT-loop
+Inv-loop policy default index blocks piece last out₀ t₀ out t =
+    Loop (converter (encoder index blocks) policy default) last (encodeFed index blocks policy default last (length out₀) piece) out₀ piece out t × (t .waits ≡ false)
+
+abbrev μ-loop : tie.MeasureT-loop
+μ-loop policy default index blocks piece last out₀ t₀ out t = stepsLeft piece t
+
+start-requires : tie.Need-start-requires Inv-loop μ-loop
+start-requires c κs = search needs
+
+loop-holds : tie.Need-loop-holds Inv-loop μ-loop
+loop-holds c = (loop-start _ _ false 0 _ _ (λ e. absurd (false≢true e)) (c .start .ensures), ap (λ (t : Turn). t .waits) (c .start .ensures))
+
+units-turn-requires : tie.Need-units-turn-requires Inv-loop μ-loop
+units-turn-requires c κs =
+    let pre = c .before .before .before .before .before .before .before .before .before .pre in
+    (pre .0, (pre .1 .0, (pre .1 .1, (c .before .before .before .loop .inv .0 .ready, c .before .if1 .taken, c .before .before .before .loop .inv .1))))
+
+same-length : tie.Need-same-length Inv-loop μ-loop
+same-length c = c .before .before .before .before .before .units-turn .ensures .0 .turned .same ∙ c .before .before .before .before .before .before .before .before .before .loop .inv .0 .same
+
+returns : tie.Need-returns Inv-loop μ-loop
+returns c = loop-stop (c .before .before .before .before .before .before .before .before .before .loop .inv .0) (c .before .before .before .before .before .units-turn .ensures .0 .turned) (c .if2 .taken)
+
+loop-less : tie.Need-loop-less Inv-loop μ-loop
+loop-less c = c .before .before .before .before .before .units-turn .ensures .0 .falls
+
+loop-again : tie.Need-loop-again Inv-loop μ-loop
+loop-again c = (loop-turn (c .before .before .before .before .before .before .before .before .before .loop .inv .0) (c .before .before .before .before .before .units-turn .ensures .0 .turned) (c .if2 .left), c .before .before .before .before .before .units-turn .ensures .1)
+
+same-length-2 : tie.Need-same-length-2 Inv-loop μ-loop
+same-length-2 c = c .before .before .before .loop .inv .0 .same
+
+returns-2 : tie.Need-returns-2 Inv-loop μ-loop
+returns-2 c =
+    let g = c .before .before .before .loop .inv in
+    loop-end (g .0) (c .before .if1 .left) (closed-none (g .0 .ready .going) (g .0 .ready .within) (g .1))
+
+pub encode-units-spec : {M : Type 1} → statement M
+encode-units-spec = tie.close (tie.spec Inv-loop μ-loop start-requires loop-holds units-turn-requires same-length returns loop-less loop-again same-length-2 returns-2)

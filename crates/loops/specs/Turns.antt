@@ -1,0 +1,76 @@
+-- Definitions that the contracts of the loops' turns cite, and that no promise does.
+use mathlib.Core.Bool.{Bool, true, false}
+use mathlib.Core.List.{List, []}
+use mathlib.Core.Path.{_≡_}
+use Prim.Native.Nat.{ℕ, _+_, _-_, _<_, _≤_}
+use lib.ListN.{length, drop}
+use Rattle.engine.specs.declared.progress.Progress.{Progress}
+use Rattle.codepage.specs.Reading.{alone}
+use Rattle.engine.specs.Engine.{Effect, Converter, Fed, limit, feedFrom}
+use Rattle.engine.specs.Steps.{sofar, ended, movedTo, optional}
+use Rattle.loops.specs.declared.turns.Turn.{Turn}
+
+-- ---- where a turn comes to
+
+abbrev pub startTurn : (waits : Bool) → (lead : ℕ) → Turn
+startTurn waits lead = record { progress = record { answer = 0; used = 0; written = 0; flags = 0 }; at = 0; waits = waits; lead = lead }
+
+-- past codes that have characters, up to an index of the piece and a place of the output
+abbrev pub movedTurn : Turn → (at written : ℕ) → Turn
+movedTurn t at written = record { progress = movedTo (t .progress) (at - t .at) written; at = at; waits = false; lead = t .lead }
+
+-- past one more unit: none waits, or this one does
+abbrev pub pastTurn : Turn → Progress → Turn
+pastTurn t s = record { progress = s; at = t .at + 1; waits = false; lead = t .lead }
+
+abbrev pub waitTurn : Turn → (lead : ℕ) → Turn
+waitTurn t lead = record { progress = t .progress; at = t .at + 1; waits = true; lead = lead }
+
+-- what a unit does that is a code by itself
+abbrev pub aloneEffect : Converter → ℕ → Effect
+aloneEffect v unit = v .does (alone (v .reader) unit)
+
+-- ---- what a turn keeps
+
+abbrev pub oneIf : Bool → ℕ
+oneIf true = 1
+oneIf false = 0
+
+-- the most turns that are left: one reads a unit, and one settles it if it waits
+abbrev pub stepsLeft : (piece : List ℕ) → Turn → ℕ
+stepsLeft piece t = (length piece - t .at) + (length piece - t .at) + oneIf (t .waits)
+
+pub record Ready (piece out : List ℕ) (t : Turn) : Type 0 where
+  pub going : t .progress .answer ≡ 0
+  pub inside : t .at ≤ length piece
+  pub within : t .progress .written ≤ length out
+  pub few : t .progress .used + oneIf (t .waits) ≤ t .at + t .at + 1
+
+-- what a call gives that has come to t, with the units `rest` to come
+unfoldable pub restOf : Converter → (last : Bool) → (out : List ℕ) → Turn → (rest : List ℕ) → Fed
+restOf v last out t rest = sofar (t .progress) out (feedFrom v last (limit (length out - t .progress .written)) (optional (t .waits) (t .lead)) rest)
+
+-- From t codes of a piece were taken up to r, or one ended the call there: whatever else the call has to take.
+pub record Turned (v : Converter) (piece out : List ℕ) (t : Turn) (out′ : List ℕ) (r : Turn) : Type 0 where
+  pub same : length out′ ≡ length out
+  pub within : r .progress .written ≤ length out′
+  pub grows : t .progress .written ≤ r .progress .written
+  pub kept : drop (r .progress .written) out′ ≡ drop (r .progress .written) out
+  pub left : stepsLeft piece r ≤ stepsLeft piece t
+  pub ready : r .progress .answer ≡ 0 → Ready piece out t → Ready piece out′ r
+  pub waiting : r .waits ≡ true → v .reader .waits (r .lead) ≡ true
+  pub goes : r .progress .answer ≡ 0 → (last : Bool) → restOf v last out t (drop (t .at) piece) ≡ restOf v last out′ r (drop (r .at) piece)
+  pub ends : (r .progress .answer ≡ 0 → ⊥) → (last : Bool) → restOf v last out t (drop (t .at) piece) ≡ ended (r .progress) out′
+
+-- A turn of a loop: it comes nearer to its end.
+pub record Advanced (v : Converter) (piece out : List ℕ) (t : Turn) (out′ : List ℕ) (r : Turn) : Type 0 where
+  pub turned : Turned v piece out t out′ r
+  pub falls : stepsLeft piece r < stepsLeft piece t
+
+-- At the end of a piece the call has come to t: r is what it answers.
+pub record Closed (v : Converter) (last : Bool) (out : List ℕ) (t : Turn) (out′ : List ℕ) (r : Progress) : Type 0 where
+  pub same : length out′ ≡ length out
+  pub within : r .written ≤ length out′
+  pub grows : t .progress .written ≤ r .written
+  pub kept : drop (r .written) out′ ≡ drop (r .written) out
+  pub gives : restOf v last out t [] ≡ ended r out′

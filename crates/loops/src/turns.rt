@@ -1,0 +1,73 @@
+// A turn of a loop: where it comes to in the piece, and how far the call is there.
+ghost use mathlib.Core.Path.{_≡_};
+ghost use Prim.Native.Nat.{ℕ, _+_, _-_, _≤_, _<_, _^_};
+ghost use Rattle.loops.specs.Turns.{startTurn, movedTurn, pastTurn, waitTurn};
+use engine::progress;
+use engine::progress::Progress;
+
+// How far the call is, the place in the piece, and the lead byte that was read and waits for the next one, if one does.
+pub struct Turn {
+    pub progress: Progress,
+    pub at: usize,
+    pub waits: bool,
+    pub lead: u8,
+}
+
+pub fn start(waits: bool, lead: u8) -> Turn
+    ensures { λ r. ⌜ r ≡ startTurn waits lead ⌝ }
+{
+    let progress = Progress {
+        answer: 0,
+        used: 0,
+        written: 0,
+        flags: 0,
+    };
+    Turn {
+        progress,
+        at: 0,
+        waits,
+        lead,
+    }
+}
+
+// Codes that have characters were taken, up to `at` in the piece and `written` in the output.
+pub fn moved(t: Turn, at: usize, written: usize) -> Turn
+    requires { ⌜ (t .at ≤ at) × (t .progress .used + (at - t .at) < 2 ^ 64) ⌝ }
+    ensures { λ r. ⌜ r ≡ movedTurn t at written ⌝ }
+{
+    let s = t.progress;
+    let progress = progress::moved(s, at - t.at, written);
+    Turn {
+        progress,
+        at,
+        waits: false,
+        lead: t.lead,
+    }
+}
+
+// One more unit of the piece was taken, or a code with it ended the call.
+pub fn past(t: Turn, progress: Progress) -> Turn
+    requires { ⌜ t .at + 1 < 2 ^ 64 ⌝ }
+    ensures { λ r. ⌜ r ≡ pastTurn t progress ⌝ }
+{
+    Turn {
+        progress,
+        at: t.at + 1,
+        waits: false,
+        lead: t.lead,
+    }
+}
+
+// One more unit of the piece was read, a lead byte, and waits.
+pub fn wait(t: Turn, lead: u8) -> Turn
+    requires { ⌜ t .at + 1 < 2 ^ 64 ⌝ }
+    ensures { λ r. ⌜ r ≡ waitTurn t lead ⌝ }
+{
+    let progress = t.progress;
+    Turn {
+        progress,
+        at: t.at + 1,
+        waits: true,
+        lead,
+    }
+}
