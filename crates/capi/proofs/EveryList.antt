@@ -29,8 +29,8 @@ use Rattle.capi.specs.declared.TillRun.{TillRun}
 use Rattle.capi.specs.declared.TillOutcome.{TillOutcome}
 use Rattle.capi.specs.declared.TillHanded.{TillHanded}
 use Rattle.capi.specs.declared.TillSaved.{TillSaved}
-use Rattle.capi.specs.Interface.{directionIn, directionOut, isRun, runIn, runOut, calledOut, isLast, tillCall, TillAnswered, outcomeOut, handed, startOut, tillStart, loadOut, tillSave, TillSavedAs}
-use Rattle.capi.specs.Lists.{TillResult, fed, saved, loaded, TillEntry, TillMeets, tillHandAfter, AllTillMeet, tillCalls, TillTrace, InNumbers, AllInNumbers}
+use Rattle.capi.specs.Interface.{directionIn, directionOut, isRun, runIn, runOut, calledOut, isLast, tillCall, TillAnswered, handed, startOut, tillStart, loadOut, tillSave, TillSavedAs}
+use Rattle.capi.specs.Lists.{outcomeOut, TillResult, fed, saved, loaded, TillEntry, TillMeets, tillHandAfter, AllTillMeet, tillCalls, TillTrace, InNumbers, AllInNumbers}
 use Rattle.capi.proofs.InterfaceLaws.{run-returns, call-named}
 
 -- ---- one call

@@ -4,6 +4,8 @@ use mathlib.Core.Path.{_≡_}
 use Prim.Native.Nat.{ℕ}
 use lib.ListN.{length}
 use Rattle.codepage.specs.CodePage.{pick}
+use Rattle.convert.specs.declared.Outcome.{Outcome}
+use Rattle.convert.specs.Calls.{numberOf}
 use Rattle.checkpoint.specs.Line.{readOf, writtenAs, restoredAs}
 use Rattle.traces.specs.Model.{Setting, Call, feeding, saving, loading, isAccepted, opened, AllAllowed}
 use Rattle.traces.specs.Traces.{Result, fed as answered, saved as written, loaded as restored, Entry}
@@ -11,7 +13,7 @@ use Rattle.capi.specs.declared.TillRun.{TillRun}
 use Rattle.capi.specs.declared.TillOutcome.{TillOutcome}
 use Rattle.capi.specs.declared.TillHanded.{TillHanded}
 use Rattle.capi.specs.declared.TillSaved.{TillSaved}
-use Rattle.capi.specs.Interface.{directionOut, isLast, tillCall, TillAnswered, outcomeOut, tillStart, loadOut, tillSave, TillSavedAs}
+use Rattle.capi.specs.Interface.{directionOut, isLast, runOut, tillCall, TillAnswered, tillStart, loadOut, tillSave, TillSavedAs}
 
 -- What C was handed back, with the lent output after the call.
 pub data TillResult : Type 0 where
@@ -56,6 +58,10 @@ pub record TillTrace (s : Setting) (start : TillHanded) (es : List TillEntry) : 
   pub started : start ≡ tillStart (directionOut (s .direction)) (s .page) (s .policy .single) (s .policy .pair) (s .policy .invalid)
   pub allowed : AllAllowed s (opened s) (tillCalls es)
   pub met : AllTillMeet s (start .run) es
+
+-- an outcome in numbers
+unfoldable pub outcomeOut : Outcome → TillOutcome
+outcomeOut o = record { run = runOut (o .run); read = o .read; written = o .written; number = numberOf (o .answer) }
 
 -- What C was handed back is what a call of the library returned, in numbers, and so is the lent output.
 abbrev pub InNumbers : TillResult → Result → Type 0

@@ -1,19 +1,74 @@
 // The loop of decoding: bytes to units.
 ghost use mathlib.Core.Path.{_≡_};
-ghost use mathlib.Core.Bool.{true};
+ghost use mathlib.Core.Bool.{true, false};
+ghost use mathlib.Core.List.{List};
 ghost use mathlib.Core.Option.{none};
-ghost use Prim.Native.Nat.{ℕ, _<_};
+ghost use Prim.Native.Nat.{ℕ, _+_, _<_, _≤_, _^_};
 ghost use lib.ListN.{length};
 ghost use Rattle.codepage.specs.CodePage.{entry, isSingle, isLead};
 ghost use Rattle.codepage.specs.Lent.{over};
+ghost use Rattle.codepage.specs.Reading.{decoder};
+ghost use Rattle.lookup.specs.Profile.{LeadsAt};
+ghost use Rattle.engine.specs.Engine.{converter};
+ghost use Rattle.engine.specs.Steps.{summary, Took, Ends, DecodeSizes, optional, decodeFed};
 ghost use Rattle.loops.specs.Ways.{Way};
-ghost use Rattle.engine.specs.Steps.{summary, Ends, DecodeSizes, optional, decodeFed};
+ghost use Rattle.loops.specs.Turns.{aloneEffect, oneIf, stepsLeft, Ready, Turned, Advanced, Closed};
+use crate::turns;
+use crate::turns::Turn;
 use engine::Policy;
 use engine::policies;
 use engine::progress;
 use engine::progress::Progress;
 use fastpath::plain;
 use fastpath::runs;
+use lookup::profile::Leads;
+
+// Takes a byte that is a code by itself.
+fn take_alone(
+    policy: Policy,
+    default: u16,
+    classes: &[u8],
+    singles: &[u16],
+    byte: u8,
+    s: Progress,
+    out: &mut [u16],
+) -> Progress
+    requires { ⌜ (length (now classes) ≡ 256) × (length (now singles) ≡ 256) ⌝ }
+    requires { ⌜ (s .written ≤ length (now out)) × (s .used + 1 < 2 ^ 64) ⌝ }
+    ensures { λ r. ⌜ ((pairs : List ℕ) → Took (aloneEffect (converter (decoder (now (classes .entry)) (now (singles .entry)) pairs) policy default) byte) 1 s (now (out .entry)) r (now (out .exit))) ⌝ }
+{
+    let code = lookup::byte_alone(classes, singles, byte);
+    let d = policies::decoded(policy, default, byte, code);
+    progress::take_units(d, 1, s, out)
+}
+
+// A turn on a page that has only singles: those that have characters, and the byte behind them.
+fn singles_turn(
+    policy: Policy,
+    default: u16,
+    classes: &[u8],
+    singles: &[u16],
+    piece: &[u8],
+    t: Turn,
+    out: &mut [u16],
+) -> Turn
+    requires { ⌜ (length (now classes) ≡ 256) × (length (now singles) ≡ 256) ⌝ }
+    requires { ⌜ ((byte : ℕ) → byte < 256 → isSingle (entry (now classes) byte) ≡ true) ⌝ }
+    requires { ⌜ Ready (now piece) (now out) t × (t .at < length (now piece)) × (t .waits ≡ false) ⌝ }
+    ensures { λ r. ⌜ ((pairs : List ℕ) → Advanced (converter (decoder (now (classes .entry)) (now (singles .entry)) pairs) policy default) (now (piece .entry)) (now (out .entry)) t (now (out .exit)) r) × (r .waits ≡ false) ⌝ }
+{
+    let at = t.at;
+    let s = t.progress;
+    let count = runs::run_of_singles(singles, piece, at, s.written, out);
+    let next = turns::moved(t, at + count, s.written + count);
+    let end = next.at;
+    if piece.len() <= end {
+        return next;
+    }
+    let after = next.progress;
+    let taken = take_alone(policy, default, classes, singles, piece[end], after, out);
+    turns::past(next, taken)
+}
 
 // Pages that have only singles. Their pairs, and whether the call is the last, are asked nothing: they stand in the promise.
 fn decode_singles(
@@ -30,28 +85,165 @@ fn decode_singles(
     requires { ⌜ ((byte : ℕ) → byte < 256 → isSingle (entry (now classes) byte) ≡ true) ⌝ }
     ensures { λ r. ⌜ Ends (decodeFed (now (classes .entry)) (now (singles .entry)) (now (pairs .entry)) policy default last (length (now (out .entry))) none (now (piece .entry))) (now (out .entry)) (now (out .exit)) r ⌝ }
 {
-    let mut s = Progress {
-        answer: 0,
-        used: 0,
-        written: 0,
-        flags: 0,
-    };
-    let mut i = 0;
-    while i < piece.len() {
-        let count = runs::run_of_singles(singles, piece, i, s.written, out);
-        s = progress::moved(s, count, s.written + count);
-        i += count;
-        if i < piece.len() {
-            let code = lookup::byte_alone(classes, singles, piece[i]);
-            let d = policies::decoded(policy, default, piece[i], code);
-            s = progress::take_units(d, 1, s, out);
-            if s.answer != 0 {
-                return s;
-            }
-            i += 1;
+    let mut t = turns::start(false, 0);
+    while t.at < piece.len() {
+        t = singles_turn(policy, default, classes, singles, piece, t, out);
+        let s = t.progress;
+        if s.answer != 0 {
+            return s;
         }
     }
-    s
+    t.progress
+}
+
+// Settles the lead byte that waits, with the byte behind it.
+fn settle(
+    policy: Policy,
+    default: u16,
+    classes: &[u8],
+    singles: &[u16],
+    pairs: &[u16],
+    leads: Leads,
+    piece: &[u8],
+    t: Turn,
+    out: &mut [u16],
+) -> Turn
+    requires { ⌜ DecodeSizes (now classes) (now singles) (now pairs) ⌝ }
+    requires { ⌜ LeadsAt (now classes) leads ⌝ }
+    requires { ⌜ Ready (now piece) (now out) t × (t .at < length (now piece)) ⌝ }
+    requires { ⌜ (t .waits ≡ true) × (isLead (entry (now classes) (t .lead)) ≡ true) ⌝ }
+    ensures { λ r. ⌜ Advanced (converter (decoder (now (classes .entry)) (now (singles .entry)) (now (pairs .entry))) policy default) (now (piece .entry)) (now (out .entry)) t (now (out .exit)) r ⌝ }
+{
+    let at = t.at;
+    let s = t.progress;
+    let code = lookup::byte_pair(classes, pairs, leads, t.lead, piece[at]);
+    let d = policies::decoded(policy, default, t.lead, code);
+    let taken = progress::take_units(d, 2, s, out);
+    turns::past(t, taken)
+}
+
+// The code at a place, if the piece goes on: a lead byte waits, any other byte is taken.
+fn next_code(
+    policy: Policy,
+    default: u16,
+    classes: &[u8],
+    singles: &[u16],
+    piece: &[u8],
+    t: Turn,
+    out: &mut [u16],
+) -> Turn
+    requires { ⌜ (length (now classes) ≡ 256) × (length (now singles) ≡ 256) ⌝ }
+    requires { ⌜ Ready (now piece) (now out) t × (t .waits ≡ false) ⌝ }
+    ensures { λ r. ⌜ ((pairs : List ℕ) → Turned (converter (decoder (now (classes .entry)) (now (singles .entry)) pairs) policy default) (now (piece .entry)) (now (out .entry)) t (now (out .exit)) r) × (t .at < length (now (piece .entry)) → stepsLeft (now (piece .entry)) r < stepsLeft (now (piece .entry)) t) ⌝ }
+{
+    let at = t.at;
+    if piece.len() <= at {
+        return t;
+    }
+    let byte = piece[at];
+    if lookup::is_lead(classes, byte) {
+        return turns::wait(t, byte);
+    }
+    let s = t.progress;
+    let taken = take_alone(policy, default, classes, singles, byte, s, out);
+    turns::past(t, taken)
+}
+
+// Codes that have characters, and the code behind them.
+fn advance(
+    policy: Policy,
+    default: u16,
+    classes: &[u8],
+    singles: &[u16],
+    pairs: &[u16],
+    leads: Leads,
+    piece: &[u8],
+    t: Turn,
+    out: &mut [u16],
+) -> Turn
+    requires { ⌜ DecodeSizes (now classes) (now singles) (now pairs) ⌝ }
+    requires { ⌜ LeadsAt (now classes) leads ⌝ }
+    requires { ⌜ Ready (now piece) (now out) t × (t .at < length (now piece)) × (t .waits ≡ false) ⌝ }
+    ensures { λ r. ⌜ Advanced (converter (decoder (now (classes .entry)) (now (singles .entry)) (now (pairs .entry))) policy default) (now (piece .entry)) (now (out .entry)) t (now (out .exit)) r ⌝ }
+{
+    let at = t.at;
+    let s = t.progress;
+    let place = runs::run_of_codes(leads, classes, singles, pairs, piece, at, s.written, out);
+    let next = turns::moved(t, place.read, place.written);
+    next_code(policy, default, classes, singles, piece, next, out)
+}
+
+// A turn on a page with lead bytes.
+fn codes_turn(
+    policy: Policy,
+    default: u16,
+    classes: &[u8],
+    singles: &[u16],
+    pairs: &[u16],
+    leads: Leads,
+    piece: &[u8],
+    t: Turn,
+    out: &mut [u16],
+) -> Turn
+    requires { ⌜ DecodeSizes (now classes) (now singles) (now pairs) ⌝ }
+    requires { ⌜ LeadsAt (now classes) leads ⌝ }
+    requires { ⌜ Ready (now piece) (now out) t × (t .at < length (now piece)) ⌝ }
+    requires { ⌜ (t .waits ≡ true → isLead (entry (now classes) (t .lead)) ≡ true) ⌝ }
+    ensures { λ r. ⌜ Advanced (converter (decoder (now (classes .entry)) (now (singles .entry)) (now (pairs .entry))) policy default) (now (piece .entry)) (now (out .entry)) t (now (out .exit)) r ⌝ }
+{
+    if t.waits {
+        return settle(
+            policy,
+            default,
+            classes,
+            singles,
+            pairs,
+            leads,
+            piece,
+            t,
+            out,
+        );
+    }
+    advance(
+        policy,
+        default,
+        classes,
+        singles,
+        pairs,
+        leads,
+        piece,
+        t,
+        out,
+    )
+}
+
+// The end of a piece. A lead byte that waits is a code by itself at the end of the text, and else is left waiting.
+fn at_end(
+    policy: Policy,
+    default: u16,
+    classes: &[u8],
+    singles: &[u16],
+    t: Turn,
+    last: bool,
+    out: &mut [u16],
+) -> Progress
+    requires { ⌜ (length (now classes) ≡ 256) × (length (now singles) ≡ 256) ⌝ }
+    requires { ⌜ (t .progress .answer ≡ 0) × (t .progress .written ≤ length (now out)) × (t .progress .used + oneIf (t .waits) < 2 ^ 64) ⌝ }
+    ensures { λ r. ⌜ ((pairs : List ℕ) → Closed (converter (decoder (now (classes .entry)) (now (singles .entry)) pairs) policy default) last (now (out .entry)) t (now (out .exit)) r) ⌝ }
+{
+    let s = t.progress;
+    if !t.waits {
+        return s;
+    }
+    if last {
+        return take_alone(policy, default, classes, singles, t.lead, s, out);
+    }
+    Progress {
+        answer: 1,
+        used: s.used,
+        written: s.written,
+        flags: s.flags,
+    }
 }
 
 // Pages with lead bytes.
@@ -72,70 +264,25 @@ fn decode_codes(
     ensures { λ r. ⌜ Ends (decodeFed (now (classes .entry)) (now (singles .entry)) (now (pairs .entry)) policy default last (length (now (out .entry))) (optional pending lead) (now (piece .entry))) (now (out .entry)) (now (out .exit)) r ⌝ }
 {
     let leads = lookup::profile::leads_of(classes);
-    let mut waits = pending;
-    let mut first = lead;
-    let mut s = Progress {
-        answer: 0,
-        used: 0,
-        written: 0,
-        flags: 0,
-    };
-    let mut i = 0;
-    while i < piece.len() {
-        if waits {
-            let code = lookup::byte_pair(classes, pairs, leads, first, piece[i]);
-            let d = policies::decoded(policy, default, first, code);
-            s = progress::take_units(d, 2, s, out);
-            if s.answer != 0 {
-                return s;
-            }
-            waits = false;
-            i += 1;
-        } else {
-            let place = runs::run_of_codes(
-                leads,
-                classes,
-                singles,
-                pairs,
-                piece,
-                i,
-                s.written,
-                out,
-            );
-            s = progress::moved(s, place.read - i, place.written);
-            i = place.read;
-            if i < piece.len() {
-                let byte = piece[i];
-                if lookup::is_lead(classes, byte) {
-                    waits = true;
-                    first = byte;
-                    i += 1;
-                } else {
-                    let code = lookup::byte_alone(classes, singles, byte);
-                    let d = policies::decoded(policy, default, byte, code);
-                    s = progress::take_units(d, 1, s, out);
-                    if s.answer != 0 {
-                        return s;
-                    }
-                    i += 1;
-                }
-            }
+    let mut t = turns::start(pending, lead);
+    while t.at < piece.len() {
+        t = codes_turn(
+            policy,
+            default,
+            classes,
+            singles,
+            pairs,
+            leads,
+            piece,
+            t,
+            out,
+        );
+        let s = t.progress;
+        if s.answer != 0 {
+            return s;
         }
     }
-    if waits {
-        if last {
-            let code = lookup::byte_alone(classes, singles, first);
-            let d = policies::decoded(policy, default, first, code);
-            return progress::take_units(d, 1, s, out);
-        }
-        return Progress {
-            answer: 1,
-            used: s.used,
-            written: s.written,
-            flags: s.flags,
-        };
-    }
-    s
+    at_end(policy, default, classes, singles, t, last, out)
 }
 
 // How a call goes on: 1 not at all, its piece was plain and is copied; 2 by singles; else by codes.

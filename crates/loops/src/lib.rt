@@ -2,3 +2,4 @@
 // inner: the run calls above call them on tables whose shape was found good. They are no public calls.
 pub mod decoder;
 pub mod encoder;
+mod turns;
