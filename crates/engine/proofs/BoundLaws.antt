@@ -25,8 +25,9 @@ use Rattle.engine.specs.declared.policies.Action.the-variants.{Stop, Ski
 use Rattle.engine.specs.Policies.{digitOf, flagOf, actionOf}
 use Rattle.engine.specs.Engine.{Effect, acted, effectOf, Converter, converter, Room, limit, fits, less, Fed, halt, after, stopAt, takeWhen, takeCode, takeCodes, feedFrom}
 use Rattle.engine.specs.Engine.{converterOf, defaultOf}
-use Rattle.engine.proofs.EngineLaws.{doesTogether, feed-two}
+use Rattle.engine.proofs.EngineLaws.{feed-two}
 use lib.Dec.{leb}
+use Rattle.engine.specs.Steps.{doesTogether}
 
 -- an effect that writes at most m units and sets none but a kind's flag
 pub record Small (m : ℕ) (k : Effect) : Type 0 where

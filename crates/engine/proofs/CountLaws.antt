@@ -13,8 +13,8 @@ use Rattle.codepage.specs.CodePage.{pick}
 use Rattle.engine.specs.declared.policies.CodeEffect.{CodeEffect}
 use Rattle.engine.specs.declared.progress.Progress.{Progress}
 use Rattle.engine.specs.Engine.{Effect, Converter, endless, fits, less, Fed, halt, after, stopAt, takeWhen, takeCode, feedFrom}
-use Rattle.engine.specs.Steps.{unitEffect, byteEffect, summary, optional, stoppedBy, takenBy}
-use Rattle.engine.proofs.EngineLaws.{doesAlone, doesTogether, after-none, after-after, feed-end, feed-last}
+use Rattle.engine.specs.Steps.{unitEffect, byteEffect, summary, optional, stoppedBy, takenBy, doesAlone, doesTogether}
+use Rattle.engine.proofs.EngineLaws.{after-none, after-after, feed-end, feed-last}
 use Rattle.engine.proofs.TurnLaws.{no-more, wait-step, two-step, one-step}
 
 -- F is what the whole text gives; s are the numbers of what was taken so far, and `ys` what it would have written.

@@ -14,8 +14,7 @@ use Rattle.engine.specs.declared.Policy.{Policy}
 use Rattle.engine.specs.declared.policies.CodeEffect.{CodeEffect}
 use Rattle.engine.specs.declared.progress.Progress.{Progress}
 use Rattle.engine.specs.Engine.{effectOf, converter}
-use Rattle.engine.specs.Steps.{unitEffect, stoppedBy, fullAt, takenBy, Took, DecodeSizes}
-use Rattle.engine.proofs.EngineLaws.{doesAlone, doesTogether}
+use Rattle.engine.specs.Steps.{unitEffect, stoppedBy, fullAt, takenBy, Took, DecodeSizes, doesAlone, doesTogether}
 use Rattle.engine.proofs.LoopLaws.{took-stop, took-lacks, took-none, took-writes}
 
 -- ---- the four ways of a code

@@ -13,8 +13,7 @@ use Rattle.engine.specs.declared.Policy.{Policy}
 use Rattle.engine.specs.declared.policies.CodeEffect.{CodeEffect}
 use Rattle.engine.specs.declared.progress.Progress.{Progress}
 use Rattle.engine.specs.Engine.{effectOf, converter}
-use Rattle.engine.specs.Steps.{byteEffect, stoppedBy, fullAt, takenBy, Took}
-use Rattle.engine.proofs.EngineLaws.{doesAlone}
+use Rattle.engine.specs.Steps.{byteEffect, stoppedBy, fullAt, takenBy, Took, doesAlone}
 use Rattle.engine.proofs.LoopLaws.{took-stop, took-lacks, took-none, took-writes}
 
 -- ---- the six ways of a unit

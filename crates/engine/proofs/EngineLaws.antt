@@ -12,13 +12,7 @@ use lib.Bits.{bitOr, or-step, or-zero-l}
 use Rattle.codepage.specs.Reading.{alone, together, callCodes, waitingUnit, completed, waitsThen, codesAtEnd, waitingUnits}
 use Rattle.codepage.proofs.ReadingLaws.{by-units}
 use Rattle.engine.specs.Engine.{Effect, Converter, Room, endless, fits, less, Fed, halt, after, stopAt, takeWhen, takeCode, takeCodes, feedFrom, feed}
-
--- what a unit alone does, and a waiting unit with the one after it
-abbrev pub doesAlone : Converter → ℕ → Effect
-doesAlone v a = v .does (alone (v .reader) a)
-
-abbrev pub doesTogether : Converter → ℕ → ℕ → Effect
-doesTogether v a b = v .does (together (v .reader) a b)
+use Rattle.engine.specs.Steps.{doesAlone, doesTogether}
 
 -- what a call marked last gives with room for all
 unfoldable pub uncut : Converter → List ℕ → Fed

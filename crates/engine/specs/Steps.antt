@@ -12,13 +12,20 @@ use Rattle.codepage.specs.Marks.{NoLowLead}
 use Rattle.engine.specs.declared.policies.Action.{Action}
 use Rattle.engine.specs.declared.policies.Action.the-variants.{Stop, Skip, Write}
 use Rattle.engine.specs.declared.policies.CodeEffect.{CodeEffect}
-use Rattle.codepage.specs.Reading.{decoder, encoder}
+use Rattle.codepage.specs.Reading.{decoder, encoder, alone, together}
 use Rattle.engine.specs.declared.Policy.{Policy}
 use Rattle.engine.specs.declared.progress.Progress.{Progress}
 use lib.Bits.{bitOr}
 use Rattle.engine.specs.Policies.{stoppedFlag}
 use Rattle.codepage.specs.Lent.{over}
-use Rattle.engine.specs.Engine.{Effect, Fed, after, takeCode, limit, converter, feedFrom}
+use Rattle.engine.specs.Engine.{Effect, Converter, Fed, after, takeCode, limit, converter, feedFrom}
+
+-- what a unit does that is a code by itself, and two units that are one code
+abbrev pub doesAlone : Converter → ℕ → Effect
+doesAlone v a = v .does (alone (v .reader) a)
+
+abbrev pub doesTogether : Converter → ℕ → ℕ → Effect
+doesTogether v a b = v .does (together (v .reader) a b)
 
 -- what an action does, in numbers
 abbrev pub actedAs : ℕ → Action → CodeEffect

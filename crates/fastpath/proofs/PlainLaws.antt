@@ -124,13 +124,5 @@ plain-ends R policy default last {piece} {out} p e =
       same = p .same;
     }
 
--- the same output, by another name
-pub ends-from : (F : ℕ → Fed) {out₁ out₀ out : List ℕ} {r : Progress} → Ends (F (length out₁)) out₁ out r → out₁ ≡ out₀ → Ends (F (length out₀)) out₀ out r
-ends-from F {out₁} {out₀} {out} {r} h e = subst (λ (l : List ℕ). Ends (F (length l)) l out r) e h
-
--- what is pending, by its test
-pub ends-for : (F : Bool → Fed) {out₀ out : List ℕ} {r : Progress} {p q : Bool} → Ends (F q) out₀ out r → p ≡ q → Ends (F p) out₀ out r
-ends-for F {out₀} {out} {r} h e = subst (λ (b : Bool). Ends (F b) out₀ out r) (sym e) h
-
 pub plain-sure : {R : Reader} {piece out : List ℕ} {copied : Bool} {out′ : List ℕ} → Plain R piece out copied out′ → copied ≡ true → Plain R piece out true out′
 plain-sure {R} {piece} {out} {copied} {out′} p e = subst (λ (b : Bool). Plain R piece out b out′) e p

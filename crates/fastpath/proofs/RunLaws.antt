@@ -21,8 +21,8 @@ use Rattle.engine.specs.Engine.{Effect, effectOf, Converter, converter, Room, l
 use Rattle.engine.specs.Steps.{sofar, takenBy, Took, movedTo, optional}
 use Rattle.fastpath.specs.Runs.{Ran, SinglesTaken}
 use Rattle.lookup.proofs.ProfileLaws.{single-no-lead}
-use Rattle.engine.proofs.LoopLaws.{Going, later, took-fits}
-use Rattle.engine.proofs.TurnLaws.{Loop, one-step, two-step, wait-step}
+use Rattle.engine.proofs.LoopLaws.{later, took-fits}
+use Rattle.engine.proofs.TurnLaws.{one-step, two-step, wait-step}
 
 -- a code that has a character: it writes ys
 abbrev written : List ℕ → Effect
@@ -175,28 +175,6 @@ module _ (index blocks : List ℕ) {piece out : List ℕ} {i w : ℕ} {out₁ : 
       rw (e₁, e₂, e₃)
       (subst (λ (l : List ℕ). Ran (encoder index blocks) piece out i w l (i₁ + 1) (w₁ + length (bytesOf code))) (code-laid out₁ w₁ code)
       (ran-one r code h refl q (omega (arith, two-bytes code))))
-
--- a loop goes on where a run of codes has come to
-pub turn-ran : (policy : Policy) (default : ℕ) {R : Reader} {last : Bool} {F : Fed} {out₀ piece out : List ℕ} {waits : Bool} {first : ℕ} {s : Progress} {i : ℕ} {out′ : List ℕ} {i′ w′ : ℕ} {r : Progress} (size : ℕ)
-    → Loop (converter R policy default) last F out₀ piece out waits first s i → waits ≡ false → Ran R piece out i (s .written) out′ i′ w′ → i + size ≡ i′ → r ≡ movedTo s size w′
-    → Loop (converter R policy default) last F out₀ piece out′ waits first r i′
-turn-ran policy default {R} {last} {F} {out₀} {piece} {out} {waits} {first} {s} {i} {out′} {i′} {w′} {r} size g e t q m =
-    let n : i′ - i ≡ size = omega (arith, q) in
-    subst (λ (z : Progress). Loop (converter R policy default) last F out₀ piece out′ waits first z i′) (ap (λ (k : ℕ). movedTo s k w′) n ∙ sym m)
-    (record {
-      inside = t .inside;
-      short = g .short;
-      few = omega (arith, g .few, t .ahead);
-      waiting = g .waiting;
-      at =
-          record {
-            zero-so-far = refl;
-            sum = rw e (rw e at (g .at .sum) ∙ t .goes policy default last s refl);
-            same = t .same ∙ g .at .same;
-            within = t .within;
-            kept = t .kept ∙ later (s .written) w′ out out₀ (t .grows) (g .at .kept);
-          };
-    })
 
 -- ---- singles
 pub single-found : (classes singles : List ℕ) (byte : ℕ) → isSingle (entry classes byte) ≡ true → (entry singles byte ≡ 0xFFFF → ⊥) → byteAlone classes singles byte ≡ Found (entry singles byte)

@@ -16,9 +16,9 @@ use Rattle.codepage.specs.Reading.{Reader}
 use Rattle.engine.specs.declared.Policy.{Policy}
 use Rattle.engine.specs.declared.progress.Progress.{Progress}
 use Rattle.engine.specs.Engine.{Effect, Converter, converter, Room, limit, less, Fed, halt, after, takeCode, feedFrom}
-use Rattle.engine.specs.Steps.{sofar, ended, summary, Took, Ends, optional}
-use Rattle.engine.proofs.EngineLaws.{doesAlone, doesTogether, feed-end, feed-last, feed-stays}
-use Rattle.engine.proofs.LoopLaws.{going-start, later}
+use Rattle.engine.specs.Steps.{sofar, ended, summary, Took, Ends, optional, doesAlone, doesTogether}
+use Rattle.engine.proofs.EngineLaws.{after-none, feed-end, feed-last, feed-stays}
+use Rattle.engine.proofs.LoopLaws.{later}
 use Rattle.engine.proofs.TurnLaws.{one-step, two-step, wait-step, no-more}
 use Rattle.fastpath.specs.Runs.{Ran}
 use Rattle.loops.specs.declared.turns.Turn.{Turn}
@@ -237,13 +237,14 @@ one-at-most false = omega arith
 
 pub loop-start : (v : Converter) (last waits : Bool) (lead : ℕ) (piece out : List ℕ) {t : Turn} → (waits ≡ true → v .reader .waits lead ≡ true) → t ≡ startTurn waits lead
     → Loop v last (feedFrom v last (limit (length out)) (optional waits lead) piece) out piece out t
-unfolding restOf
+unfolding restOf sofar
 loop-start v last waits lead piece out w q =
+    let whole : length out ≡ length out - 0 = omega arith in
     subst (Loop v last (feedFrom v last (limit (length out)) (optional waits lead) piece) out piece out) (sym q)
     (record {
       ready = record { going = refl; inside = omega arith; within = omega arith; few = omega (arith, one-at-most waits) };
       waiting = w;
-      sum = going-start v last (optional waits lead) piece out .sum;
+      sum = sym (after-none _ ∙ ap (λ (n : ℕ). feedFrom v last (limit n) (optional waits lead) piece) (sym whole));
       same = refl;
       kept = refl;
     })

@@ -5,8 +5,7 @@ use mathlib.Core.Path.{_≡_}
 use Prim.Native.Nat.{ℕ, _+_, _-_, _<_, _≤_}
 use lib.ListN.{length, drop}
 use Rattle.engine.specs.declared.progress.Progress.{Progress}
-use Rattle.codepage.specs.Reading.{alone}
-use Rattle.engine.specs.Engine.{Effect, Converter, Fed, limit, feedFrom}
+use Rattle.engine.specs.Engine.{Converter, Fed, limit, feedFrom}
 use Rattle.engine.specs.Steps.{sofar, ended, movedTo, optional}
 use Rattle.loops.specs.declared.turns.Turn.{Turn}
 
@@ -25,10 +24,6 @@ pastTurn t s = record { progress = s; at = t .at + 1; waits = false; lead = t .l
 
 abbrev pub waitTurn : Turn → (lead : ℕ) → Turn
 waitTurn t lead = record { progress = t .progress; at = t .at + 1; waits = true; lead = lead }
-
--- what a unit does that is a code by itself
-abbrev pub aloneEffect : Converter → ℕ → Effect
-aloneEffect v unit = v .does (alone (v .reader) unit)
 
 -- ---- what a turn keeps
 

@@ -10,9 +10,9 @@ ghost use Rattle.codepage.specs.Lent.{over};
 ghost use Rattle.codepage.specs.Reading.{decoder};
 ghost use Rattle.lookup.specs.Profile.{LeadsAt};
 ghost use Rattle.engine.specs.Engine.{converter};
-ghost use Rattle.engine.specs.Steps.{summary, Took, Ends, DecodeSizes, optional, decodeFed};
+ghost use Rattle.engine.specs.Steps.{doesAlone, summary, Took, Ends, DecodeSizes, optional, decodeFed};
 ghost use Rattle.loops.specs.Ways.{Way};
-ghost use Rattle.loops.specs.Turns.{aloneEffect, oneIf, stepsLeft, Ready, Turned, Advanced, Closed};
+ghost use Rattle.loops.specs.Turns.{oneIf, stepsLeft, Ready, Turned, Advanced, Closed};
 use crate::turns;
 use crate::turns::Turn;
 use engine::Policy;
@@ -35,7 +35,7 @@ fn take_alone(
 ) -> Progress
     requires { ⌜ (length (now classes) ≡ 256) × (length (now singles) ≡ 256) ⌝ }
     requires { ⌜ (s .written ≤ length (now out)) × (s .used + 1 < 2 ^ 64) ⌝ }
-    ensures { λ r. ⌜ ((pairs : List ℕ) → Took (aloneEffect (converter (decoder (now (classes .entry)) (now (singles .entry)) pairs) policy default) byte) 1 s (now (out .entry)) r (now (out .exit))) ⌝ }
+    ensures { λ r. ⌜ ((pairs : List ℕ) → Took (doesAlone (converter (decoder (now (classes .entry)) (now (singles .entry)) pairs) policy default) byte) 1 s (now (out .entry)) r (now (out .exit))) ⌝ }
 {
     let code = lookup::byte_alone(classes, singles, byte);
     let d = policies::decoded(policy, default, byte, code);
