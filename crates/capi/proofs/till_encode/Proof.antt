@@ -27,8 +27,13 @@ same-length c = search needs
 
 returns : tie.Need-returns
 returns c =
-    let inner = c .before .before .before .before .before .before .run-on .ensures ∙ ap (λ (page : ℕ). runOn page (c .before .before .before .before .before .before .before .before .before .before .before .before .before .before .before .args .run)) (c .before .before .before .before .before .before .before .page-named .ensures) in
-    call-answered Encoding _ _ _ _ _ _ _ _ _ _ inner (c .before .before .before .before .before .is-last .ensures) (c .before .before .before .encode .ensures) (c .answer-out .ensures)
+    let start = c .before .before .before .before .before .before .before .before .before .before .before .before .before .before .before in
+    let page-named = c .before .before .before .before .before .before .before .page-named in
+    let run-on = c .before .before .before .before .before .before .run-on in
+    let is-last = c .before .before .before .before .before .is-last in
+    let encode = c .before .before .before .encode in
+    let inner = run-on .ensures ∙ ap (λ (page : ℕ). runOn page (start .args .run)) (page-named .ensures) in
+    call-answered Encoding _ _ _ _ _ _ _ _ _ _ inner (is-last .ensures) (encode .ensures) (c .answer-out .ensures)
 
 pub till-encode-spec : {M : Type 1} → statement M
 till-encode-spec = tie.close (tie.spec page-named-requires run-on-requires is-last-requires encode-requires answer-out-requires same-length returns)

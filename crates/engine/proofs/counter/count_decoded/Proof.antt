@@ -42,7 +42,18 @@ shared-slice-read-byte c = omega arith
 
 -- src/counter.rt:75:17
 byte-pair-requires : tie.Need-byte-pair-requires Inv-loop μ-loop
-byte-pair-requires c κs = ((c .before .before .before .before .before .before .before .before .before .pre .all-classes, decoder-lead _ _ _ _ _ _ (c .before .before .before .loop .inv .waiting (c .if1 .taken)), pair-room _ _ _ _ (c .before .before .before .before .before .before .before .before .before .pre) (decoder-lead _ _ _ _ _ _ (c .before .before .before .loop .inv .waiting (c .if1 .taken)))), c .before .before .before .before .leads-of .ensures)
+byte-pair-requires c κs =
+    let start = c .before .before .before .before .before .before .before .before .before in
+    let leads-of = c .before .before .before .before .leads-of in
+    let turn = c .before .before .before .loop in (
+      (
+        start .pre .all-classes,
+        decoder-lead _ _ _ _ _ _ (turn .inv .waiting (c .if1 .taken)),
+        pair-room _ _ _ _ (start .pre)
+            (decoder-lead _ _ _ _ _ _ (turn .inv .waiting (c .if1 .taken))),
+      ),
+      leads-of .ensures,
+    )
 
 -- src/counter.rt:76:17
 decoded-requires : tie.Need-decoded-requires Inv-loop μ-loop
@@ -54,11 +65,27 @@ units-written-requires c κs = search needs
 
 -- src/counter.rt:77:13
 count-code-requires : tie.Need-count-code-requires Inv-loop μ-loop
-count-code-requires c κs = (omega (arith, c .before .before .before .before .before .before .loop .inv .few, c .before .before .before .before .before .before .loop .inv .short, c .before .before .before .before .before .loop-test), omega (arith, c .units-written .ensures, units-short (c .before .decoded .result), c .before .before .before .before .before .before .loop .inv .little, c .before .before .before .before .before .before .loop .inv .short, c .before .before .before .before .before .loop-test))
+count-code-requires c κs =
+    let turn = c .before .before .before .before .before .before .loop in
+    let loop-test = c .before .before .before .before .before .loop-test in (
+      omega (arith, turn .inv .few, turn .inv .short, loop-test),
+      omega
+          (arith, c .units-written .ensures, units-short (c .before .decoded .result), turn .inv .little, turn .inv .short, loop-test),
+    )
 
 -- src/counter.rt:79:17
 returns : tie.Need-returns Inv-loop μ-loop
-returns c = stop-count-two (c .before .before .before .before .before .before .before .before .before .loop .inv) (came-units _ _ _ _ _ (c .before .before .before .units-written .ensures) (c .before .before .count-code .ensures)) (c .before .before .before .before .before .before .if1 .taken) (c .before .before .before .before .before .before .before .before .loop-test .taken) (decoded-two _ (c .before .before .before .before .before .before .before .before .before .before .before .before .before .before .before .args .singles .now) _ _ _ _ _ _ _ (c .before .before .before .before .before .byte-pair .ensures) (c .before .before .before .before .decoded .ensures)) (c .if2 .taken)
+returns c =
+    let start = c .before .before .before .before .before .before .before .before .before .before .before .before .before .before .before in
+    let turn = c .before .before .before .before .before .before .before .before .before .loop in
+    let loop-test = c .before .before .before .before .before .before .before .before .loop-test in
+    let if1 = c .before .before .before .before .before .before .if1 in
+    let byte-pair = c .before .before .before .before .before .byte-pair in
+    let decoded = c .before .before .before .before .decoded in
+    let units-written = c .before .before .before .units-written in
+    let count-code = c .before .before .count-code in
+    stop-count-two (turn .inv) (came-units _ _ _ _ _ (units-written .ensures) (count-code .ensures)) (if1 .taken) (loop-test .taken)
+    (decoded-two _ (start .args .singles .now) _ _ _ _ _ _ _ (byte-pair .ensures) (decoded .ensures)) (c .if2 .taken)
 
 -- src/counter.rt:82:13
 add-i : tie.Need-add-i Inv-loop μ-loop
@@ -70,7 +97,17 @@ loop-less c = omega (arith, c .before .before .before .before .before .before .b
 
 -- src/counter.rt:72:5
 loop-again : tie.Need-loop-again Inv-loop μ-loop
-loop-again c = count-two (c .before .before .before .before .before .before .before .before .before .loop .inv) (came-units _ _ _ _ _ (c .before .before .before .units-written .ensures) (c .before .before .count-code .ensures)) (units-short _) (c .before .before .before .before .before .before .if1 .taken) (c .before .before .before .before .before .before .before .before .loop-test .taken) (decoded-two _ (c .before .before .before .before .before .before .before .before .before .before .before .before .before .before .before .args .singles .now) _ _ _ _ _ _ _ (c .before .before .before .before .before .byte-pair .ensures) (c .before .before .before .before .decoded .ensures)) (c .if2 .left)
+loop-again c =
+    let start = c .before .before .before .before .before .before .before .before .before .before .before .before .before .before .before in
+    let turn = c .before .before .before .before .before .before .before .before .before .loop in
+    let loop-test = c .before .before .before .before .before .before .before .before .loop-test in
+    let if1 = c .before .before .before .before .before .before .if1 in
+    let byte-pair = c .before .before .before .before .before .byte-pair in
+    let decoded = c .before .before .before .before .decoded in
+    let units-written = c .before .before .before .units-written in
+    let count-code = c .before .before .count-code in
+    count-two (turn .inv) (came-units _ _ _ _ _ (units-written .ensures) (count-code .ensures)) (units-short _) (if1 .taken) (loop-test .taken)
+    (decoded-two _ (start .args .singles .now) _ _ _ _ _ _ _ (byte-pair .ensures) (decoded .ensures)) (c .if2 .left)
 
 -- src/counter.rt:83:19
 is-lead-requires : tie.Need-is-lead-requires Inv-loop μ-loop
@@ -102,11 +139,29 @@ units-written-requires-2 c κs = search needs
 
 -- src/counter.rt:90:13
 count-code-requires-2 : tie.Need-count-code-requires-2 Inv-loop μ-loop
-count-code-requires-2 c κs = (omega (arith, c .before .before .before .before .before .before .before .before .loop .inv .few, c .before .before .before .before .before .before .before .before .loop .inv .short, c .before .before .before .before .before .before .before .loop-test), omega (arith, c .units-written2 .ensures, units-short (c .before .decoded2 .result), c .before .before .before .before .before .before .before .before .loop .inv .little, c .before .before .before .before .before .before .before .before .loop .inv .short, c .before .before .before .before .before .before .before .loop-test))
+count-code-requires-2 c κs =
+    let turn = c .before .before .before .before .before .before .before .before .loop in
+    let loop-test = c .before .before .before .before .before .before .before .loop-test in (
+      omega (arith, turn .inv .few, turn .inv .short, loop-test),
+      omega
+          (arith, c .units-written2 .ensures, units-short (c .before .decoded2 .result), turn .inv .little, turn .inv .short, loop-test),
+    )
 
 -- src/counter.rt:92:17
 returns-2 : tie.Need-returns-2 Inv-loop μ-loop
-returns-2 c = stop-count-one (c .before .before .before .before .before .before .before .before .before .before .before .loop .inv) (came-units _ _ _ _ _ (c .before .before .before .units-written2 .ensures) (c .before .before .count-code2 .ensures)) (c .before .before .before .before .before .before .before .before .if1 .left) (c .before .before .before .before .before .before .before .before .before .before .loop-test .taken) (decoder-waits _ _ _ _ _ _ _ (sym (c .before .before .before .before .before .before .before .is-lead .ensures) ∙ c .before .before .before .before .before .before .if3 .left)) (decoded-one _ _ (c .before .before .before .before .before .before .before .before .before .before .before .before .before .before .before .before .before .args .pairs .now) _ _ _ _ _ (c .before .before .before .before .before .byte-alone .ensures) (c .before .before .before .before .decoded2 .ensures)) (c .if4 .taken)
+returns-2 c =
+    let start = c .before .before .before .before .before .before .before .before .before .before .before .before .before .before .before .before .before in
+    let turn = c .before .before .before .before .before .before .before .before .before .before .before .loop in
+    let loop-test = c .before .before .before .before .before .before .before .before .before .before .loop-test in
+    let if1 = c .before .before .before .before .before .before .before .before .if1 in
+    let is-lead = c .before .before .before .before .before .before .before .is-lead in
+    let if3 = c .before .before .before .before .before .before .if3 in
+    let byte-alone = c .before .before .before .before .before .byte-alone in
+    let decoded2 = c .before .before .before .before .decoded2 in
+    let units-written2 = c .before .before .before .units-written2 in
+    let count-code2 = c .before .before .count-code2 in
+    stop-count-one (turn .inv) (came-units _ _ _ _ _ (units-written2 .ensures) (count-code2 .ensures)) (if1 .left) (loop-test .taken)
+    (decoder-waits _ _ _ _ _ _ _ (sym (is-lead .ensures) ∙ if3 .left)) (decoded-one _ _ (start .args .pairs .now) _ _ _ _ _ (byte-alone .ensures) (decoded2 .ensures)) (c .if4 .taken)
 
 -- src/counter.rt:94:13
 add-i-3 : tie.Need-add-i-3 Inv-loop μ-loop
@@ -118,7 +173,19 @@ loop-less-3 c = omega (arith, c .before .before .before .before .before .before 
 
 -- src/counter.rt:72:5
 loop-again-3 : tie.Need-loop-again-3 Inv-loop μ-loop
-loop-again-3 c = count-one (c .before .before .before .before .before .before .before .before .before .before .before .loop .inv) (came-units _ _ _ _ _ (c .before .before .before .units-written2 .ensures) (c .before .before .count-code2 .ensures)) (units-short _) (c .before .before .before .before .before .before .before .before .if1 .left) (c .before .before .before .before .before .before .before .before .before .before .loop-test .taken) (decoder-waits _ _ _ _ _ _ _ (sym (c .before .before .before .before .before .before .before .is-lead .ensures) ∙ c .before .before .before .before .before .before .if3 .left)) (decoded-one _ _ (c .before .before .before .before .before .before .before .before .before .before .before .before .before .before .before .before .before .args .pairs .now) _ _ _ _ _ (c .before .before .before .before .before .byte-alone .ensures) (c .before .before .before .before .decoded2 .ensures)) (c .if4 .left)
+loop-again-3 c =
+    let start = c .before .before .before .before .before .before .before .before .before .before .before .before .before .before .before .before .before in
+    let turn = c .before .before .before .before .before .before .before .before .before .before .before .loop in
+    let loop-test = c .before .before .before .before .before .before .before .before .before .before .loop-test in
+    let if1 = c .before .before .before .before .before .before .before .before .if1 in
+    let is-lead = c .before .before .before .before .before .before .before .is-lead in
+    let if3 = c .before .before .before .before .before .before .if3 in
+    let byte-alone = c .before .before .before .before .before .byte-alone in
+    let decoded2 = c .before .before .before .before .decoded2 in
+    let units-written2 = c .before .before .before .units-written2 in
+    let count-code2 = c .before .before .count-code2 in
+    count-one (turn .inv) (came-units _ _ _ _ _ (units-written2 .ensures) (count-code2 .ensures)) (units-short _) (if1 .left) (loop-test .taken)
+    (decoder-waits _ _ _ _ _ _ _ (sym (is-lead .ensures) ∙ if3 .left)) (decoded-one _ _ (start .args .pairs .now) _ _ _ _ _ (byte-alone .ensures) (decoded2 .ensures)) (c .if4 .left)
 
 -- src/counter.rt:98:13
 byte-alone-requires-2 : tie.Need-byte-alone-requires-2 Inv-loop μ-loop
@@ -134,11 +201,24 @@ units-written-requires-3 c κs = search needs
 
 -- src/counter.rt:100:9
 count-code-requires-3 : tie.Need-count-code-requires-3 Inv-loop μ-loop
-count-code-requires-3 c κs = (omega (arith, c .before .before .before .before .before .loop .inv .few, c .before .before .before .before .before .loop .inv .short, c .before .before .before .before .before .loop .inv .inside), omega (arith, c .units-written3 .ensures, units-least (c .before .decoded3 .result), c .before .before .before .before .before .loop .inv .little, c .before .before .before .before .before .loop .inv .short, c .before .before .before .before .before .loop .inv .inside))
+count-code-requires-3 c κs =
+    let turn = c .before .before .before .before .before .loop in (
+      omega (arith, turn .inv .few, turn .inv .short, turn .inv .inside),
+      omega
+          (arith, c .units-written3 .ensures, units-least (c .before .decoded3 .result), turn .inv .little, turn .inv .short, turn .inv .inside),
+    )
 
 -- src/counter.rt:100:9
 returns-3 : tie.Need-returns-3 Inv-loop μ-loop
-returns-3 c = count-last (c .before .before .before .before .before .before .loop .inv) (came-units _ _ _ _ _ (c .before .units-written3 .ensures) (c .count-code3 .ensures)) (c .before .before .before .before .if5 .taken) (c .before .before .before .before .before .loop-test .left) (decoded-one _ _ (c .before .before .before .before .before .before .before .before .before .before .before .before .args .pairs .now) _ _ _ _ _ (c .before .before .before .byte-alone2 .ensures) (c .before .before .decoded3 .ensures))
+returns-3 c =
+    let start = c .before .before .before .before .before .before .before .before .before .before .before .before in
+    let turn = c .before .before .before .before .before .before .loop in
+    let loop-test = c .before .before .before .before .before .loop-test in
+    let if5 = c .before .before .before .before .if5 in
+    let byte-alone2 = c .before .before .before .byte-alone2 in
+    let decoded3 = c .before .before .decoded3 in
+    count-last (turn .inv) (came-units _ _ _ _ _ (c .before .units-written3 .ensures) (c .count-code3 .ensures)) (if5 .taken) (loop-test .left)
+    (decoded-one _ _ (start .args .pairs .now) _ _ _ _ _ (byte-alone2 .ensures) (decoded3 .ensures))
 
 -- src/counter.rt:51:1
 returns-4 : tie.Need-returns-4 Inv-loop μ-loop

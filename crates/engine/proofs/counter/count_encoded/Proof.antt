@@ -51,11 +51,25 @@ bytes-written-requires c κs = search needs
 
 -- src/counter.rt:126:9
 count-code-requires : tie.Need-count-code-requires Inv-loop μ-loop
-count-code-requires c κs = (omega (arith, c .before .before .before .before .before .loop .inv .few, c .before .before .before .before .before .loop .inv .short, c .before .before .before .before .loop-test), omega (arith, c .bytes-written .ensures, bytes-short (c .before .encoded .result), c .before .before .before .before .before .loop .inv .little, c .before .before .before .before .before .loop .inv .short, c .before .before .before .before .loop-test))
+count-code-requires c κs =
+    let turn = c .before .before .before .before .before .loop in
+    let loop-test = c .before .before .before .before .loop-test in (
+      omega (arith, turn .inv .few, turn .inv .short, loop-test),
+      omega
+          (arith, c .bytes-written .ensures, bytes-short (c .before .encoded .result), turn .inv .little, turn .inv .short, loop-test),
+    )
 
 -- src/counter.rt:128:13
 returns : tie.Need-returns Inv-loop μ-loop
-returns c = stop-count-one (c .before .before .before .before .before .before .before .before .loop .inv) (came-bytes _ _ _ _ _ (c .before .before .before .bytes-written .ensures) (c .before .before .count-code .ensures)) refl (c .before .before .before .before .before .before .before .loop-test .taken) (encoder-waits _ _ _ _ _) (encoded-one _ _ _ _ _ _ _ (c .before .before .before .before .before .unit-code .ensures) (c .before .before .before .before .encoded .ensures _)) (c .if1 .taken)
+returns c =
+    let turn = c .before .before .before .before .before .before .before .before .loop in
+    let loop-test = c .before .before .before .before .before .before .before .loop-test in
+    let unit-code = c .before .before .before .before .before .unit-code in
+    let encoded = c .before .before .before .before .encoded in
+    let bytes-written = c .before .before .before .bytes-written in
+    let count-code = c .before .before .count-code in
+    stop-count-one (turn .inv) (came-bytes _ _ _ _ _ (bytes-written .ensures) (count-code .ensures)) refl (loop-test .taken) (encoder-waits _ _ _ _ _)
+    (encoded-one _ _ _ _ _ _ _ (unit-code .ensures) (encoded .ensures _)) (c .if1 .taken)
 
 -- src/counter.rt:130:9
 add-i : tie.Need-add-i Inv-loop μ-loop
@@ -67,7 +81,15 @@ loop-less c = omega (arith, c .before .before .before .before .before .before .b
 
 -- src/counter.rt:123:5
 loop-again : tie.Need-loop-again Inv-loop μ-loop
-loop-again c = count-one (c .before .before .before .before .before .before .before .before .loop .inv) (came-bytes _ _ _ _ _ (c .before .before .before .bytes-written .ensures) (c .before .before .count-code .ensures)) (bytes-short _) refl (c .before .before .before .before .before .before .before .loop-test .taken) (encoder-waits _ _ _ _ _) (encoded-one _ _ _ _ _ _ _ (c .before .before .before .before .before .unit-code .ensures) (c .before .before .before .before .encoded .ensures _)) (c .if1 .left)
+loop-again c =
+    let turn = c .before .before .before .before .before .before .before .before .loop in
+    let loop-test = c .before .before .before .before .before .before .before .loop-test in
+    let unit-code = c .before .before .before .before .before .unit-code in
+    let encoded = c .before .before .before .before .encoded in
+    let bytes-written = c .before .before .before .bytes-written in
+    let count-code = c .before .before .count-code in
+    count-one (turn .inv) (came-bytes _ _ _ _ _ (bytes-written .ensures) (count-code .ensures)) (bytes-short _) refl (loop-test .taken) (encoder-waits _ _ _ _ _)
+    (encoded-one _ _ _ _ _ _ _ (unit-code .ensures) (encoded .ensures _)) (c .if1 .left)
 
 -- src/counter.rt:104:1
 returns-2 : tie.Need-returns-2 Inv-loop μ-loop

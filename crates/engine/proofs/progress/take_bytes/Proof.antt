@@ -44,7 +44,13 @@ same-length c = search needs
 
 -- src/progress.rt:88:13
 returns-3 : tie.Need-returns-3
-returns-3 c = rw (c .taken2 .ensures) (bytes-one _ _ _ (c .before .before .before .before .before .before .before .before .before .pre .0) (c .before .before .before .before .before .before .before .if1 .left) (c .before .before .before .before .before .if2 .left) (c .before .before .before .if3 .taken) (c .before .before .if4 .taken))
+returns-3 c =
+    let start = c .before .before .before .before .before .before .before .before .before in
+    let if1 = c .before .before .before .before .before .before .before .if1 in
+    let if2 = c .before .before .before .before .before .if2 in
+    let if3 = c .before .before .before .if3 in
+    let if4 = c .before .before .if4 in
+    rw (c .taken2 .ensures) (bytes-one _ _ _ (start .pre .0) (if1 .left) (if2 .left) (if3 .taken) (if4 .taken))
 
 -- src/progress.rt:90:9
 full-requires : tie.Need-full-requires
@@ -96,7 +102,13 @@ same-length-2 c = search needs
 
 -- src/progress.rt:74:1
 returns-6 : tie.Need-returns-6
-returns-6 c = rw (c .taken3 .ensures) (bytes-two _ _ _ (c .before .before .before .before .before .before .before .before .before .before .pre .0) (c .before .before .before .before .before .before .before .before .if1 .left) (c .before .before .before .before .before .before .if2 .left) (c .before .before .before .before .if3 .left) (c .before .before .before .if5 .left))
+returns-6 c =
+    let start = c .before .before .before .before .before .before .before .before .before .before in
+    let if1 = c .before .before .before .before .before .before .before .before .if1 in
+    let if2 = c .before .before .before .before .before .before .if2 in
+    let if3 = c .before .before .before .before .if3 in
+    let if5 = c .before .before .before .if5 in
+    rw (c .taken3 .ensures) (bytes-two _ _ _ (start .pre .0) (if1 .left) (if2 .left) (if3 .left) (if5 .left))
 
 pub take-bytes-spec : {M : Type 1} → statement M
 take-bytes-spec =

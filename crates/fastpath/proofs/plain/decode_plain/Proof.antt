@@ -42,7 +42,16 @@ same-length c = search needs
 
 -- src/plain.rt:146:1
 returns-4 : tie.Need-returns-4
-returns-4 c = λ pairs. plain-taken (decoder (c .before .before .before .before .before .before .before .before .before .before .before .before .before .args .classes .now) (c .before .before .before .before .before .before .before .before .before .before .before .before .before .args .singles .now) pairs) (c .before .before .before .before .before .before .before .before .before .before .before .before .before .args .piece .now) (c .before .before .before .before .before .before .before .before .before .before .before .before .before .args .out .now) _ (omega arith) (λ k b. let f = c .before .before .before .before .before .plain-bytes .ensures (not-false _ (c .before .before .before .before .if3 .left)) (entry (c .before .before .before .before .before .before .before .before .before .before .before .before .before .args .piece .now) k) (c .before .before .before .before .before .before .before .bytes-below-80 .ensures (not-false _ (c .before .before .before .before .before .before .if2 .left)) k b) in plain-byte (c .before .before .before .before .before .before .before .before .before .before .before .before .before .args .classes .now) (c .before .before .before .before .before .before .before .before .before .before .before .before .before .args .singles .now) pairs (entry (c .before .before .before .before .before .before .before .before .before .before .before .before .before .args .piece .now) k) (f .0) (f .1)) (c .before .before .widen .ensures)
+returns-4 c =
+    let start = c .before .before .before .before .before .before .before .before .before .before .before .before .before in
+    let bytes-below-80 = c .before .before .before .before .before .before .before .bytes-below-80 in
+    let if2 = c .before .before .before .before .before .before .if2 in
+    let plain-bytes = c .before .before .before .before .before .plain-bytes in
+    let if3 = c .before .before .before .before .if3 in
+    let widen = c .before .before .widen in
+    λ pairs. plain-taken (decoder (start .args .classes .now) (start .args .singles .now) pairs) (start .args .piece .now) (start .args .out .now) _ (omega arith)
+    (λ k b. let f = plain-bytes .ensures (not-false _ (if3 .left)) (entry (start .args .piece .now) k) (bytes-below-80 .ensures (not-false _ (if2 .left)) k b) in
+    plain-byte (start .args .classes .now) (start .args .singles .now) pairs (entry (start .args .piece .now) k) (f .0) (f .1)) (widen .ensures)
 
 pub decode-plain-spec : {M : Type 1} → statement M
 decode-plain-spec =

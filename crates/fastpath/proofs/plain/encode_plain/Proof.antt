@@ -42,7 +42,16 @@ same-length c = search needs
 
 -- src/plain.rt:164:1
 returns-4 : tie.Need-returns-4
-returns-4 c = plain-taken (encoder (c .before .before .before .before .before .before .before .before .before .before .before .before .before .args .index .now) (c .before .before .before .before .before .before .before .before .before .before .before .before .before .args .blocks .now)) (c .before .before .before .before .before .before .before .before .before .before .before .before .before .args .piece .now) (c .before .before .before .before .before .before .before .before .before .before .before .before .before .args .out .now) _ (omega arith) (λ k b. let small = c .before .before .before .before .before .before .before .units-below-80 .ensures (not-false _ (c .before .before .before .before .before .before .if2 .left)) k b in plain-unit (c .before .before .before .before .before .before .before .before .before .before .before .before .before .args .index .now) (c .before .before .before .before .before .before .before .before .before .before .before .before .before .args .blocks .now) (entry (c .before .before .before .before .before .before .before .before .before .before .before .before .before .args .piece .now) k) small (c .before .before .before .before .before .plain-units .ensures (not-false _ (c .before .before .before .before .if3 .left)) (entry (c .before .before .before .before .before .before .before .before .before .before .before .before .before .args .piece .now) k) small)) (c .before .before .narrow .ensures)
+returns-4 c =
+    let start = c .before .before .before .before .before .before .before .before .before .before .before .before .before in
+    let units-below-80 = c .before .before .before .before .before .before .before .units-below-80 in
+    let if2 = c .before .before .before .before .before .before .if2 in
+    let plain-units = c .before .before .before .before .before .plain-units in
+    let if3 = c .before .before .before .before .if3 in
+    let narrow = c .before .before .narrow in
+    plain-taken (encoder (start .args .index .now) (start .args .blocks .now)) (start .args .piece .now) (start .args .out .now) _ (omega arith)
+    (λ k b. let small = units-below-80 .ensures (not-false _ (if2 .left)) k b in plain-unit (start .args .index .now) (start .args .blocks .now)
+    (entry (start .args .piece .now) k) small (plain-units .ensures (not-false _ (if3 .left)) (entry (start .args .piece .now) k) small)) (narrow .ensures)
 
 pub encode-plain-spec : {M : Type 1} → statement M
 encode-plain-spec =

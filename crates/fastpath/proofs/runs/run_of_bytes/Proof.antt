@@ -81,7 +81,14 @@ loop-less c = omega arith
 
 -- src/runs.rt:142:5
 loop-again : tie.Need-loop-again Inv-loop μ-loop
-loop-again c = (omega arith, simp length-set (c .before .before .before .before .loop .inv .1), ran-at (ran-byte _ _ (c .before .before .before .before .loop .inv .2) (c .before .code-of .result) (omega arith) (c .before .code-of .ensures .1 (omega arith)) (omega arith) (omega arith)) (omega arith) (omega arith))
+loop-again c =
+    let turn = c .before .before .before .before .loop in
+    let code-of = c .before .code-of in (
+      omega arith,
+      simp length-set
+          (turn .inv .1),
+      ran-at (ran-byte _ _ (turn .inv .2) (code-of .result) (omega arith) (code-of .ensures .1 (omega arith)) (omega arith) (omega arith)) (omega arith) (omega arith),
+    )
 
 -- src/runs.rt:127:1
 same-length-2 : tie.Need-same-length-2 Inv-loop μ-loop

@@ -23,7 +23,10 @@ add-run-of-units-2 c = search needs
 
 -- src/runs.rt:234:5
 run-of-units-requires : tie.Need-run-of-units-requires
-run-of-units-requires c κs = (c .before .before .before .before .before .before .before .before .before .pre .0, (c .before .before .before .before .before .before .before .before .before .pre .1 .0, (c .before .before .before .run-of-bytes .ensures .inside, c .before .before .before .run-of-bytes .ensures .within)))
+run-of-units-requires c κs =
+    let start = c .before .before .before .before .before .before .before .before .before in
+    let run-of-bytes = c .before .before .before .run-of-bytes in
+    (start .pre .0, (start .pre .1 .0, (run-of-bytes .ensures .inside, run-of-bytes .ensures .within)))
 
 -- src/runs.rt:220:1
 same-length : tie.Need-same-length

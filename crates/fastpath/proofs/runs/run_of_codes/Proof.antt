@@ -56,7 +56,11 @@ shared-slice-read-pair-unit c = omega arith
 
 -- src/runs.rt:97:17
 pair-unit-requires : tie.Need-pair-unit-requires Inv-loop μ-loop
-pair-unit-requires c κs = ((c .before .before .before .before .before .before .before .before .before .before .before .before .pre .0 .all-classes, sym (c .before .before .is-lead .ensures) ∙ c .before .if1 .taken, pair-room _ _ _ _ (c .before .before .before .before .before .before .before .before .before .before .before .before .pre .0) (sym (c .before .before .is-lead .ensures) ∙ c .before .if1 .taken)), c .before .before .before .before .before .before .before .before .before .before .before .before .pre .1 .0)
+pair-unit-requires c κs =
+    let start = c .before .before .before .before .before .before .before .before .before .before .before .before in
+    let is-lead = c .before .before .is-lead in
+    let if1 = c .before .if1 in
+    ((start .pre .0 .all-classes, sym (is-lead .ensures) ∙ if1 .taken, pair-room _ _ _ _ (start .pre .0) (sym (is-lead .ensures) ∙ if1 .taken)), start .pre .1 .0)
 
 -- src/runs.rt:101:30
 add-t28 : tie.Need-add-t28 Inv-loop μ-loop
@@ -96,7 +100,17 @@ loop-less c = omega arith
 
 -- src/runs.rt:94:5
 loop-again : tie.Need-loop-again Inv-loop μ-loop
-loop-again c = (omega arith, simp length-set (c .before .before .before .before .before .before .before .loop .inv .1), omega arith, ran-at (ran-pair _ _ _ (c .before .before .before .before .before .before .before .loop .inv .3) (c .before .pair-unit .result) (omega arith) (omega arith) (sym (c .before .before .before .before .is-lead .ensures) ∙ c .before .before .before .if1 .taken) (c .before .pair-unit .ensures (c .if2 .left))) refl (omega arith))
+loop-again c =
+    let turn = c .before .before .before .before .before .before .before .loop in
+    let is-lead = c .before .before .before .before .is-lead in
+    let if1 = c .before .before .before .if1 in
+    let pair-unit = c .before .pair-unit in (
+      omega arith,
+      simp length-set (turn .inv .1),
+      omega arith,
+      ran-at
+          (ran-pair _ _ _ (turn .inv .3) (pair-unit .result) (omega arith) (omega arith) (sym (is-lead .ensures) ∙ if1 .taken) (pair-unit .ensures (c .if2 .left))) refl (omega arith),
+    )
 
 -- src/runs.rt:108:17
 single-unit-requires : tie.Need-single-unit-requires Inv-loop μ-loop
@@ -140,7 +154,17 @@ loop-less-2 c = omega arith
 
 -- src/runs.rt:94:5
 loop-again-2 : tie.Need-loop-again-2 Inv-loop μ-loop
-loop-again-2 c = (omega arith, simp length-set (c .before .before .before .before .before .before .loop .inv .1), omega arith, ran-at (ran-single _ _ _ (c .before .before .before .before .before .before .loop .inv .3) (c .before .single-unit .result) (omega arith) (omega arith) (sym (c .before .before .before .is-lead .ensures) ∙ c .before .before .if1 .left) (c .before .single-unit .ensures (c .if3 .left))) refl (omega arith))
+loop-again-2 c =
+    let turn = c .before .before .before .before .before .before .loop in
+    let is-lead = c .before .before .before .is-lead in
+    let if1 = c .before .before .if1 in
+    let single-unit = c .before .single-unit in (
+      omega arith,
+      simp length-set (turn .inv .1),
+      omega arith,
+      ran-at
+          (ran-single _ _ _ (turn .inv .3) (single-unit .result) (omega arith) (omega arith) (sym (is-lead .ensures) ∙ if1 .left) (single-unit .ensures (c .if3 .left))) refl (omega arith),
+    )
 
 -- src/runs.rt:122:18
 add-t15 : tie.Need-add-t15 Inv-loop μ-loop

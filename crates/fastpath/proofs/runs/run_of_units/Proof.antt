@@ -112,7 +112,18 @@ loop-less c = omega arith
 
 -- src/runs.rt:201:5
 loop-again : tie.Need-loop-again Inv-loop μ-loop
-loop-again c = (omega arith, simp length-set (c .before .before .before .before .before .before .before .before .loop .inv .1), omega (arith, c .byte-count .ensures, two-bytes (c .before .before .before .before .before .code-of .result)), ran-at (ran-unit _ _ (c .before .before .before .before .before .before .before .before .loop .inv .3) (c .before .before .before .before .before .code-of .result) (omega arith) (c .before .before .before .before .before .code-of .ensures .1 (c .before .before .before .before .if1 .left)) _ _ _ (c .before .before .first-byte .ensures) (c .before .second-byte .ensures) (c .byte-count .ensures) (omega arith)) (omega arith) refl)
+loop-again c =
+    let turn = c .before .before .before .before .before .before .before .before .loop in
+    let code-of = c .before .before .before .before .before .code-of in
+    let if1 = c .before .before .before .before .if1 in
+    let first-byte = c .before .before .first-byte in (
+      omega arith,
+      simp length-set (turn .inv .1),
+      omega (arith, c .byte-count .ensures, two-bytes (code-of .result)),
+      ran-at
+          (ran-unit _ _ (turn .inv .3) (code-of .result) (omega arith) (code-of .ensures .1 (if1 .left)) _ _ _ (first-byte .ensures) (c .before .second-byte .ensures)
+          (c .byte-count .ensures) (omega arith)) (omega arith) refl,
+    )
 
 -- src/runs.rt:216:15
 add-t12 : tie.Need-add-t12 Inv-loop μ-loop

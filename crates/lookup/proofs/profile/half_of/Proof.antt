@@ -75,12 +75,20 @@ loop-less c = omega arith
 -- src/profile.rt:116:5
 loop-again : tie.Need-loop-again Inv-loop μ-loop
 loop-again c =
-    let m = mark-le (isLead _) _ (c .before .before .before .before .lead-mark .ensures) in (
-      omega (arith, c .before .before .before .before .before .before .loop-test .taken),
-      omega (arith, m, c .before .before .before .before .before .before .before .loop .inv .1),
-      count-more (c .before .before .before .before .before .before .before .before .before .args .classes .now) (c .before .before .before .before .before .before .before .before .before .args .from + c .before .before .before .before .before .before .before .loop .i) _ _ (c .before .before .before .before .before .before .before .loop .count) _ (omega arith) (omega arith) (c .before .before .before .before .before .before .before .loop .inv .2) (c .before .before .before .before .lead-mark .ensures),
-      below-more (λ (k : ℕ). isLead (entry (c .before .before .before .before .before .before .before .before .before .args .classes .now) (c .before .before .before .before .before .before .before .before .before .args .from + k)) ≡ true → c .before .before .smaller .result ≤ k) (c .before .before .before .before .before .before .before .loop .i) (λ k h e. omega (arith, c .before .before .before .before .before .before .before .loop .inv .3 k h e, c .before .before .smaller .ensures .0)) (λ e. omega (arith, c .before .before .before .first-mark .ensures e, c .before .before .smaller .ensures .1)),
-      below-more (λ (k : ℕ). isLead (entry (c .before .before .before .before .before .before .before .before .before .args .classes .now) (c .before .before .before .before .before .before .before .before .before .args .from + k)) ≡ true → k ≤ c .larger .result) (c .before .before .before .before .before .before .before .loop .i) (λ k h e. omega (arith, c .before .before .before .before .before .before .before .loop .inv .4 k h e, c .larger .ensures .0 .0)) (λ e. omega (arith, c .before .last-mark .ensures e, c .larger .ensures .0 .1)),
+    let start = c .before .before .before .before .before .before .before .before .before in
+    let turn = c .before .before .before .before .before .before .before .loop in
+    let loop-test = c .before .before .before .before .before .before .loop-test in
+    let lead-mark = c .before .before .before .before .lead-mark in
+    let first-mark = c .before .before .before .first-mark in
+    let smaller = c .before .before .smaller in
+    let m = mark-le (isLead _) _ (lead-mark .ensures) in (
+      omega (arith, loop-test .taken),
+      omega (arith, m, turn .inv .1),
+      count-more (start .args .classes .now) (start .args .from + turn .i) _ _ (turn .count) _ (omega arith) (omega arith) (turn .inv .2) (lead-mark .ensures),
+      below-more (λ (k : ℕ). isLead (entry (start .args .classes .now) (start .args .from + k)) ≡ true → smaller .result ≤ k) (turn .i)
+          (λ k h e. omega (arith, turn .inv .3 k h e, smaller .ensures .0)) (λ e. omega (arith, first-mark .ensures e, smaller .ensures .1)),
+      below-more (λ (k : ℕ). isLead (entry (start .args .classes .now) (start .args .from + k)) ≡ true → k ≤ c .larger .result) (turn .i)
+          (λ k h e. omega (arith, turn .inv .4 k h e, c .larger .ensures .0 .0)) (λ e. omega (arith, c .before .last-mark .ensures e, c .larger .ensures .0 .1)),
     )
 
 -- src/profile.rt:108:1

@@ -46,7 +46,12 @@ sub-t10 c = omega (arith, half-count (c .before .before .before .before .before 
 
 -- src/profile.rt:144:1
 returns : tie.Need-returns
-returns c = leads-at (c .before .before .before .before .before .before .before .args .classes .now) _ _ (c .before .before .before .before .before .before .before .pre .0) (c .before .before .before .before .before .before .before .pre .1) (c .before .before .before .before .before .half-of .ensures) (c .before .before .before .before .half-of2 .ensures) _ (c .before .before .before .are-regular .ensures)
+returns c =
+    let start = c .before .before .before .before .before .before .before in
+    let half-of = c .before .before .before .before .before .half-of in
+    let half-of2 = c .before .before .before .before .half-of2 in
+    let are-regular = c .before .before .before .are-regular in
+    leads-at (start .args .classes .now) _ _ (start .pre .0) (start .pre .1) (half-of .ensures) (half-of2 .ensures) _ (are-regular .ensures)
 
 pub leads-of-spec : {M : Type 1} → statement M
 leads-of-spec =

@@ -45,7 +45,13 @@ loop-less c = omega arith
 
 -- src/profile.rt:41:5
 loop-again : tie.Need-loop-again Inv-loop μ-loop
-loop-again c = (omega arith, λ e. below-more (λ (k : ℕ). isSingle (entry (c .before .before .before .before .before .before .args .classes .now) k) ≡ true) (c .before .before .before .before .loop .i) (c .before .before .before .before .loop .inv .1 (omega (arith, c .larger .ensures .0 .0))) (c .before .single-mark .ensures (omega (arith, c .larger .ensures .0 .1))))
+loop-again c =
+    let start = c .before .before .before .before .before .before in
+    let turn = c .before .before .before .before .loop in (
+      omega arith,
+      λ e. below-more (λ (k : ℕ). isSingle (entry (start .args .classes .now) k) ≡ true) (turn .i) (turn .inv .1 (omega (arith, c .larger .ensures .0 .0)))
+          (c .before .single-mark .ensures (omega (arith, c .larger .ensures .0 .1))),
+    )
 
 -- src/profile.rt:35:1
 returns : tie.Need-returns Inv-loop μ-loop

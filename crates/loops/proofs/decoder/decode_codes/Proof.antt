@@ -46,8 +46,10 @@ loop-again c = loop-turn (c .before .before .before .before .before .before .bef
 
 at-end-requires : tie.Need-at-end-requires Inv-loop μ-loop
 at-end-requires c κs =
-    let g = c .before .before .before .loop .inv .ready in
-    ((c .before .before .before .before .before .before .before .before .before .before .before .pre .0 .all-classes, c .before .before .before .before .before .before .before .before .before .before .before .pre .0 .all-singles), (g .going, g .within, omega (arith, g .few, g .inside, c .before .before .before .before .before .before .before .before .before .before .before .good .1 .1 .1 .1 .1 .1 .1 .0)))
+    let start = c .before .before .before .before .before .before .before .before .before .before .before in
+    let turn = c .before .before .before .loop in
+    let g = turn .inv .ready in
+    ((start .pre .0 .all-classes, start .pre .0 .all-singles), (g .going, g .within, omega (arith, g .few, g .inside, start .good .1 .1 .1 .1 .1 .1 .1 .0)))
 
 same-length-2 : tie.Need-same-length-2 Inv-loop μ-loop
 same-length-2 c = c .before .before .at-end .ensures (c .before .before .before .before .before .before .before .before .before .before .before .before .before .before .args .pairs .now) .same ∙ c .before .before .before .before .before .before .loop .inv .same

@@ -17,13 +17,21 @@ returns c =
     ends-both (ends-none _ _ _ _ _ _ (plain .0) (plain-ends _ _ _ _ (plain .1 _) refl))
 
 decode-singles-requires : tie.Need-decode-singles-requires
-decode-singles-requires c κs = ((c .before .before .before .before .before .before .before .before .before .before .before .before .pre .0 .all-classes, c .before .before .before .before .before .before .before .before .before .before .before .before .pre .0 .all-singles), c .before .before .before .before .before .way-of .ensures .single (c .before .if2 .taken) .1)
+decode-singles-requires c κs =
+    let start = c .before .before .before .before .before .before .before .before .before .before .before .before in
+    let way-of = c .before .before .before .before .before .way-of in
+    ((start .pre .0 .all-classes, start .pre .0 .all-singles), way-of .ensures .single (c .before .if2 .taken) .1)
 
 same-length-2 : tie.Need-same-length-2
 same-length-2 c = c .before .before .decode-singles .ensures .same ∙ c .before .before .before .before .before .before .before .before .way-of .ensures .same
 
 returns-2 : tie.Need-returns-2
-returns-2 c = ends-both (ends-none _ _ _ _ _ _ (c .before .before .before .before .before .before .before .before .way-of .ensures .single (c .before .before .before .before .if2 .taken) .0) (ends-from _ _ _ _ (c .before .before .before .before .before .before .before .before .way-of .ensures .left (c .before .before .before .before .before .if1 .left)) (c .before .before .decode-singles .ensures)))
+returns-2 c =
+    let way-of = c .before .before .before .before .before .before .before .before .way-of in
+    let if1 = c .before .before .before .before .before .if1 in
+    let if2 = c .before .before .before .before .if2 in
+    let decode-singles = c .before .before .decode-singles in
+    ends-both (ends-none _ _ _ _ _ _ (way-of .ensures .single (if2 .taken) .0) (ends-from _ _ _ _ (way-of .ensures .left (if1 .left)) (decode-singles .ensures)))
 
 decode-codes-requires : tie.Need-decode-codes-requires
 decode-codes-requires c κs = c .before .before .before .before .before .before .before .before .before .before .before .before .pre

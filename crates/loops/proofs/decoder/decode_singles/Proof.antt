@@ -26,10 +26,17 @@ loop-holds : tie.Need-loop-holds Inv-loop μ-loop
 loop-holds c = (loop-start _ _ false 0 _ _ (λ e. absurd (false≢true e)) (c .start .ensures), ap (λ (t : Turn). t .waits) (c .start .ensures))
 
 singles-turn-requires : tie.Need-singles-turn-requires Inv-loop μ-loop
-singles-turn-requires c κs = (c .before .before .before .before .before .before .before .before .before .before .pre .0, (c .before .before .before .before .before .before .before .before .before .before .pre .1, (c .before .before .before .loop .inv .0 .ready, c .before .if1 .taken, c .before .before .before .loop .inv .1)))
+singles-turn-requires c κs =
+    let start = c .before .before .before .before .before .before .before .before .before .before in
+    let turn = c .before .before .before .loop in
+    (start .pre .0, (start .pre .1, (turn .inv .0 .ready, c .before .if1 .taken, turn .inv .1)))
 
 same-length : tie.Need-same-length Inv-loop μ-loop
-same-length c = c .before .before .before .before .before .singles-turn .ensures .0 (c .before .before .before .before .before .before .before .before .before .before .before .before .before .before .before .before .args .pairs .now) .turned .same ∙ c .before .before .before .before .before .before .before .before .before .loop .inv .0 .same
+same-length c =
+    let start = c .before .before .before .before .before .before .before .before .before .before .before .before .before .before .before .before in
+    let turn = c .before .before .before .before .before .before .before .before .before .loop in
+    let singles-turn = c .before .before .before .before .before .singles-turn in
+    singles-turn .ensures .0 (start .args .pairs .now) .turned .same ∙ turn .inv .0 .same
 
 returns : tie.Need-returns Inv-loop μ-loop
 returns c = loop-stop (c .before .before .before .before .before .before .before .before .before .loop .inv .0) (c .before .before .before .before .before .singles-turn .ensures .0 _ .turned) (c .if2 .taken)

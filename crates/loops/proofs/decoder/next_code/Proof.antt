@@ -24,8 +24,14 @@ wait-requires c κs = search needs
 
 returns-2 : tie.Need-returns-2
 returns-2 c =
-    let pre = c .before .before .before .before .before .before .before .before .before .pre .1 in
-    (λ pairs. turned-wait (pre .0 .going) (pre .0 .within) (pre .1) (c .before .before .before .before .if1 .left) (decoder-waits _ _ pairs _ _ _ _ (sym (c .before .before .is-lead .ensures) ∙ c .before .if2 .taken)) (c .wait .ensures), wait-falls (c .before .before .before .before .before .before .before .before .before .args .piece .now) (c .before .before .before .before .before .before .before .before .before .args .t) (c .wait .ensures))
+    let start = c .before .before .before .before .before .before .before .before .before in
+    let if1 = c .before .before .before .before .if1 in
+    let is-lead = c .before .before .is-lead in
+    let pre = start .pre .1 in (
+      λ pairs. turned-wait (pre .0 .going) (pre .0 .within) (pre .1) (if1 .left) (decoder-waits _ _ pairs _ _ _ _ (sym (is-lead .ensures) ∙ c .before .if2 .taken))
+          (c .wait .ensures),
+      wait-falls (start .args .piece .now) (start .args .t) (c .wait .ensures),
+    )
 
 take-alone-requires : tie.Need-take-alone-requires
 take-alone-requires c κs = search needs
@@ -38,8 +44,15 @@ same-length c = search needs
 
 returns-3 : tie.Need-returns-3
 returns-3 c =
-    let pre = c .before .before .before .before .before .before .before .before .before .before .before .before .before .before .pre .1 in
-    (λ pairs. turned-one (c .before .before .before .take-alone .ensures pairs) (pre .1) (c .before .before .before .before .before .before .before .before .before .if1 .left) (decoder-waits _ _ pairs _ _ _ _ (sym (c .before .before .before .before .before .before .before .is-lead .ensures) ∙ c .before .before .before .before .before .before .if2 .left)) refl (c .past .ensures), past-falls (c .before .before .before .before .before .before .before .before .before .before .before .before .before .before .args .piece .now) (c .before .before .before .before .before .before .before .before .before .before .before .before .before .before .args .t) (c .past .ensures))
+    let start = c .before .before .before .before .before .before .before .before .before .before .before .before .before .before in
+    let if1 = c .before .before .before .before .before .before .before .before .before .if1 in
+    let is-lead = c .before .before .before .before .before .before .before .is-lead in
+    let if2 = c .before .before .before .before .before .before .if2 in
+    let take-alone = c .before .before .before .take-alone in
+    let pre = start .pre .1 in (
+      λ pairs. turned-one (take-alone .ensures pairs) (pre .1) (if1 .left) (decoder-waits _ _ pairs _ _ _ _ (sym (is-lead .ensures) ∙ if2 .left)) refl (c .past .ensures),
+      past-falls (start .args .piece .now) (start .args .t) (c .past .ensures),
+    )
 
 pub next-code-spec : {M : Type 1} → statement M
 next-code-spec = tie.close (tie.spec returns shared-slice-read-byte is-lead-requires wait-requires returns-2 take-alone-requires past-requires same-length returns-3)

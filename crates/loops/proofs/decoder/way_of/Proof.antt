@@ -23,7 +23,17 @@ same-length c = search needs
 
 -- src/decoder.rt:150:9
 returns-2 : tie.Need-returns-2
-returns-2 c = record { plain = λ e. (c .before .before .before .before .before .if1 .left, λ pairs. plain-sure (c .before .before .before .decode-plain .ensures pairs) (c .if2 .taken)); single = λ e. absurd (omega (arith, e)); left = λ n. absurd (n refl); same = c .before .before .before .decode-plain .ensures (c .before .before .before .before .before .before .before .before .before .before .args .singles .now) .same }
+returns-2 c =
+    let start = c .before .before .before .before .before .before .before .before .before .before in
+    let if1 = c .before .before .before .before .before .if1 in
+    let decode-plain = c .before .before .before .decode-plain in
+    record {
+      plain = λ e. (if1 .left, λ pairs. plain-sure (decode-plain .ensures pairs) (c .if2 .taken));
+      single = λ e. absurd (omega (arith, e));
+      left = λ n. absurd
+          (n refl);
+      same = decode-plain .ensures (start .args .singles .now) .same;
+    }
 
 -- src/decoder.rt:152:8
 only-singles-requires : tie.Need-only-singles-requires
@@ -35,7 +45,18 @@ same-length-2 c = search needs
 
 -- src/decoder.rt:153:9
 returns-3 : tie.Need-returns-3
-returns-3 c = record { plain = λ e. absurd (omega (arith, e)); single = λ e. (c .before .before .before .before .before .before .before .if1 .left, c .before .only-singles .ensures (c .if3 .taken)); left = λ n. c .before .before .before .before .before .decode-plain .ensures (c .before .before .before .before .before .before .before .before .before .before .before .before .args .singles .now) .left (c .before .before .if2 .left); same = c .before .before .before .before .before .decode-plain .ensures (c .before .before .before .before .before .before .before .before .before .before .before .before .args .singles .now) .same }
+returns-3 c =
+    let start = c .before .before .before .before .before .before .before .before .before .before .before .before in
+    let if1 = c .before .before .before .before .before .before .before .if1 in
+    let decode-plain = c .before .before .before .before .before .decode-plain in
+    let if2 = c .before .before .if2 in
+    record {
+      plain = λ e. absurd (omega (arith, e));
+      single = λ e. (if1 .left, c .before .only-singles .ensures (c .if3 .taken));
+      left = λ n. decode-plain .ensures
+          (start .args .singles .now) .left (if2 .left);
+      same = decode-plain .ensures (start .args .singles .now) .same;
+    }
 
 -- src/decoder.rt:142:1
 same-length-3 : tie.Need-same-length-3
@@ -43,7 +64,17 @@ same-length-3 c = search needs
 
 -- src/decoder.rt:142:1
 returns-4 : tie.Need-returns-4
-returns-4 c = record { plain = λ e. absurd (omega (arith, e)); single = λ e. absurd (omega (arith, e)); left = λ n. c .before .before .before .before .before .decode-plain .ensures (c .before .before .before .before .before .before .before .before .before .before .before .before .args .singles .now) .left (c .before .before .if2 .left); same = c .before .before .before .before .before .decode-plain .ensures (c .before .before .before .before .before .before .before .before .before .before .before .before .args .singles .now) .same }
+returns-4 c =
+    let start = c .before .before .before .before .before .before .before .before .before .before .before .before in
+    let decode-plain = c .before .before .before .before .before .decode-plain in
+    let if2 = c .before .before .if2 in
+    record {
+      plain = λ e. absurd (omega (arith, e));
+      single = λ e. absurd (omega (arith, e));
+      left = λ n. decode-plain .ensures (start .args .singles .now) .left
+          (if2 .left);
+      same = decode-plain .ensures (start .args .singles .now) .same;
+    }
 
 pub way-of-spec : {M : Type 1} → statement M
 way-of-spec =

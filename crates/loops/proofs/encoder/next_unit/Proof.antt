@@ -36,8 +36,17 @@ same-length c = search needs
 
 returns-2 : tie.Need-returns-2
 returns-2 c =
-    let does = encoded-one _ _ _ _ _ _ _ (c .before .before .before .before .before .before .before .unit-code .ensures) (c .before .before .before .before .before .before .encoded .ensures _) in
-    (turned-one (c .before .before .before .take-bytes .ensures) (c .before .before .before .before .before .before .before .before .before .before .before .before .before .before .pre .1 .1 .1 .1) (c .before .before .before .before .before .before .before .before .before .if1 .left) (encoder-waits _ _ _ _ _) does (c .past .ensures), past-falls (c .before .before .before .before .before .before .before .before .before .before .before .before .before .before .args .piece .now) (c .before .before .before .before .before .before .before .before .before .before .before .before .before .before .args .t) (c .past .ensures), ap (λ (x : Turn). x .waits) (c .past .ensures))
+    let start = c .before .before .before .before .before .before .before .before .before .before .before .before .before .before in
+    let if1 = c .before .before .before .before .before .before .before .before .before .if1 in
+    let unit-code = c .before .before .before .before .before .before .before .unit-code in
+    let encoded = c .before .before .before .before .before .before .encoded in
+    let take-bytes = c .before .before .before .take-bytes in
+    let does = encoded-one _ _ _ _ _ _ _ (unit-code .ensures) (encoded .ensures _) in (
+      turned-one (take-bytes .ensures) (start .pre .1 .1 .1 .1) (if1 .left) (encoder-waits _ _ _ _ _) does (c .past .ensures),
+      past-falls (start .args .piece .now)
+          (start .args .t) (c .past .ensures),
+      ap (λ (x : Turn). x .waits) (c .past .ensures),
+    )
 
 pub next-unit-spec : {M : Type 1} → statement M
 next-unit-spec = tie.close (tie.spec returns mul-unit-code shared-slice-read-unit-code unit-code-requires encoded-requires take-bytes-requires past-requires same-length returns-2)
