@@ -16,7 +16,8 @@ use Rattle.engine.specs.declared.Direction.the-variants.{Encoding}
 use Rattle.engine.specs.declared.Policy.{Policy}
 use Rattle.engine.specs.Policies.{actionOf, flagOf}
 use Rattle.engine.specs.Engine.{Effect, acted, effectOf, Converter, converter, converterOf, Room, less, Fed, halt, takeCode, feedFrom}
-use Rattle.engine.proofs.EngineLaws.{doesAlone, doesTogether, feed-wait, feed-one, feed-two, feed-end, feed-last, feed-stays}
+use Rattle.engine.specs.Steps.{doesAlone, doesTogether}
+use Rattle.engine.proofs.EngineLaws.{feed-wait, feed-one, feed-two, feed-end, feed-last, feed-stays}
 
 -- Two converters of one reader whose codes do the same, alone and together.
 pub record SameDoes (r : Reader) (d e : Code → Effect) : Type 0 where
