@@ -1,0 +1,198 @@
+-- Laws of one call: the scan for a separator, the copy into the buffer, and the cases of a call.
+use mathlib.Core.Bool.{Bool, true, false, _||_, _&&_, true≢false, false≢true}
+use mathlib.Core.List.{List, [], _∷_, _++_, append-assoc}
+use mathlib.Core.Option.{Option, none, some}
+use mathlib.Core.Path.{_≡_, refl, sym, ap, _∙_, subst}
+use Prim.Native.Nat.{ℕ, zero, suc, _+_, _≤_, _<_, min}
+use native.Mathlib.Numerals.{add-one}
+use native.Mathlib.Omega.{arith}
+use lib.Dec.{eqb, ltb}
+use lib.ListN.{length, getD, take, drop, length-take, drop-of-length-le}
+use lib.Seq.{paste, drop-cons, drop-drop, length-take-le}
+use borrow.Author.Tests.{le-leb, lt-leb, eq-eqb, ne-eqb}
+use Rattle.codepage.specs.CodePage.{pick}
+use Rattle.codepage.specs.Lent.{over}
+use Rattle.fields.specs.declared.End.{End}
+use Rattle.fields.specs.declared.End.the-variants.{Bar, LineFeed, Text}
+use Rattle.fields.specs.declared.Place.the-variants.{Buffer, Block}
+use Rattle.fields.specs.declared.Refusal.{Refusal}
+use Rattle.fields.specs.declared.Refusal.the-variants.{BufferTooShort, BlockTooLong, InvalidState, FieldTooLong}
+use Rattle.fields.specs.declared.Answer.the-variants.{Field as FieldFound, Refused}
+use Rattle.fields.specs.declared.Held.{Held}
+use Rattle.fields.specs.declared.Outcome.{Outcome}
+use Rattle.fields.specs.Fields.{separator, stopAt, unitsIn, orElse, separatorIn, endIn, refusal, fresh, readWith, overFrom, foundCall, heldCall, refusedCall, fieldCall, Answered}
+use Rattle.fields.specs.Steps.{isSeparator, endOf}
+
+-- ---- separators
+pub no-separator : (u : ℕ) → isSeparator u ≡ false → separator u ≡ none
+unfolding separator
+no-separator u e = by (eqb u 0x7C) (eqb u 0x0A) e
+  where
+    by : (a b : Bool) → (a || b) ≡ false → pick a (some Bar) (pick b (some LineFeed) none) ≡ none
+    by true b e = absurd (true≢false e)
+    by false true e = absurd (true≢false e)
+    by false false e = refl
+
+pub is-separator : (u : ℕ) → isSeparator u ≡ true → separator u ≡ some (endOf u)
+unfolding separator
+is-separator u e = by (eqb u 0x7C) (eqb u 0x0A) e
+  where
+    by : (a b : Bool) → (a || b) ≡ true → pick a (some Bar) (pick b (some LineFeed) none) ≡ some (pick a Bar LineFeed)
+    by true b e = refl
+    by false true e = refl
+    by false false e = absurd (false≢true e)
+
+-- ---- the scan: the units passed are no separators
+module _ (block : List ℕ) (i : ℕ) (so-far : length (unitsIn block) ≡ i + length (unitsIn (drop i block))) where
+  pub scan-stop : i < length block → isSeparator (getD block i 0) ≡ true → i ≡ length (unitsIn block)
+  unfolding unitsIn
+  scan-stop h e =
+      let here : length (unitsIn (drop i block)) ≡ 0 =
+      ap (λ (l : List ℕ). length (unitsIn l)) (drop-cons block i 0 h) ∙ ap (λ (o : Option End). length (stopAt o (getD block i 0 ∷ unitsIn (drop (suc i) block)))) (is-separator _ e) in
+      omega arith
+
+  pub scan-turn : i < length block → isSeparator (getD block i 0) ≡ false → length (unitsIn block) ≡ (i + 1) + length (unitsIn (drop (i + 1) block))
+  unfolding unitsIn
+  scan-turn h e =
+      let here : length (unitsIn (drop i block)) ≡ suc (length (unitsIn (drop (suc i) block))) =
+      ap (λ (l : List ℕ). length (unitsIn l)) (drop-cons block i 0 h) ∙ ap (λ (o : Option End). length (stopAt o (getD block i 0 ∷ unitsIn (drop (suc i) block)))) (no-separator _ e) in
+      rw (add-one i) (omega arith)
+
+  pub scan-end : length block ≤ i → i ≡ length (unitsIn block)
+  unfolding unitsIn
+  scan-end h =
+      let here : length (unitsIn (drop i block)) ≡ 0 = ap (λ (l : List ℕ). length (unitsIn l)) (drop-of-length-le block h) in
+      omega arith
+
+-- ---- the copy
+pub laid : (buffer : List ℕ) (held : ℕ) (block : List ℕ) (size : ℕ) → size ≤ length block → paste buffer held block size ≡ overFrom held buffer (take size block)
+unfolding overFrom over
+laid buffer held block size h =
+    append-assoc (take held buffer) (take size block) (drop (held + size) buffer)
+    ∙ ap (λ (r : List ℕ). take held buffer ++ (take size block ++ r))
+    (sym (drop-drop size held buffer) ∙ ap (λ (n : ℕ). drop n (drop held buffer)) (sym (length-take-le size block h)))
+
+-- ---- what ends the next field
+separator-end : (u : ℕ) (end : End) → separator u ≡ some end → end ≡ endOf u
+unfolding separator
+separator-end u end e = by (eqb u 0x7C) (eqb u 0x0A) e
+  where
+    by : (a b : Bool) → pick a (some Bar) (pick b (some LineFeed) none) ≡ some end → end ≡ pick a Bar LineFeed
+    by true b e = cc
+    by false true e = cc
+    by false false e = let z : _≡_ {A = ℕ} 0 1 = cc in absurd (omega arith)
+
+take-with : (u : ℕ) (block : List ℕ) (o : Option End) → take (length (unitsIn block)) block ≡ unitsIn block
+    → take (length (stopAt o (u ∷ unitsIn block))) (u ∷ block) ≡ stopAt o (u ∷ unitsIn block)
+take-with u block none e = ap (λ (l : List ℕ). u ∷ l) e
+take-with u block (some end) e = refl
+
+pub units-taken : (block : List ℕ) → take (length (unitsIn block)) block ≡ unitsIn block
+unfolding unitsIn
+units-taken [] = refl
+units-taken (u ∷ block) = take-with u block (separator u) (units-taken block)
+
+at-with : (u : ℕ) (block : List ℕ) (size : ℕ) (o : Option End) → separator u ≡ o → size ≡ length (stopAt o (u ∷ unitsIn block)) → size < suc (length block)
+    → ((n : ℕ) → n ≡ length (unitsIn block) → n < length block → separatorIn block ≡ some (endOf (getD block n 0)))
+    → orElse o (separatorIn block) ≡ some (endOf (getD (u ∷ block) size 0))
+at-with u block zero none q e h later = absurd (omega arith)
+at-with u block (suc size) none q e h later = later size (omega arith) (omega arith)
+at-with u block zero (some end) q e h later = ap some (separator-end u end q)
+at-with u block (suc size) (some end) q e h later = absurd (omega arith)
+
+pub separator-at : (block : List ℕ) (size : ℕ) → size ≡ length (unitsIn block) → size < length block → separatorIn block ≡ some (endOf (getD block size 0))
+unfolding unitsIn separatorIn
+separator-at [] size e h = absurd (omega arith)
+separator-at (u ∷ block) size e h = at-with u block size (separator u) refl e h (separator-at block)
+
+none-with : (u : ℕ) (block : List ℕ) (o : Option End) → suc (length block) ≤ length (stopAt o (u ∷ unitsIn block))
+    → (length block ≤ length (unitsIn block) → separatorIn block ≡ none) → orElse o (separatorIn block) ≡ none
+none-with u block none h later = later (omega arith)
+none-with u block (some end) h later = absurd (omega arith)
+
+pub separator-none : (block : List ℕ) → length block ≤ length (unitsIn block) → separatorIn block ≡ none
+unfolding unitsIn separatorIn
+separator-none [] h = refl
+separator-none (u ∷ block) h = none-with u block (separator u) h (separator-none block)
+
+-- ---- the cases of a call
+module _ (held : ℕ) (buffer units : List ℕ) (end : End) (count read : ℕ) (state : Held) (after : List ℕ) (size : count ≡ length units) (reads : read ≡ readWith end count)
+    (new : state ≡ fresh) where
+  pub found-here : held ≡ 0 → after ≡ buffer
+      → Answered (foundCall held buffer units end) (record { answer = FieldFound (record { end = end; place = Block; count = count; read = read }); state = state }) after
+  unfolding foundCall
+  found-here z e =
+      simp (eq-eqb held 0 z)
+      (record {
+        answer =
+            ap (λ (n : ℕ). FieldFound (record { end = end; place = Block; count = count; read = n })) reads
+            ∙ ap (λ (n : ℕ). FieldFound (record { end = end; place = Block; count = n; read = readWith end n })) size;
+        state = ap (λ (h : Held). h .count) new;
+        buffer = e;
+      })
+
+  pub found-held : (held ≡ 0 → ⊥) → after ≡ overFrom held buffer units
+      → Answered (foundCall held buffer units end) (record { answer = FieldFound (record { end = end; place = Buffer; count = held + count; read = read }); state = state }) after
+  unfolding foundCall
+  found-held z e =
+      simp (ne-eqb held 0 z)
+      (record {
+        answer =
+            ap (λ (n : ℕ). FieldFound (record { end = end; place = Buffer; count = held + count; read = n })) reads
+            ∙ ap (λ (n : ℕ). FieldFound (record { end = end; place = Buffer; count = held + n; read = readWith end n })) size;
+        state = ap (λ (h : Held). h .count) new;
+        buffer = e;
+      })
+
+module _ (held : ℕ) (buffer block : List ℕ) (last : Bool) where
+  pub short : length buffer < 256 → refusal held buffer block ≡ some BufferTooShort
+  unfolding refusal
+  short a = simp (lt-leb _ _ a)
+
+  pub too-long : 256 ≤ length buffer → 65536 < length block → refusal held buffer block ≡ some BlockTooLong
+  unfolding refusal
+  too-long a b = simp (le-leb _ _ a, lt-leb _ _ b)
+
+  pub invalid : 256 ≤ length buffer → length block ≤ 65536 → 256 < held → refusal held buffer block ≡ some InvalidState
+  unfolding refusal
+  invalid a b d = simp (le-leb _ _ a, le-leb _ _ b, lt-leb _ _ d)
+
+  pub over-limit : 256 ≤ length buffer → length block ≤ 65536 → held ≤ 256 → 256 < held + length (unitsIn block) → refusal held buffer block ≡ some FieldTooLong
+  unfolding refusal
+  over-limit a b d f = simp (le-leb _ _ a, le-leb _ _ b, le-leb _ _ d, lt-leb _ _ f)
+
+  pub accepted : 256 ≤ length buffer → length block ≤ 65536 → held ≤ 256 → held + length (unitsIn block) ≤ 256 → refusal held buffer block ≡ none
+  unfolding refusal
+  accepted a b d f = simp (le-leb _ _ a, le-leb _ _ b, le-leb _ _ d, le-leb _ _ f)
+
+  pub call-refused : (why : Refusal) (r : Outcome) → refusal held buffer block ≡ some why → (r .answer ≡ Refused why) × (r .state .count ≡ held)
+      → Answered (fieldCall held buffer block last) r buffer
+  unfolding fieldCall refusedCall
+  call-refused why r e w = rw e (record { answer = w .0; state = w .1; buffer = refl })
+
+  pub call-found : (size : ℕ) (end : End) (r : Outcome) (after : List ℕ) → refusal held buffer block ≡ none → endIn held block last ≡ some end → size ≡ length (unitsIn block)
+      → Answered (foundCall held buffer (take size block) end) r after → Answered (fieldCall held buffer block last) r after
+  unfolding fieldCall
+  call-found size end r after e q n w =
+      rw (e, q) (subst (λ (l : List ℕ). Answered (foundCall held buffer l end) r after) (ap (λ (k : ℕ). take k block) n ∙ units-taken block) w)
+
+  pub call-held : (r : Outcome) (after : List ℕ) → refusal held buffer block ≡ none → endIn held block last ≡ none
+      → Answered (heldCall held buffer block) r after → Answered (fieldCall held buffer block last) r after
+  unfolding fieldCall
+  call-held r after e q w = rw (e, q) w
+
+  -- what ends the field: a separator, the text's end, or nothing
+  pub end-separator : (size : ℕ) (end : End) → size ≡ length (unitsIn block) → size < length block → end ≡ endOf (getD block size 0) → endIn held block last ≡ some end
+  unfolding endIn
+  end-separator size end n h e = rw (separator-at block size n h) (ap some (sym e))
+
+  pub end-other : (size : ℕ) (t : Bool) → size ≡ length (unitsIn block) → length block ≤ size → size ≤ length block → t ≡ (last && ltb 0 (held + size))
+      → endIn held block last ≡ pick t (some Text) none
+  unfolding endIn
+  end-other size t n h k e =
+      let s : size ≡ length block = omega arith in
+      rw (separator-none block (omega arith)) (ap (λ (m : ℕ). pick (last && ltb 0 (held + m)) (some Text) none) (sym s) ∙ ap (λ (b : Bool). pick b (some Text) none) (sym e))
+
+-- the units before a separator are some of the block's
+pub units-fit : (block : List ℕ) → length (unitsIn block) ≤ length block
+units-fit block = let e : length (unitsIn block) ≡ min (length (unitsIn block)) (length block) = sym (ap length (units-taken block)) ∙ length-take _ block in omega arith

@@ -1,0 +1,6 @@
+pub mod FieldLaws
+pub mod CallLaws
+pub mod EveryCutting
+pub mod BoundLaws
+pub mod Beginnings
+pub mod Witnesses

@@ -1,0 +1,39 @@
+-- Document 02, CR 1: a list of run calls, and a list of field calls on what they wrote.
+use mathlib.Core.Bool.{Bool, true, false}
+use mathlib.Core.List.{List, [], _∷_, _++_}
+use mathlib.Core.Logic.{_⊎_}
+use mathlib.Core.Path.{_≡_}
+use Prim.Native.Nat.{ℕ}
+use Rattle.traces.specs.Model.{Setting, Call, feeding, saving, loading, opened, play, wholeOf}
+use Rattle.traces.specs.Traces.{Entry as RunEntry, callsOf}
+use Rattle.traces.specs.Examples.{room}
+use Rattle.fields.specs.Fields.{Field, fieldsOf}
+use Rattle.fields.specs.Cuttings.{Entry, Progress, opened as begun, play as cut, NoneLast}
+
+-- what the run calls wrote, joined
+unfoldable pub written : Setting → List RunEntry → List ℕ
+written s es = play s (opened s) (callsOf es) .joined
+
+unfoldable pub isEnded : Setting → List RunEntry → Bool
+isEnded s es = play s (opened s) (callsOf es) .ended
+
+-- how far the field calls are on what was written
+unfoldable pub progress : Setting → List RunEntry → List Entry → Progress
+progress s es cs = cut (written s es) begun cs
+
+-- THE CLAIM. A field call is marked last only if the run has ended. The fields given are the first of the whole reading's, and all
+-- of them once the run has ended and an accepted field call marked last has left nothing unread.
+pub record Imported (s : Setting) (es : List RunEntry) (cs : List Entry) : Type 0 where
+  pub begins : (isEnded s es ≡ true) ⊎ NoneLast cs → (others : List Field) × (fieldsOf (wholeOf s .output) ≡ progress s es cs .given ++ others)
+  pub all-of-them : isEnded s es ≡ true → progress s es cs .finished ≡ true → progress s es cs .given ≡ fieldsOf (wholeOf s .output)
+
+-- The night that lost a field: a block ends on 82, the run is saved and read back, and the next block is 7C 7C.
+abbrev pub nightText : List ℕ
+nightText = 0x82 ∷ 0x7C ∷ 0x7C ∷ []
+
+-- `D>7>555>82>0>1>0>on` and a line feed
+abbrev pub nightLine : List ℕ
+nightLine = 0x44 ∷ 9 ∷ 0x37 ∷ 9 ∷ 0x35 ∷ 0x35 ∷ 0x35 ∷ 9 ∷ 0x38 ∷ 0x32 ∷ 9 ∷ 0x30 ∷ 9 ∷ 0x31 ∷ 9 ∷ 0x30 ∷ 9 ∷ 0x6F ∷ 0x6E ∷ 0x0A ∷ []
+
+abbrev pub night : List Call
+night = feeding (0x82 ∷ []) false (room 9) ∷ saving (room 44) ∷ loading nightLine ∷ feeding (0x7C ∷ 0x7C ∷ []) true (room 9) ∷ []
