@@ -5,9 +5,10 @@
     make_scripts.py --check                               makes them in memory and compares them with the stored files
     make_scripts.py --seed N --lists M --out FOLDER       writes M further lists of each random kind, from seed N, into FOLDER
 
-NAME.out has the answers of second_converter.py. In the fixed scripts (fixed_scripts.py) an expected answer is written by
-hand, from document 01 and the readings of it, beside every command, and making the scripts fails where
-second_converter.py answers otherwise. The random scripts (random_scripts.py) are the same for the same seed.
+NAME.out has the answers of second_converter.py. In the fixed scripts (fixed_scripts.py, field_scripts.py) an expected answer
+is written by hand, from the documents and the readings of them, beside every command, and making the scripts fails where
+second_converter.py answers otherwise. The random scripts (random_scripts.py) are the same for the same seed. join_scripts.py
+joins all scripts for the console.
 """
 
 import argparse
@@ -15,6 +16,7 @@ import os
 import sys
 import tempfile
 
+import field_scripts
 import fixed_scripts
 import random_scripts
 import second_converter
@@ -24,7 +26,7 @@ SCRIPTS = os.path.join(ROOT, "scripts")
 DATA = os.path.join(SCRIPTS, "data")
 
 SEED = 7
-LISTS = {"lists_sample": 500, "lists_small": 800, "lists_damaged": 150, "lists_long": 20, "runs": 120}
+LISTS = {"lists_sample": 500, "lists_small": 800, "lists_damaged": 150, "lists_long": 20, "runs": 120, "lists_fields": 25}
 
 
 def write_images(images, folder):
@@ -32,6 +34,15 @@ def write_images(images, folder):
     for name, image in images.items():
         with open(os.path.join(folder, name), "wb") as file:
             file.write(image)
+
+
+def scripts_by_hand():
+    """The scripts whose expected answers stand beside their commands, by name."""
+    return {
+        **fixed_scripts.scripts(),
+        "fields": field_scripts.fields_script(),
+        "field_cuttings": field_scripts.cuttings_script(),
+    }
 
 
 def stored_scripts():
@@ -43,7 +54,7 @@ def stored_scripts():
     complaints = []
     with tempfile.TemporaryDirectory() as folder:
         write_images(images, folder)
-        for name, script in fixed_scripts.scripts().items():
+        for name, script in scripts_by_hand().items():
             commands = script.commands_file()
             answers = second_converter.play(commands, [folder])
             complaints += [f"{name}: {complaint}" for complaint in script.complaints(answers)]
@@ -82,12 +93,16 @@ def compare_stored(scripts, images):
 
 
 def write_more(seed, lists, folder):
-    """Further random lists, and the script long_lines, which is too long to be stored."""
+    """Further random lists, and the scripts long_lines and all_cuttings, which are too long to be stored."""
     tables = random_scripts.random_tables(seed)
     write_images({name: table.image() for name, table in tables.items()}, folder)
     scripts = {kind: random_scripts.random_script(kind, seed, lists, tables, folder) for kind in LISTS}
-    long_lines = fixed_scripts.long_lines_script().commands_file()
-    scripts["long_lines"] = (long_lines, second_converter.play(long_lines, [folder]))
+    for name, script in (
+        ("long_lines", fixed_scripts.long_lines_script()),
+        ("all_cuttings", field_scripts.all_cuttings_script()),
+    ):
+        commands = script.commands_file()
+        scripts[name] = (commands, second_converter.play(commands, [folder]))
     for name, contents in scripts.items():
         for ending, content in zip((".in", ".out"), contents):
             with open(os.path.join(folder, name + ending), "wb") as file:

@@ -7,6 +7,7 @@ Kinds of script:
     lists_damaged    the same on damaged tables, changing between them and good ones
     lists_long       lists on texts of up to 66,000 elements, with pieces over the limit
     runs             runs of random numbers, most of which break the rules, and the calls on them
+    lists_fields     texts cut into fields: blocks cut anywhere, fields about the limit, buffers and states of all sizes
 
 The generator plays each command on second_converter.py as it goes, only to know where the run stands, so that the next
 piece begins there; the answers stored are those of that play.
@@ -432,6 +433,48 @@ def play_runs(player, chance):
             player.do(f"load {words[3]}")
 
 
+def random_fields_text(chance):
+    """Units of fields and separators: short fields, empty ones, some about the limit, a last one that nothing ends."""
+    text = []
+    for _ in range(chance.randrange(6)):
+        count = chance.choice((0, 0, 1, 1, 2, 3, chance.randrange(8), chance.randrange(250, 260), chance.randrange(300)))
+        # 7C and 0A as one half of a unit, and their neighbours
+        units = [chance.choice((0x61, 0x7B, 0x7D, 0x09, 0x0B, 0x0D, 0x7C00, 0x0A00, 0x017C, 0x010A, 0xFF7C, chance.randrange(0x10000)))
+                 for _ in range(count)]
+        text += [unit for unit in units if unit not in (0x7C, 0x0A)]
+        text.append(chance.choice((0x7C, 0x0A)))
+    if text and chance.random() < 0.6:
+        text.pop()
+    return text
+
+
+def play_fields(player, chance):
+    """A list of calls on one text, each from the first unread unit on; now and then another state, place or mark."""
+    size = chance.choice((256, 256, 256, 256, 257, 300, 255, chance.randrange(256, 301), chance.randrange(256)))
+    if chance.random() < 0.08:
+        pattern = random_fields_text(chance)[:300] or [0x7C]
+        length = chance.choice((65536, 65537, 66000))
+        player.do(f"fillunits {length} {hex_text(pattern, 4)}")
+    else:
+        text = random_fields_text(chance)
+        length = len(text)
+        player.do(f"units {hex_text(text, 4)}")
+    player.do(f"hold {size}")
+    position = 0
+    for _ in range(chance.randrange(4, 16)):
+        if chance.random() < 0.05:
+            player.do(f"held {chance.choice((0, 1, 255, 256, 257, 300, 2**32, 2**64 - 1, chance.randrange(300)))}")
+        if chance.random() < 0.03:
+            position = chance.randrange(length + 1)
+        left = length - position
+        small = (0, 1, 1, 2, 3, 255, 256, 257, chance.randrange(7), chance.randrange(300))
+        count = chance.choice((left, left, chance.randrange(left + 1), *(min(left, number) for number in small)))
+        last = count == left and chance.random() < 0.6 or chance.random() < 0.02
+        words = player.do(f"field {position} {count} {'last' if last else 'more'}").split(" ")
+        if words[1] in ("bar", "line", "end", "held"):
+            position += int(words[2])
+
+
 def random_script(kind, seed, count, tables, folder):
     """The two files of a random script; folder has the images of the tables."""
     chance = random.Random(f"{kind} {seed}")
@@ -452,6 +495,8 @@ def random_script(kind, seed, count, tables, folder):
             play_list(player, chance, names, tables, size, calls)
         elif kind == "lists_long":
             play_long_list(player, chance, random_names + ["sample.tbl"], tables)
+        elif kind == "lists_fields":
+            play_fields(player, chance)
         else:
             play_runs(player, chance)
     return player.files()

@@ -1,5 +1,5 @@
 #!/usr/bin/env python3
-"""The second converter: plays a console script by the rules of document 01.
+"""The second converter: plays a console script by the rules of documents 01 and 02.
 
     second_converter.py [--folder FOLDER]... [SCRIPT]
 
@@ -7,8 +7,8 @@ Reads the script from the file SCRIPT, or from standard input, and writes one an
 standard output. A FILE in the script is looked for in the folders given, in their order, or in the current
 folder if none is given.
 
-It is written from document 01 alone and shares no code with the converter that it checks. Its sections follow
-that document, and the comments name the paragraph. It is meant to be plain, not fast.
+It is written from the documents alone and shares no code with the converter that it checks. Its sections follow
+them, and the comments name the paragraph. It is meant to be plain, not fast.
 """
 
 import argparse
@@ -479,6 +479,78 @@ def save_call(run, out):
 
 
 # ---------------------------------------------------------------------------------------------------------------
+# Fields (document 02, CR 1)
+# ---------------------------------------------------------------------------------------------------------------
+
+# "The bar is unit 007C, the line feed 000A"; each with the console's word for a field that it ended
+SEPARATORS = {0x007C: "bar", 0x000A: "line"}
+TEXT_END = "end"
+
+HOLD_SIZE = 256  # "a lent hold of 256 units", and the most units of a field
+
+
+@dataclass
+class FieldOutcome:
+    """What an accepted call gives. Where no field is complete, end and units are None."""
+
+    end: Optional[str]
+    read: int
+    units: Optional[list]
+    from_hold: bool
+    held: int  # the state after the call
+
+
+def field_refusal(held, hold, block):
+    """ "Refusals, in this order": the first that holds, or None."""
+    # "20 hold shorter than 256; 11; 27 a state that claims over 256 held units"
+    if len(hold) < HOLD_SIZE:
+        return 20
+    if len(block) > PIECE_LIMIT:
+        return 11
+    if held > HOLD_SIZE:
+        return 27
+    # "21 the next field's units, held and in the block, are over 256"
+    if held + len(next_units(block)) > HOLD_SIZE:
+        return 21
+    return None
+
+
+def next_units(block):
+    """The units of the block that belong to the next field."""
+    units = []
+    for unit in block:
+        if unit in SEPARATORS:
+            break
+        units.append(unit)
+    return units
+
+
+def field_call(held, hold, block, last):
+    """One call. Answers a refusal's number, with hold and state unchanged, or the outcome; hold is changed in place."""
+    refusal = field_refusal(held, hold, block)
+    if refusal is not None:
+        return refusal
+    units = next_units(block)
+    if len(units) < len(block):
+        # "A bar ends a field, a line feed a field and a record": the separator is read with its field
+        end, read = SEPARATORS[block[len(units)]], len(units) + 1
+    elif last and held + len(units) > 0:
+        # "the text's end, told by marking a call last, a field that has units"
+        end, read = TEXT_END, len(block)
+    else:
+        # "or, none being complete, holds the whole block and says so"
+        hold[held : held + len(block)] = block
+        return FieldOutcome(None, len(block), None, False, held + len(block))
+    # "a field wholly inside the block is shown from the block"
+    if held == 0:
+        return FieldOutcome(end, read, units, False, 0)
+    # "A field that began in an earlier block is completed in a lent hold"
+    size = held + len(units)
+    hold[held:size] = units
+    return FieldOutcome(end, read, hold[:size], True, 0)
+
+
+# ---------------------------------------------------------------------------------------------------------------
 # The console: the command language of docs/CONSOLE.md, and the decisions of docs/CONSOLE-NOTES.md
 # ---------------------------------------------------------------------------------------------------------------
 
@@ -487,6 +559,7 @@ TEXT_LIMIT = 66000
 UNITS_ROOM_LIMIT = 66000
 BYTES_ROOM_LIMIT = 140000
 FILE_NAME_LIMIT = 4000
+HOLD_LIMIT = 300
 
 BYTE_FILL = 0xEE
 UNIT_FILL = 0xEEEE
@@ -599,7 +672,8 @@ def read_image_file(name, folders):
 
 
 class Console:
-    """Holds a table set, a byte text, a unit text and the run in hand; answers one line at a time."""
+    """Holds a table set, a byte text, a unit text, the run in hand, a field buffer (the hold) and the number of units that
+    are held in it; answers one line at a time."""
 
     def __init__(self, folders=(".",)):
         self.folders = list(folders)
@@ -607,6 +681,8 @@ class Console:
         self.byte_text = []
         self.unit_text = []
         self.run = Run(DECODING, 0, (0, 0, 0), None, 0, 0, 0, False)
+        self.hold = []
+        self.held = 0
         # each command with the number of words after its name
         self.commands = {
             b"table": (1, self.do_table),
@@ -623,6 +699,9 @@ class Console:
             b"load": (1, self.do_load),
             b"count": (4, self.do_count),
             b"convert": (5, self.do_convert),
+            b"hold": (1, self.do_hold),
+            b"held": (1, self.do_held),
+            b"field": (3, self.do_field),
         }
 
     def answer(self, line):
@@ -769,6 +848,30 @@ class Console:
         kept = kept_text(out, converted.written, fill)
         return f"convert {converted.number} {converted.flags} {converted.read} {converted.written} {written} {kept}"
 
+    def do_hold(self, size):
+        self.hold = [UNIT_FILL] * number_word(size, HOLD_LIMIT)
+        self.held = 0
+        return f"hold {len(self.hold)}"
+
+    def do_held(self, count):
+        self.held = number_word(count, 2**64 - 1)
+        return f"held {self.held}"
+
+    def do_field(self, start, count, mark):
+        block = self.part_of(self.unit_text, start, count)
+        last = choice_word(mark, {b"more": False, b"last": True})
+        outcome = field_call(self.held, self.hold, block, last)
+        if outcome in (20, 11, 27, 21):
+            answer = str(outcome)
+        else:
+            self.held = outcome.held
+            if outcome.end is None:
+                answer = f"held {outcome.read}"
+            else:
+                source = "hold" if outcome.from_hold else "block"
+                answer = f"{outcome.end} {outcome.read} {source} {hex_text(outcome.units, 4)}"
+        return f"field {answer} {self.held} {hex_text(self.hold, 4)}"
+
 
 def script_lines(script):
     """The lines of a script: each ends at a line feed; what follows the last one, if anything, is a line too."""
@@ -786,7 +889,7 @@ def play(script, folders=(".",)):
 
 
 def main():
-    parser = argparse.ArgumentParser(description="Plays a console script by the rules of document 01.")
+    parser = argparse.ArgumentParser(description="Plays a console script by the rules of documents 01 and 02.")
     parser.add_argument("--folder", action="append", help="where the script's table images are (may be repeated)")
     parser.add_argument("script", nargs="?", help="the script; standard input if not given")
     options = parser.parse_args()

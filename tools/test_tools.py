@@ -17,8 +17,10 @@ import struct
 import sys
 import tempfile
 
+import field_scripts
 import fixed_scripts
 import independent_converters
+import join_scripts
 import make_sample
 import make_scripts
 import make_tables
@@ -108,31 +110,10 @@ def check_joined(options):
         expect(converter.play(script, FOLDERS) == expected, "the joined scripts answer otherwise")
 
 
-def joined_order(text, parts):
-    """The order in which all parts, by name, are joined to a text."""
-    order, at = [], 0
-    while at < len(text):
-        name = next((n for n in parts if n not in order and text.startswith(parts[n], at)), None)
-        expect(name is not None, f"from byte {at} on it is no script that is left")
-        order.append(name)
-        at += len(parts[name])
-    expect(sorted(order) == sorted(parts), "a script is missing")
-    return order
-
-
 def check_console_copies(options):
     """The gate runs the console on all scripts joined, `initial` first, in a folder with their data and the tables."""
-    console = os.path.join(ROOT, "crates", "console")
-    parts = {name: read(os.path.join(SCRIPTS, name + ".in")) for name in script_names()}
-    order = joined_order(read(os.path.join(console, "stdin")), parts)
-    expect(order[0] == "initial", "initial is not the first script")
-    answers = b"".join(read(os.path.join(SCRIPTS, name + ".out")) for name in order)
-    expect(read(os.path.join(console, "stdout")) == answers, "crates/console/stdout is not the answers joined")
-    for path in sorted(glob.glob(os.path.join(console, "data", "*"))):
-        name = os.path.basename(path)
-        source = next((folder for folder in FOLDERS if os.path.exists(os.path.join(folder, name))), None)
-        expect(source is not None, f"crates/console/data/{name} is in neither folder")
-        expect(read(path) == read(os.path.join(source, name)), f"crates/console/data/{name} is another file")
+    complaints = join_scripts.check()
+    expect(not complaints, "; ".join(complaints[:5]))
 
 
 def check_long_lines(options):
@@ -158,16 +139,21 @@ def check_coverage(options):
         "convert": (0, 2, 3, 10, 11, 17),
         "save": (0, 12, 19),
         "load": (0, 18),
+        "field": ("bar", "line", "end", "held", 11, 20, 21, 27),
     }
     seen = {command: set() for command in wanted}
+    shown = set()
     for name in script_names():
         for line in read(os.path.join(SCRIPTS, name + ".out")).decode("ascii").splitlines():
-            words = line.split(" ", 2)
+            words = line.split(" ", 4)
             if words[0] in seen:
-                seen[words[0]].add(int(words[1]))
+                seen[words[0]].add(words[1])
+            if words[0] == "field" and words[1] in ("bar", "line", "end"):
+                shown.add((words[1], words[3]))
             expect("changed" not in line, f"{name}: an answer says 'changed'")
     for command, numbers in wanted.items():
-        expect(seen[command] == set(numbers), f"{command}: the numbers seen are {sorted(seen[command])}")
+        expect(seen[command] == set(map(str, numbers)), f"{command}: the numbers seen are {sorted(seen[command])}")
+    expect(len(shown) == 6, f"field: bar, line and end, from hold and block: {sorted(shown)}")
 
 
 def check_further_lists(options):
@@ -347,6 +333,57 @@ def check_lines(options):
             expect(converter.line_of(other) == bytes(changed), f"{bytes(changed)!r} is read but not written")
 
 
+def whole_fields(text):
+    """The fields of an uncut text as (units, what ended it): another way to say document 02's rule."""
+    found = re.finditer("([^|\n]*)([|\n])|([^|\n]+)\\Z", "".join(map(chr, text)))
+    names = {"|": "bar", "\n": "line", None: "end"}
+    return [([ord(letter) for letter in match[1] or match[3] or ""], names[match[2]]) for match in found]
+
+
+def check_fields(options):
+    """Every cutting of every short text; random lists of calls, refused ones too, against the fields of the uncut text."""
+    script = field_scripts.all_cuttings_script(4)
+    complaints = script.complaints(converter.play(script.commands_file(), FOLDERS))
+    expect(not complaints, "; ".join(complaints[:5]))
+    chance = random.Random(13)
+    for number in range(3000):
+        text = random_scripts.random_fields_text(chance)
+        whole = whole_fields(text)
+        hold = [chance.randrange(0x10000) for _ in range(chance.choice((256, 256, 257, 300)))]
+        position, held, given, finished = 0, 0, [], False
+        for _ in range(40):
+            count = chance.choice((len(text) - position, chance.randrange(len(text) - position + 1)))
+            last = position + count == len(text) and chance.random() < 0.5
+            block = text[position : position + count]
+            before = list(hold)
+            # the units of the next field that the call has, told from the uncut text
+            units, end = whole[len(given)] if len(given) < len(whole) else ([], None)
+            there = min(len(units), held + count)
+            outcome = converter.field_call(held, hold, block, last)
+            expect((outcome == 21) == (there > 256), f"list {number}: 21 exactly if the next field is too long")
+            if outcome == 21:
+                expect(hold == before, f"list {number}: a refused call changed the hold")
+                continue
+            expect(count == 0 or outcome.read > 0, f"list {number}: nothing is read of a block that has units")
+            complete = end is not None and (last if end == "end" else held + count > len(units))
+            expect((outcome.end is not None) == complete, f"list {number}: a field exactly if it is complete")
+            if complete:
+                given.append((outcome.units, outcome.end))
+                expect(outcome.from_hold == (held > 0), f"list {number}: where the field is")
+                expect(outcome.held == 0, f"list {number}: held after a field")
+                size = len(units) if held > 0 else 0
+            else:
+                expect(outcome.read == count, f"list {number}: the whole block is held")
+                expect(outcome.held == held + count, f"list {number}: held")
+                size = held + count
+            expect(hold == (units[:size] if size else []) + before[size:], f"list {number}: the hold after a call")
+            expect(given == whole[: len(given)], f"list {number}: no beginning of the uncut text's fields")
+            position, held = position + outcome.read, outcome.held
+            finished = finished or (last and position == len(text))
+            if finished:
+                expect(given == whole, f"list {number}: not all fields at the end")
+
+
 # ---------------------------------------------------------------------------------------------------------------
 # The scripts against wrong converters
 # ---------------------------------------------------------------------------------------------------------------
@@ -514,11 +551,129 @@ def wrong_converters():
     )
 
 
-def check_wrong_converters(options):
-    """Each wrong converter is found out by at least one of the small fixed scripts."""
-    names = ("rows", "calls", "policies", "shapes", "lines", "refusals", "edges")
+class SeparatedByLowHalf(dict):
+    """A unit parts fields by its low half alone."""
+
+    def __contains__(self, unit):
+        return super().__contains__(unit & 0xFF)
+
+    def __getitem__(self, unit):
+        return super().__getitem__(unit & 0xFF)
+
+
+def wrong_field_converters():
+    """The same for fields."""
+    right = {name: getattr(converter, name) for name in dir(converter)}
+    call, refusal, next_units = right["field_call"], right["field_refusal"], right["next_units"]
+
+    def changed(change):
+        """A call whose outcome is changed where it is accepted."""
+
+        def wrong(held, hold, block, last):
+            outcome = call(held, hold, block, last)
+            return outcome if isinstance(outcome, int) else change(outcome, held, hold, block, last)
+
+        return wrong
+
+    def empty_field_at_end(outcome, held, hold, block, last):
+        if last and not block and held == 0:
+            return converter.FieldOutcome("end", 0, [], False, 0)
+        return outcome
+
+    def not_reset(outcome, held, hold, block, last):
+        return converter.replace(outcome, held=len(outcome.units)) if outcome.from_hold else outcome
+
+    def separator_unread(outcome, held, hold, block, last):
+        return converter.replace(outcome, read=outcome.read - 1) if outcome.end in ("bar", "line") else outcome
+
+    def shown_from_block_begin(outcome, held, hold, block, last):
+        return converter.replace(outcome, units=outcome.units[held:]) if outcome.from_hold else outcome
+
+    def copied_to_hold(outcome, held, hold, block, last):
+        if outcome.end is not None and held == 0:
+            hold[: len(outcome.units)] = outcome.units
+        return outcome
+
+    def refused_at(limit):
+        def wrong(held, hold, block):
+            number = refusal(held, hold, block)
+            return 21 if number is None and held + len(next_units(block)) >= limit else number
+
+        return wrong
+
+    def longer_in_longer_hold(held, hold, block):
+        number = refusal(held, hold, block)
+        return None if number == 21 and held + len(next_units(block)) <= len(hold) else number
+
+    def too_long_only_if_held(held, hold, block):
+        number = refusal(held, hold, block)
+        return None if number == 21 and held == 0 else number
+
+    def held_not_counted(held, hold, block):
+        number = refusal(held, hold, block)
+        return None if number == 21 and len(next_units(block)) <= 256 else number
+
+    def state_before_block(held, hold, block):
+        number = refusal(held, hold, block)
+        return 27 if number == 11 and held > 256 else number
+
+    def block_before_hold(held, hold, block):
+        number = refusal(held, hold, block)
+        return 11 if number == 20 and len(block) > 65536 else number
+
+    def field_before_state(held, hold, block):
+        number = refusal(held, hold, block)
+        return 21 if number == 27 and len(next_units(block)) > 0 else number
+
+    def state_at_limit(held, hold, block):
+        number = refusal(held, hold, block)
+        return 27 if number in (None, 21) and held == 256 else number
+
+    def wrapping_state(held, hold, block):
+        return refusal((held + len(next_units(block))) % 2**64 if held > 256 else held, hold, block)
+
+    def state_of_32_bits(held, hold, block):
+        return refusal(held % 2**32, hold, block)
+
+    def hold_of_255(held, hold, block):
+        return refusal(held, hold + [0] if len(hold) == 255 else hold, block)
+
+    def mark_ignored(held, hold, block, last):
+        return call(held, hold, block, False)
+
+    def always_last(held, hold, block, last):
+        return call(held, hold, block, True)
+
+    exchanged = {0x007C: "line", 0x000A: "bar"}
+    return (
+        ("bar and line feed exchanged", "SEPARATORS", exchanged),
+        ("a carriage return ends a field", "SEPARATORS", {**right["SEPARATORS"], 0x000D: "line"}),
+        ("a unit's low half ends a field", "SEPARATORS", SeparatedByLowHalf(right["SEPARATORS"])),
+        ("an empty field at the text's end", "field_call", changed(empty_field_at_end)),
+        ("the state is not reset after a held field", "field_call", changed(not_reset)),
+        ("the separator is not read", "field_call", changed(separator_unread)),
+        ("a held field is shown from where the block began", "field_call", changed(shown_from_block_begin)),
+        ("a field of the block goes through the hold", "field_call", changed(copied_to_hold)),
+        ("the mark is ignored", "field_call", mark_ignored),
+        ("every call is marked last", "field_call", always_last),
+        ("21 at 256", "field_refusal", refused_at(256)),
+        ("21 goes by the hold's length", "field_refusal", longer_in_longer_hold),
+        ("21 only for a field that was held", "field_refusal", too_long_only_if_held),
+        ("21 does not count what is held", "field_refusal", held_not_counted),
+        ("27 before 11", "field_refusal", state_before_block),
+        ("11 before 20", "field_refusal", block_before_hold),
+        ("21 before 27", "field_refusal", field_before_state),
+        ("27 at 256", "field_refusal", state_at_limit),
+        ("the state wraps", "field_refusal", wrapping_state),
+        ("the state has 32 bits", "field_refusal", state_of_32_bits),
+        ("a hold of 255 is long enough", "field_refusal", hold_of_255),
+    )
+
+
+def expect_found_out(wrong_ones, names):
+    """Each wrong converter is found out by at least one of the named scripts."""
     scripts = [(read(os.path.join(SCRIPTS, name + ".in")), read(os.path.join(SCRIPTS, name + ".out"))) for name in names]
-    for title, function, wrong in wrong_converters():
+    for title, function, wrong in wrong_ones:
         right = getattr(converter, function)
         setattr(converter, function, wrong)
         try:
@@ -526,6 +681,12 @@ def check_wrong_converters(options):
         finally:
             setattr(converter, function, right)
         expect(found, f"no fixed script finds out: {title}")
+
+
+def check_wrong_converters(options):
+    """Each wrong converter is found out by at least one of the small fixed scripts."""
+    expect_found_out(wrong_converters(), ("rows", "calls", "policies", "shapes", "lines", "refusals", "edges"))
+    expect_found_out(wrong_field_converters(), ("fields",))
 
 
 def check_wrong_pages(options):
@@ -574,6 +735,7 @@ CHECKS = (
     ("lists of calls against the uncut reading", check_lists),
     ("texts that come back", check_return),
     ("one line a run, one run a line", check_lines),
+    ("lists of calls against the fields of the uncut text", check_fields),
     ("wrong converters are found out", check_wrong_converters),
     ("wrong page tables are found out", check_wrong_pages),
 )

@@ -16,6 +16,7 @@ pub fn answer(
     units: &mut [u16],
     lent_bytes: &mut [u8],
     lent_units: &mut [u16],
+    field_buffer: &mut [u16],
     out: &mut [u8],
 ) -> Next {
     let command = command::command_of(line);
@@ -32,6 +33,7 @@ pub fn answer(
     );
     let next = setting::run_text(command, line, next, bytes, units, out);
     let next = setting::run_run(command, line, next, lent_bytes, out);
+    let next = cutting::run_fields(command, line, next, units, field_buffer, out);
     calling::run_call(
         command,
         line,

@@ -21,6 +21,7 @@ fn main() {
     let mut units = [0u16; 66000];
     let mut lent_bytes = [0u8; 140000];
     let mut lent_units = [0u16; 66000];
+    let mut field_buffer = [0u16; 300];
     let mut block = [0u8; 65536];
     let mut line = [0u8; 400001];
     let mut out = [0u8; 600000];
@@ -47,6 +48,7 @@ fn main() {
             &mut units,
             &mut lent_bytes,
             &mut lent_units,
+            &mut field_buffer,
             &mut out,
         );
         next.at = output::flush(&out, next.at, output::limit(cursor));

@@ -19,10 +19,27 @@ pub enum Command {
     Load,
     Count,
     Convert,
+    Hold,
+    Held,
+    Field,
     // A line that is passed over.
     Nothing,
     // A line that is no command.
     Unknown,
+}
+
+// The command that a word names, among those that cut the unit text into fields.
+fn named_field(word: &[u8]) -> Command {
+    if words::is_word(word, b"hold") {
+        return Command::Hold;
+    }
+    if words::is_word(word, b"held") {
+        return Command::Held;
+    }
+    if words::is_word(word, b"field") {
+        return Command::Field;
+    }
+    Command::Unknown
 }
 
 // The command that a word names, among those that call the library.
@@ -45,7 +62,7 @@ fn named_call(word: &[u8]) -> Command {
     if words::is_word(word, b"convert") {
         return Command::Convert;
     }
-    Command::Unknown
+    named_field(word)
 }
 
 // The command that a word names.

@@ -6,13 +6,16 @@ use convert::Policy;
 use convert::Run;
 use image::Sizes;
 
-// The table set's numbers and sizes, the lengths of the two texts, and the run in hand.
+// The table set's numbers and sizes, the lengths of the two texts, the run in hand, the length of the field buffer, and how many
+// units the state of the fields claims to be held in it.
 pub struct State {
     pub numbers: Numbers,
     pub sizes: Sizes,
     pub bytes: usize,
     pub units: usize,
     pub run: Run,
+    pub buffer: usize,
+    pub held: usize,
 }
 
 // The state after a command, and the place behind its answer.
@@ -21,7 +24,7 @@ pub struct Next {
     pub at: usize,
 }
 
-// No table, empty texts, and a run that breaks the run rules.
+// No table, empty texts, a run that breaks the run rules, and an empty field buffer with nothing held.
 pub fn initial() -> State {
     let numbers = Numbers {
         page: 0,
@@ -56,6 +59,8 @@ pub fn initial() -> State {
         bytes: 0,
         units: 0,
         run,
+        buffer: 0,
+        held: 0,
     }
 }
 
@@ -73,6 +78,8 @@ impl State {
             bytes: self.bytes,
             units: self.units,
             run,
+            buffer: self.buffer,
+            held: self.held,
         }
     }
 
@@ -97,6 +104,20 @@ impl State {
             bytes: self.bytes,
             units: self.units,
             run,
+            buffer: self.buffer,
+            held: self.held,
         }
+    }
+
+    pub fn with_buffer(self, buffer: usize) -> State {
+        let mut state = self;
+        state.buffer = buffer;
+        state
+    }
+
+    pub fn with_held(self, held: usize) -> State {
+        let mut state = self;
+        state.held = held;
+        state
     }
 }
