@@ -9,7 +9,7 @@ Texts are written in letters, with ; for the line feed and an empty one for none
 
 import itertools
 
-from fixed_scripts import Script, fresh, line_hex
+from fixed_scripts import Script, line_hex
 
 FILL = "\uEEEE"
 
@@ -33,8 +33,8 @@ class FieldScript(Script):
         self.expect(f"held {count}", f"held {count}")
 
     def field(self, asked, answer, held, front=""):
-        """One call: `FROM COUNT more`, and its answer up to READ, `hold` or `block`; front is the buffer's after it, in letters.
-        The units of a field follow the answer, in letters: `bar 2 block:a`."""
+        """One call, as `FROM COUNT more`, and its answer, as `bar 2 block:a`, `held 2` or `21`: the field's units in letters behind a
+        colon. Then the state and the buffer after it."""
         answer, colon, units = answer.partition(":")
         if colon:
             answer += f" {units_hex(units)}"
@@ -215,8 +215,8 @@ def long_blocks(script):
     script.field("66000 0 last", "held 0", 0, "a")
 
 
-# Size of the buffer, held, units of the call (of a text of 65,537 that has a bar at every other place, or none), and the number.
-# The order is 20, 11, 27, 21.
+# Size of the buffer, held, the pattern of the text, the call's number of units, and the refusal: the first of 20, 11, 27, 21 that
+# holds.
 REFUSALS = (
     # 20 alone, and before each set of the others
     (255, 0, "0061007C", 2, 20),
@@ -366,7 +366,7 @@ def journal(script):
     script.text("|B")
     script.field("0 2 last", "bar 1 block:", 0, "A\u4E00")
     script.field("1 1 last", "end 1 block:B", 0, "A\u4E00")
-    script.note("a field that could be shown from the text once more: nothing of the call before is remembered but state and buffer")
+    script.note("nothing of the calls before is remembered but state and buffer: the text's fields are given once more")
     script.field("0 2 last", "bar 1 block:", 0, "A\u4E00")
 
 
@@ -487,6 +487,6 @@ def all_texts(letters, most):
             yield text, tuple(fields)
 
 
-def all_cuttings_script(most=5):
+def all_cuttings_script(most=4):
     """Every cutting of every short text. It is long, so it is not stored."""
     return cuttings_script(all_texts("a|;", most))

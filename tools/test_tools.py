@@ -342,7 +342,7 @@ def whole_fields(text):
 
 def check_fields(options):
     """Every cutting of every short text; random lists of calls, refused ones too, against the fields of the uncut text."""
-    script = field_scripts.all_cuttings_script(4)
+    script = field_scripts.all_cuttings_script()
     complaints = script.complaints(converter.play(script.commands_file(), FOLDERS))
     expect(not complaints, "; ".join(complaints[:5]))
     chance = random.Random(13)
