@@ -71,16 +71,10 @@ impl State {
     }
 
     pub fn with_table(self, numbers: Numbers, sizes: Sizes) -> State {
-        let run = self.run;
-        State {
-            numbers,
-            sizes,
-            bytes: self.bytes,
-            units: self.units,
-            run,
-            buffer: self.buffer,
-            held: self.held,
-        }
+        let mut state = self;
+        state.numbers = numbers;
+        state.sizes = sizes;
+        state
     }
 
     pub fn with_bytes(self, bytes: usize) -> State {
@@ -96,17 +90,9 @@ impl State {
     }
 
     pub fn with_run(self, run: Run) -> State {
-        let numbers = self.numbers;
-        let sizes = self.sizes;
-        State {
-            numbers,
-            sizes,
-            bytes: self.bytes,
-            units: self.units,
-            run,
-            buffer: self.buffer,
-            held: self.held,
-        }
+        let mut state = self;
+        state.run = run;
+        state
     }
 
     pub fn with_buffer(self, buffer: usize) -> State {
