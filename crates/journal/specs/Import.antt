@@ -6,7 +6,7 @@ use mathlib.Core.Path.{_≡_}
 use Prim.Native.Nat.{ℕ}
 use Rattle.traces.specs.Model.{Setting, Call, feeding, saving, loading, opened, play, wholeOf}
 use Rattle.traces.specs.Traces.{Entry as RunEntry, callsOf}
-use Rattle.traces.specs.Examples.{room}
+use Rattle.convert.specs.Sample.{room}
 use Rattle.fields.specs.Fields.{Field, fieldsOf}
 use Rattle.fields.specs.Cuttings.{Entry, Progress, opened as begun, play as cut, NoneLast}
 
