@@ -6,6 +6,7 @@ use mathlib.Core.Path.{_≡_}
 use Prim.Native.Nat.{ℕ, _+_, _≤_, _<_}
 use lib.Dec.{leb, ltb, eqb}
 use lib.ListN.{length, take, drop}
+use denote.Ref.{RefT, ptr, now}
 use Rattle.codepage.specs.CodePage.{pick}
 use Rattle.codepage.specs.Lent.{over}
 use Rattle.convert.specs.Runs.{pieceLimit}
@@ -191,3 +192,12 @@ front count units = pick (leb count (length units)) (take count units) []
 -- The part of the buffer or of the block that a found field is.
 unfoldable pub partOf : Found → (buffer block : List ℕ) → List ℕ
 partOf found buffer block = front (found .count) (placeOf (found .place) buffer block)
+
+abbrev pub lentAt : Place → (buffer block : RefT (List ℕ)) → RefT (List ℕ)
+lentAt Buffer buffer block = buffer
+lentAt Block buffer block = block
+
+-- The promise of `field`: the part handed back begins where the lent slice begins that has the field, and has its units.
+pub record ShownAs (found : Found) (buffer block part : RefT (List ℕ)) : Type 0 where
+  pub begins : ptr part ≡ ptr (lentAt (found .place) buffer block)
+  pub units : now part ≡ partOf found (now buffer) (now block)

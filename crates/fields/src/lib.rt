@@ -5,7 +5,8 @@ ghost use mathlib.Core.Bool.{_&&_};
 ghost use Prim.Native.Nat.{_+_, _≤_};
 ghost use lib.Dec.{ltb};
 ghost use lib.ListN.{length, take};
-ghost use Rattle.fields.specs.Fields.{unitsIn, numberOf, fresh, overFrom, readWith, foundCall, heldCall, fieldCall, Answered, front, partOf};
+ghost use denote.Ref.{ptr};
+ghost use Rattle.fields.specs.Fields.{unitsIn, numberOf, fresh, overFrom, readWith, foundCall, heldCall, fieldCall, Answered, front, ShownAs};
 ghost use Rattle.fields.specs.Steps.{isSeparator, endOf};
 ghost use Rattle.convert.specs.Runs.{pieceLimit};
 use convert::Run;
@@ -247,7 +248,7 @@ pub fn next_field(state: Held, buffer: &mut [u16], block: &[u16], last: bool) ->
 
 // The first units of a slice, or none if it is too short.
 fn first<'a>(units: &'a [u16], count: usize) -> &'a [u16]
-    ensures { λ r. ⌜ now r ≡ front count (now (units .entry)) ⌝ }
+    ensures { λ r. ⌜ (ptr r ≡ ptr (units .entry)) × (now r ≡ front count (now (units .entry))) ⌝ }
 {
     if count <= units.len() {
         return &units[..count];
@@ -258,7 +259,7 @@ fn first<'a>(units: &'a [u16], count: usize) -> &'a [u16]
 // The units of a field that a call found: a part of the buffer or of the block, as they are after the call. None, if `found`
 // does not lie in them.
 pub fn field<'a>(buffer: &'a [u16], block: &'a [u16], found: Found) -> &'a [u16]
-    ensures { λ r. ⌜ now r ≡ partOf found (now (buffer .entry)) (now (block .entry)) ⌝ }
+    ensures { λ r. ⌜ ShownAs found (buffer .entry) (block .entry) r ⌝ }
 {
     let count = found.count;
     let place = found.place;

@@ -17,11 +17,11 @@ first-requires-2 c κs = search needs
 
 returns : tie.Need-returns
 unfolding partOf
-returns c = rw (c .before .enum-told .given .1) (c .first .ensures)
+returns c = rw (c .before .enum-told .given .1) (record { begins = c .first .ensures .0; units = c .first .ensures .1 })
 
 returns-2 : tie.Need-returns-2
 unfolding partOf
-returns-2 c = rw (c .before .enum-told2 .given .1) (c .first2 .ensures)
+returns-2 c = rw (c .before .enum-told2 .given .1) (record { begins = c .first2 .ensures .0; units = c .first2 .ensures .1 })
 
 pub field-spec : {M : Type 1} → statement M
 field-spec =
