@@ -1,0 +1,3 @@
+pub mod CsvLaws
+pub mod ReadingLaws
+pub mod RecordLaws

@@ -1,0 +1,4 @@
+pub mod Csv
+pub mod Reading
+pub mod Records
+pub mod Steps

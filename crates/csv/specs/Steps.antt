@@ -1,0 +1,32 @@
+-- What the inner functions promise.
+use mathlib.Core.Bool.{Bool, true, false}
+use mathlib.Core.List.{List, [], _∷_, _++_}
+use mathlib.Core.Path.{_≡_}
+use Prim.Native.Nat.{ℕ, _+_}
+use lib.ListN.{length, take, drop}
+use Rattle.codepage.specs.CodePage.{pick}
+use Rattle.csv.specs.Csv.{escapedField}
+use Rattle.csv.specs.Records.{breakIf}
+
+-- units laid over a slice from a place on; every other unit is as before
+unfoldable pub laidAt : (before : List ℕ) → (place : ℕ) → (units : List ℕ) → List ℕ
+laidAt before place units = (take place before ++ units) ++ drop (place + length units) before
+
+pub record Laid (before after : List ℕ) (place : ℕ) (units : List ℕ) (r : ℕ) : Type 0 where
+  pub lent : after ≡ laidAt before place units
+  pub next : r ≡ place + length units
+
+abbrev pub oneIf : Bool → ℕ
+oneIf true = 1
+oneIf false = 0
+
+-- a unit, if it is wanted
+unfoldable pub when : Bool → (unit : ℕ) → List ℕ
+when wanted unit = pick wanted (unit ∷ []) []
+
+-- The text of a call, in the order in which it is laid.
+unfoldable pub inQuotes : (quotes : Bool) → (field : List ℕ) → List ℕ
+inQuotes quotes field = when quotes 0x22 ++ (escapedField field ++ when quotes 0x22)
+
+unfoldable pub inOrder : (begun quotes closed : Bool) → (field : List ℕ) → List ℕ
+inOrder begun quotes closed field = when begun 0x2C ++ (inQuotes quotes field ++ breakIf closed)
