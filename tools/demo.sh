@@ -66,4 +66,14 @@ cmp receipt "$journal" || fail "the receipt is not the journal"
 echo "   The receipt is, byte for byte, the journal."
 
 echo
+echo "== 4. An import: bars part fields. The second byte of this word's second character is that of a bar:"
+printf '0001|\203\214\203|\201[\203g|300\n0002|tea, green|120\n' > night
+od -An -tx1 -N18 night
+expect done import "$table" night records.csv
+printf '\377\376' > wanted
+printf '0001,レポート,300\r\n0002,"tea, green",120\r\n' | iconv -f UTF-8 -t UTF-16LE >> wanted
+cmp records.csv wanted || fail "the records are others"
+iconv -f UTF-16 -t UTF-8 records.csv | sed 's/^/   /'
+
+echo
 echo "demo: success: cut in the middle of a character, saved, resumed: nothing lost, nothing doubled"

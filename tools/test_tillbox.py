@@ -8,13 +8,18 @@ Prints 'N passed, M failed'; the exit status is 0 exactly if none failed.
 """
 
 import argparse
+import csv
+import io
 import os
+import random
 import resource
 import shutil
 import struct
 import subprocess
 import sys
 import tempfile
+
+import second_converter
 
 ROOT = os.path.dirname(os.path.dirname(os.path.abspath(__file__)))
 TABLES = os.path.join(ROOT, "tables")
@@ -77,7 +82,7 @@ def test_help_goes_to_standard_output():
     got = subprocess.run([PROGRAM, "help"], capture_output=True)
     equal(got.stderr, b"", "standard error")
     text = got.stdout.decode()
-    for part in ("tillbox decode [last] [policy DDD] TABLE JOURNAL LEDGER [CHECKPOINT]\n", "tillbox shape TABLE\n", "done (all is read)"):
+    for part in ("tillbox decode [last] [policy DDD] TABLE JOURNAL LEDGER [CHECKPOINT]\n", "tillbox import [policy DDD] TABLE JOURNAL RECORDS\n", "tillbox shape TABLE\n", "done (all is read)"):
         if part not in text:
             raise AssertionError(f"help without {part!r}")
 
@@ -92,6 +97,10 @@ def test_misuse_says_how_to_call():
         (["decode", "policy", "5555", "a", "b", "c"], "a policy is three digits"),
         (["encode", "last", "policy", "5x5", "a", "b", "c"], "a policy is three digits"),
         (["shape"], "one name of a file is asked for"),
+        (["import", "a.tbl", "journal"], "three names of files are asked for"),
+        (["import", "a.tbl", "journal", "records", "checkpoint"], "three names of files are asked for"),
+        (["import", "policy", "55", "a.tbl", "journal", "records"], "a policy is three digits"),
+        (["import", "last", "a.tbl", "journal", "records"], "import has no word last: the journal is complete"),
     ]:
         said = tillbox(*words, word="failed")
         equal(said.split("\n")[0], f"tillbox: error: {text}", f"first line of {words}")
@@ -390,6 +399,251 @@ def test_every_cut_of_a_text():
         write("journal", text)
         tillbox("decode", "last", "sample.tbl", "journal", "ledger", "checkpoint", says=summary(7, 5, flags="invalid"))
         equal(read("ledger"), wanted, f"the ledger of the cut at {place}")
+
+# ---------------------------------------------------------------------------------------------------------------
+# Import
+# ---------------------------------------------------------------------------------------------------------------
+
+
+def imported(read_total, records, fields, flags="none"):
+    return [f"read {read_total} bytes, written {records} records with {fields} fields", f"flags: {flags}"]
+
+
+def records_text():
+    """The records file's text; the mark is its first unit and stands once."""
+    content = read("records")
+    equal(content[:2], b"\xff\xfe", "the mark")
+    return content[2:].decode("utf-16le")
+
+
+def test_import_of_a_journal():
+    write("journal", b"no|item|price\n0001|tea, green|300\n0002|\x22best\x22 rice|1200\n")
+    tillbox("import", "cp932.tbl", "journal", "records", says=imported(56, 3, 9))
+    equal(records_text(), 'no,item,price\r\n0001,"tea, green",300\r\n0002,"""best"" rice",1200\r\n', "the records")
+
+
+def test_import_keeps_carriage_returns():
+    write("journal", b"a|b\r\n\r\nc\rd|e\r")
+    tillbox("import", "sample.tbl", "journal", "records", says=imported(13, 3, 5))
+    equal(records_text(), 'a,"b\r"\r\n"\r"\r\n"c\rd","e\r"\r\n', "the records")
+
+
+def test_import_of_ends():
+    # every journal, its records, and how many records and fields these are
+    for journal, text, records, fields in [
+        (b"", "", 0, 0),
+        (b"a", "a\r\n", 1, 1),
+        (b"a\n", "a\r\n", 1, 1),
+        (b"a|", "a\r\n", 1, 1),
+        (b"a|\n", "a,\r\n", 1, 2),
+        (b"|", "\r\n", 1, 1),
+        (b"||", ",\r\n", 1, 2),
+        (b"|a", ",a\r\n", 1, 2),
+        (b"\n", "\r\n", 1, 1),
+        (b"\n\n", "\r\n\r\n", 2, 2),
+        (b"a\n|", "a\r\n\r\n", 2, 2),
+        (b"a|b\n\nc", "a,b\r\n\r\nc\r\n", 3, 4),
+        (b'"', '""""\r\n', 1, 1),
+        (b",", '","\r\n', 1, 1),
+    ]:
+        write("journal", journal)
+        tillbox("import", "sample.tbl", "journal", "records", says=imported(len(journal), records, fields))
+        equal(records_text(), text, f"the records of {journal!r}")
+
+
+def test_import_of_a_character_with_a_bar_in_it():
+    # page 7: 82 7C is 4E00. Byte 511, the last of the first block, is 82; the next block begins with 7C 7C
+    journal = (b"x" * 63 + b"\n") * 7 + b"y" * 63 + b"\x82\x7c\x7cz\n"
+    equal(journal[511:514], b"\x82\x7c\x7c", "the place of the cut")
+    write("journal", journal)
+    tillbox("import", "sample.tbl", "journal", "records", says=imported(516, 8, 9))
+    equal(records_text(), ("x" * 63 + "\r\n") * 7 + "y" * 63 + "\u4e00,z\r\n", "the records")
+    # page 932: 83 7C is the second character of this word
+    write("journal", "0001|レポート|300\n".encode("cp932"))
+    tillbox("import", "cp932.tbl", "journal", "records", says=imported(18, 1, 3))
+    equal(records_text(), "0001,レポート,300\r\n", "the records")
+
+
+def test_import_makes_the_records_anew():
+    write("journal", b"a\n")
+    write("records", b"older and longer records")
+    tillbox("import", "sample.tbl", "journal", "records")
+    equal(records_text(), "a\r\n", "the records")
+
+
+def too_long(record, field, place):
+    return [
+        "error 21: a field has over 256 units (journal)",
+        f"  record {record}, field {field}: its 257th unit is read from the byte at {place} of the journal, counted from 0",
+        "  A bar or a line feed is missing before it, or the table is not this journal's. Mend the journal or",
+        "  name its table, and import it again.",
+    ]
+
+
+def test_import_of_256_units():
+    # within a block, over a block's end, as the last field, and all of them quotes
+    for front in (b"a|", b"x\n" * 200, b"x\n" * 255):
+        for unit, text in ((b"b", "b"), (b"\x82\x7c", "\u4e00"), (b'"', '""')):
+            for end in (b"|c\n", b""):
+                write("journal", front + unit * 256 + end)
+                tillbox("import", "sample.tbl", "journal", "records")
+                field = text * 256 if text != '""' else '"' + text * 256 + '"'
+                before = front.decode().replace("|", ",").replace("\n", "\r\n")
+                equal(records_text(), before + field + (",c" if end else "") + "\r\n", f"the records of {front!r}, {unit!r}, {end!r}")
+
+
+def test_import_of_257_units():
+    # where it begins, and the unit that is too many: in the first block, in the second, in a pair that is cut by a block's end
+    for front, record, field, unit, place, whole in [
+        (b"a\nb|", 2, 2, b"c", 4 + 256, b"a\n"),
+        (b"", 1, 1, b"c", 256, b""),
+        (b"x\n" * 200, 201, 1, b"\x82\x7c", 400 + 512, b"x\n" * 200),
+        ((b"y" * 50 + b"\n") * 10 + b"\n", 12, 1, b"\x82\x7c", 511 + 512, (b"y" * 50 + b"\n") * 10 + b"\n"),
+        (b"x|z\n" * 1000 + b"1|2|3|", 1001, 4, b"c", 4006 + 256, b"x|z\n" * 1000),
+    ]:
+        fields = whole.count(b"|") + whole.count(b"\n")
+        for end in (b"|d\n", b"\n", b""):
+            journal = front + unit * 257 + end
+            # the block is read that has the last byte of the unit
+            read_total = min(len(journal), (place + len(unit) - 1) // 512 * 512 + 512)
+            write("journal", journal)
+            says = too_long(record, field, place) + imported(read_total, record - 1, fields)
+            tillbox("import", "sample.tbl", "journal", "records", word="failed", says=says)
+            equal(records_text(), whole.decode().replace("|", ",").replace("\n", "\r\n"), "the records before it")
+
+
+def test_import_under_skipped_codes():
+    # page 7: 80 is an undefined single. Skipped, it is no unit of the field: 256 are left, or the 257th is at the end
+    write("journal", b"a|" + b"\x80b" * 256 + b"\x80\n")
+    tillbox("import", "policy", "155", "sample.tbl", "journal", "records", says=imported(516, 1, 2, flags="undefined single"))
+    equal(records_text(), "a," + "b" * 256 + "\r\n", "the records")
+    write("journal", b"a|" + b"\x80b" * 257 + b"\n")
+    tillbox("import", "policy", "155", "sample.tbl", "journal", "records", word="failed", says=too_long(1, 2, 2 + 513) + imported(517, 0, 0, flags="undefined single"))
+    equal(records_text(), "", "the records")
+
+
+def test_import_of_a_damaged_night():
+    # page 7: 80 is an undefined single, 81 5A an undefined pair, 83 invalid; a lead at the end is invalid too
+    write("journal", b"a|\x80\n\x81\x5a|b\x83\nc\x82")
+    names = "undefined single, undefined pair, invalid"
+    tillbox("import", "sample.tbl", "journal", "records", says=imported(12, 3, 5, flags=names))
+    equal(records_text(), "a,\u30fb\r\n\u30fb,b\u30fb\r\nc\u30fb\r\n", "the records")
+    # under 550 the run stops behind 83, in the second field of record 2
+    stop = ["stopped by policy in record 2, field 2; the next unread byte is at 9"]
+    tillbox("import", "policy", "550", "sample.tbl", "journal", "records", word="stopped", says=imported(9, 1, 2, flags=names + ", stopped") + stop)
+    equal(records_text(), "a,\u30fb\r\n", "the records")
+    # and at the end of the text, behind a lead that stands alone
+    write("journal", b"a|b\nc\x82")
+    stop = ["stopped by policy in record 2, field 1; the next unread byte is at 6"]
+    tillbox("import", "policy", "550", "sample.tbl", "journal", "records", word="stopped", says=imported(6, 1, 2, flags="invalid, stopped") + stop)
+    equal(records_text(), "a,b\r\n", "the records")
+    # a stop where a record ends: it is whole
+    write("journal", b"a|b\n\x83c\n")
+    stop = ["stopped by policy in record 2, field 1; the next unread byte is at 5"]
+    tillbox("import", "policy", "550", "sample.tbl", "journal", "records", word="stopped", says=imported(5, 1, 2, flags="invalid, stopped") + stop)
+    equal(records_text(), "a,b\r\n", "the records")
+
+
+def test_import_stops_late():
+    # what was written of the record that is broken off is cut away again: it has more fields than the output block holds
+    write("journal", b"kept|whole\n" + b"field|" * 5000 + b"\x83\n")
+    stop = ["stopped by policy in record 2, field 5001; the next unread byte is at 30012"]
+    tillbox("import", "policy", "550", "sample.tbl", "journal", "records", word="stopped", says=imported(30012, 1, 2, flags="invalid, stopped") + stop)
+    equal(records_text(), "kept,whole\r\n", "the records")
+
+
+def test_import_refused():
+    write("records", b"kept")
+    missing = "No such file or directory"
+    twice = "two of the files have this name"
+    os.mkdir("folder")
+    write("bad.tbl", b"no table")
+    image = bytearray(read("cp932.tbl"))
+    image[28 + 0xFF] = 3
+    write("class.tbl", image)
+    for words, says in [
+        (["none.tbl", "journal", "records"], [f"error: cannot open none.tbl: {missing}"]),
+        (["cp932.tbl", "none", "records"], [f"error: cannot open none: {missing}"]),
+        (["cp932.tbl", "journal", "none/records"], [f"error: cannot make none/records: {missing}"]),
+        (["cp932.tbl", "folder", "records"], ["error: cannot read folder: Is a directory"]),
+        (["bad.tbl", "journal", "records"], ["error: bad.tbl: it is not a table image"]),
+        (["cp932.tbl", "journal", "journal"], [f"error: journal: {twice}"]),
+        (["cp932.tbl", "journal", "cp932.tbl"], [f"error: cp932.tbl: {twice}"]),
+        (["cp932.tbl", "", "records"], ["error: the name of a file is empty or too long"]),
+        (["policy", "565", "cp932.tbl", "journal", "records"], ["error 17: the page is 0, or a policy digit is not allowed (policy)"]),
+        (
+            ["class.tbl", "journal", "records"],
+            ["error 10: the shape of the tables is not good (class.tbl)", "  the first bad place: the class at FF is none of 0, 1, 2, 4, 5, 6"],
+        ),
+    ]:
+        refused("import", *words, says=says)
+    with open("huge", "wb") as file:
+        file.truncate(4294967296)
+    refused("import", "cp932.tbl", "huge", "records", says=["error 16: the input has over 4,294,967,295 units (huge)"])
+
+
+def test_import_that_can_not_write():
+    write("journal", b"field|" * 5000)
+    tillbox("import", "cp932.tbl", "journal", "records", word="failed", says=["error: cannot write records: File too large"], limit=20000)
+
+
+def model_of(text):
+    """The records of a decoded text, by Python's own means: a list of lists of fields."""
+    records = [record.split("|") for record in text.split("\n")]
+    # the end of the text ends a field that has units, and closes a record that has a field
+    if records[-1][-1] == "":
+        records[-1].pop()
+    if not records[-1]:
+        records.pop()
+    return records
+
+
+def csv_of(records):
+    """The records as Python's csv module writes them; it would quote an empty record."""
+    file = io.StringIO(newline="")
+    writer = csv.writer(file, lineterminator="\r\n")
+    for record in records:
+        if record == [""]:
+            file.write("\r\n")
+        else:
+            writer.writerow(record)
+    return file.getvalue()
+
+
+def compare_import(table, text, *policy, flags="none", read_total):
+    records = model_of(text)
+    tillbox("import", *policy, table, "journal", "records", says=imported(read_total, len(records), sum(map(len, records)), flags))
+    # units, not characters: a text of random units may have surrogates that stand alone
+    content = read("records")[2:].decode("utf-16le", "surrogatepass")
+    equal(content, csv_of(records), "the records file")
+    back = [record or [""] for record in csv.reader(io.StringIO(content, newline=""), strict=True)]
+    equal(back, records, "the records that Python reads")
+
+
+def test_import_of_a_long_journal():
+    # some 300 blocks, decoded by Python's codec
+    rng = random.Random(7)
+    words = ["レポート", "ソーセージ", "tea, green", 'the "best"', "", "x" * 250, "\r", "価格,十円", "ﾎﾟｲﾝﾄ", "100"]
+    text = "".join(rng.choice(words) + rng.choice(["|", "|", "|", "\n", "\r\n"]) for _ in range(8000)) + "no line feed"
+    journal = text.encode("cp932")
+    write("journal", journal)
+    compare_import("cp932.tbl", text, read_total=len(journal))
+
+
+def test_import_of_random_bytes():
+    # decoded by the second converter, at most 65,536 bytes at once; separators are frequent, so that no field is too long
+    rng = random.Random(8)
+    for name in ("cp932.tbl", "cp1252.tbl", "sample.tbl"):
+        table = second_converter.read_image_file(name, ["."])
+        for size in (1, 511, 512, 513, 1024, 60000):
+            journal = bytes(rng.choice(b'|\n",\r\x82\x7c\x81') if rng.random() < 0.3 else rng.randrange(256) for _ in range(size))
+            out = [0] * (2 * size)
+            answer = second_converter.convert_call(second_converter.DECODING, (5, 5, 5), table, list(journal), out)
+            text = struct.pack(f"<{answer.written}H", *out[: answer.written]).decode("utf-16le", "surrogatepass")
+            names = ["undefined single", "undefined pair", "invalid"]
+            flags = ", ".join(names[i] for i in range(3) if answer.flags >> i & 1) or "none"
+            write("journal", journal)
+            compare_import(name, text, flags=flags, read_total=size)
 
 
 def main():

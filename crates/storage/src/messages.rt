@@ -76,6 +76,7 @@ fn say_meaning(number: u8) {
         17 => say(b"the page is 0, or a policy digit is not allowed"),
         18 => say(b"not a saved line"),
         19 => say(b"the line does not fit the room"),
+        21 => say(b"a field has over 256 units"),
         _ => say_call_meaning(number),
     }
 }

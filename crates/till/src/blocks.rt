@@ -18,7 +18,7 @@ pub struct Turn {
 }
 
 // Whether a call with room enough was taken.
-fn is_taken(number: u8) -> bool {
+pub fn is_taken(number: u8) -> bool {
     if number == 2 {
         return false;
     }

@@ -40,7 +40,7 @@ pub enum Ending {
 }
 
 // Whether two files have the same name, and says so.
-fn named_twice(a: &[u8], b: &[u8]) -> bool {
+pub fn named_twice(a: &[u8], b: &[u8]) -> bool {
     if check::same(a, b) {
         messages::wrong(a, b"two of the files have this name");
         return true;

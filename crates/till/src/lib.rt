@@ -1,7 +1,7 @@
 // The conversion of whole files, with checkpoints: what the program `tillbox` runs. Everything that is decided about a text is
 // decided by the calls of `convert` and `checkpoint`; here files are read and written.
-mod blocks;
+pub mod blocks;
 pub mod job;
-mod report;
+pub mod report;
 mod resume;
-mod tables;
+pub mod tables;

@@ -61,7 +61,8 @@ fn say_flag(flags: u8, bit: u8, name: &[u8])
     say(name);
 }
 
-fn say_flags(flags: u8) {
+// The flags by name.
+pub fn say_flags(flags: u8) {
     say(b"tillbox: flags: ");
     if flags == 0 {
         say(b"none");

@@ -1,6 +1,7 @@
 // The names of the files, one buffer a function.
 ghost use Rattle.io.specs.Counts.{Counts};
 use crate::options::later;
+use convert::Policy;
 use libc::STDERR_FILENO;
 use till::job;
 use till::job::Ending;
@@ -58,6 +59,34 @@ pub fn with_table(job: Job, first: usize) -> Ending {
         return Ending::Failed;
     }
     with_input(job, first, &name[..count])
+}
+
+fn import_output(policy: Policy, first: usize, table: &[u8], input: &[u8]) -> Ending {
+    let mut name = io::buffer();
+    let count = name_at(later(first, 2), &mut name);
+    if count == 0 {
+        return Ending::Failed;
+    }
+    till_import::job::import_files(policy, table, input, &name[..count])
+}
+
+fn import_input(policy: Policy, first: usize, table: &[u8]) -> Ending {
+    let mut name = io::buffer();
+    let count = name_at(later(first, 1), &mut name);
+    if count == 0 {
+        return Ending::Failed;
+    }
+    import_output(policy, first, table, &name[..count])
+}
+
+// Imports the journal that the arguments from `first` on name.
+pub fn import_table(policy: Policy, first: usize) -> Ending {
+    let mut name = io::buffer();
+    let count = name_at(first, &mut name);
+    if count == 0 {
+        return Ending::Failed;
+    }
+    import_input(policy, first, &name[..count])
 }
 
 // The shape of the table set that an argument names.

@@ -1,5 +1,5 @@
-// tillbox: converts whole files between a till's code page bytes and UTF-16LE, with checkpoints. What is said goes to standard
-// error; standard output has one last word: done, stopped or failed.
+// tillbox: converts whole files between a till's code page bytes and UTF-16LE, with checkpoints, and imports a journal's records.
+// What is said goes to standard error; standard output has one last word: done, stopped or failed.
 mod files;
 mod options;
 mod usage;
@@ -53,6 +53,22 @@ fn convert_files(direction: Direction) -> Ending {
     files::with_table(job, first)
 }
 
+fn import_files() -> Ending {
+    let chosen = options::chosen();
+    if !chosen.valid {
+        return misused(b"a policy is three digits");
+    }
+    if chosen.last {
+        return misused(b"import has no word last: the journal is complete");
+    }
+    let first = chosen.next;
+    if options::names_from(first) != 3 {
+        return misused(b"three names of files are asked for");
+    }
+    let policy = chosen.policy;
+    files::import_table(policy, first)
+}
+
 fn print_shape() -> Ending {
     if os::arg_count() != 3 {
         return misused(b"one name of a file is asked for");
@@ -70,6 +86,9 @@ fn command() -> Ending {
     }
     if options::is_word(1, b"encode") {
         return convert_files(Direction::Encoding);
+    }
+    if options::is_word(1, b"import") {
+        return import_files();
     }
     if options::is_word(1, b"shape") {
         return print_shape();

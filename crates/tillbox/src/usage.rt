@@ -2,10 +2,11 @@
 pub fn put(fd: i32) {
     io::write_all(
         fd,
-        b"tillbox converts a till's journal to UTF-16LE and back.\n\n",
+        b"tillbox converts a till's journal to UTF-16LE and back, and imports its records.\n\n",
     );
     put_commands(fd);
     put_words(fd);
+    put_import(fd);
     put_checkpoints(fd);
     put_ending(fd);
 }
@@ -19,6 +20,7 @@ fn put_commands(fd: i32) {
         fd,
         b"  tillbox encode [last] [policy DDD] TABLE LEDGER RECEIPT [CHECKPOINT]\n",
     );
+    io::write_all(fd, b"  tillbox import [policy DDD] TABLE JOURNAL RECORDS\n");
     io::write_all(fd, b"  tillbox shape TABLE\n");
     io::write_all(fd, b"  tillbox help\n\n");
 }
@@ -39,6 +41,21 @@ fn put_words(fd: i32) {
     io::write_all(
         fd,
         b"  0 stop, 1 skip, 2 NUL, 3 '?', 4 '_', 5 the default of the table, 6 F100 and the byte (first digit, decode).\n\n",
+    );
+}
+
+fn put_import(fd: i32) {
+    io::write_all(
+        fd,
+        b"import reads the whole JOURNAL, cuts it at bars and line feeds, and makes RECORDS anew: a CSV file for a\n",
+    );
+    io::write_all(
+        fd,
+        b"spreadsheet (UTF-16LE with its mark; a line feed closes a record). A field has at most 256 units. Where a\n",
+    );
+    io::write_all(
+        fd,
+        b"longer one, or a digit 0, ends the import, the records before it are whole in RECORDS.\n\n",
     );
 }
 

@@ -5,19 +5,39 @@ use Rattle.csv.proofs.lay_part.Statement.{statement}
 use Rattle.csv.proofs.lay_part.Tie as tie
 
 lay-if-requires : tie.Need-lay-if-requires
-lay-if-requires c κs = omega (arith, when-length (c .before .before .before .args .begun) 0x2C, order-length (c .before .before .before .args .quotes) (c .before .before .before .args .field .now) (c .before .before .before .args .begun) (c .before .before .before .args .closed))
+lay-if-requires c κs =
+    let a = c .before .before .before .args in
+    omega (arith, when-length (a .begun) 0x2C, order-length (a .quotes) (a .field .now) (a .begun) (a .closed))
 
 lay-quoted-requires : tie.Need-lay-quoted-requires
-lay-quoted-requires c κs = omega (arith, c .before .before .out .given, c .before .before .before .lay-if .ensures .next, when-length (c .before .before .before .before .before .before .before .args .begun) 0x2C, quotes-length (c .before .before .before .before .before .before .before .args .quotes) (c .before .before .before .before .before .before .before .args .field .now), order-length (c .before .before .before .before .before .before .before .args .quotes) (c .before .before .before .before .before .before .before .args .field .now) (c .before .before .before .before .before .before .before .args .begun) (c .before .before .before .before .before .before .before .args .closed))
+lay-quoted-requires c κs =
+    let a = c .before .before .before .before .before .before .before .args in
+    omega (arith, c .before .before .out .given, c .before .before .before .lay-if .ensures .next, when-length (a .begun) 0x2C, quotes-length (a .quotes) (a .field .now), order-length (a .quotes) (a .field .now) (a .begun) (a .closed))
 
 lay-break-requires : tie.Need-lay-break-requires
-lay-break-requires c κs = omega (arith, c .before .before .out2 .given, c .before .before .before .before .before .before .out .given, c .before .before .before .lay-quoted .ensures .next, c .before .before .before .before .before .before .before .lay-if .ensures .next, break-length (c .before .before .before .before .before .before .before .before .before .before .before .args .closed), when-length (c .before .before .before .before .before .before .before .before .before .before .before .args .begun) 0x2C, quotes-length (c .before .before .before .before .before .before .before .before .before .before .before .args .quotes) (c .before .before .before .before .before .before .before .before .before .before .before .args .field .now), order-length (c .before .before .before .before .before .before .before .before .before .before .before .args .quotes) (c .before .before .before .before .before .before .before .before .before .before .before .args .field .now) (c .before .before .before .before .before .before .before .before .before .before .before .args .begun) (c .before .before .before .before .before .before .before .before .before .before .before .args .closed))
+lay-break-requires c κs =
+    let a = c .before .before .before .before .before .before .before .before .before .before .before .args in
+    let first = c .before .before .before .before .before .before in
+    omega (
+      arith,
+      c .before .before .out2 .given,
+      first .out .given,
+      c .before .before .before .lay-quoted .ensures .next,
+      first .before .lay-if .ensures .next,
+      break-length (a .closed),
+      when-length (a .begun) 0x2C,
+      quotes-length (a .quotes) (a .field .now),
+      order-length (a .quotes) (a .field .now) (a .begun) (a .closed),
+    )
 
 same-length : tie.Need-same-length
 same-length c = search needs
 
 returns : tie.Need-returns
-returns c = part-laid (c .before .before .before .before .before .before .before .before .before .before .before .before .before .before .args .begun) (c .before .before .before .before .before .before .before .before .before .before .before .before .before .before .args .quotes) (c .before .before .before .before .before .before .before .before .before .before .before .before .before .before .args .closed) (c .before .before .before .before .before .before .before .before .before .before .before .before .before .before .args .field .now) (c .before .before .before .before .before .before .before .before .before .before .before .before .before .before .pre) (c .before .before .before .before .before .before .before .before .before .before .lay-if .ensures) (c .before .before .before .before .before .before .lay-quoted .ensures) (c .before .before .lay-break .ensures) (c .before .before .before .before .before .before .before .before .before .out .given)
+returns c =
+    let a = c .before .before .before .before .before .before .before .before .before .before .before .before .before .before .args in
+    let first = c .before .before .before .before .before .before .before .before .before in
+    part-laid (a .begun) (a .quotes) (a .closed) (a .field .now) (c .before .before .before .before .before .before .before .before .before .before .before .before .before .before .pre) (first .before .lay-if .ensures) (c .before .before .before .before .before .before .lay-quoted .ensures) (c .before .before .lay-break .ensures) (first .out .given)
 
 pub lay-part-spec : {M : Type 1} → statement M
 lay-part-spec =

@@ -17,16 +17,28 @@ fit-requires : tie.Need-fit-requires
 fit-requires c κs = search needs
 
 returns : tie.Need-returns
-returns c = part-none (c .before .before .before .before .before .before .before .args .begun) _ (c .before .before .before .before .before .before .before .args .closed) (c .before .before .before .before .before .before .before .args .field .now) (c .before .before .before .before .before .before .before .args .out .now) _ _ _ (c .before .before .before .before .needs-quotes .ensures) (c .before .before .before .quote-count .ensures) (c .before .before .around .ensures) (c .before .fit .ensures) (not-true _ (c .if1 .taken))
+returns c =
+    let a = c .before .before .before .before .before .before .before .args in
+    let f = c .before in
+    part-none (a .begun) _ (a .closed) (a .field .now) (a .out .now) _ _ _ (f .before .before .before .needs-quotes .ensures) (f .before .before .quote-count .ensures) (f .before .around .ensures)
+    (f .fit .ensures) (not-true _ (c .if1 .taken))
 
 lay-part-requires : tie.Need-lay-part-requires
-lay-part-requires c κs = part-room (c .before .before .before .before .before .before .before .before .args .begun) _ (c .before .before .before .before .before .before .before .before .args .closed) (c .before .before .before .before .before .before .before .before .args .field .now) (c .before .before .before .before .before .before .before .before .args .out .now) _ _ _ (c .before .before .before .before .before .needs-quotes .ensures) (c .before .before .before .before .quote-count .ensures) (c .before .before .before .around .ensures) (c .before .before .fit .ensures) (not-false _ (c .before .if1 .left))
+lay-part-requires c κs =
+    let a = c .before .before .before .before .before .before .before .before .args in
+    let f = c .before .before in
+    part-room (a .begun) _ (a .closed) (a .field .now) (a .out .now) _ _ _ (f .before .before .before .needs-quotes .ensures) (f .before .before .quote-count .ensures) (f .before .around .ensures)
+    (f .fit .ensures) (not-false _ (c .before .if1 .left))
 
 same-length : tie.Need-same-length
 same-length c = search needs
 
 returns-2 : tie.Need-returns-2
-returns-2 c = part-whole (c .before .before .before .before .before .before .before .before .before .before .before .args .begun) _ (c .before .before .before .before .before .before .before .before .before .before .before .args .closed) (c .before .before .before .before .before .before .before .before .before .before .before .args .field .now) (c .before .before .before .before .before .before .before .before .before .before .before .args .out .now) _ _ _ (c .before .before .before .before .before .before .before .before .needs-quotes .ensures) (c .before .before .before .before .before .before .before .quote-count .ensures) (c .before .before .before .before .before .before .around .ensures) (c .before .before .before .before .before .fit .ensures) (not-false _ (c .before .before .before .before .if1 .left)) (c .before .before .lay-part .ensures)
+returns-2 c =
+    let a = c .before .before .before .before .before .before .before .before .before .before .before .args in
+    let f = c .before .before .before .before .before in
+    part-whole (a .begun) _ (a .closed) (a .field .now) (a .out .now) _ _ _ (f .before .before .before .needs-quotes .ensures) (f .before .before .quote-count .ensures) (f .before .around .ensures)
+    (f .fit .ensures) (not-false _ (c .before .before .before .before .if1 .left)) (c .before .before .lay-part .ensures)
 
 pub put-field-spec : {M : Type 1} → statement M
 put-field-spec =

@@ -1,0 +1,295 @@
+// The blocks of a journal, one after the other: each is decoded by one call with room enough, and cut into fields.
+use crate::cutting;
+use crate::records::Progress;
+use codepage::Numbers;
+use convert::Pending;
+use convert::Run;
+use fields::Held;
+use storage::files;
+use storage::messages;
+use till::blocks::is_taken;
+use till::report;
+
+// After some blocks: the run, what is held of a field, and how far the file is; whether a field has too many units, and then the
+// byte that its first unit over the limit is read from; and whether something failed, whose reason was said.
+pub struct Turn {
+    pub run: Run,
+    pub state: Held,
+    pub progress: Progress,
+    pub refused: bool,
+    pub place: u64,
+    pub failed: bool,
+}
+
+// The place of the first unit over the limit, among the units of a block: `read` of them are read and `held` units are held.
+fn over_limit(read: usize, held: usize) -> usize {
+    if Held::LIMIT < held {
+        return read;
+    }
+    if 1000000 < read {
+        return read;
+    }
+    read + (Held::LIMIT - held)
+}
+
+// The byte where a run stands: that of the pending one, if there is one.
+fn byte_of(run: Run) -> u64 {
+    let pending = run.pending;
+    match pending {
+        Pending::Nothing => run.read,
+        Pending::Byte(_) => {
+            if run.read == 0 {
+                return 0;
+            }
+            run.read - 1
+        }
+    }
+}
+
+// The byte that a unit of a block is read from: the block is decoded again, with room for the units before it.
+fn byte_at(
+    run: Run,
+    numbers: Numbers,
+    classes: &[u8],
+    singles: &[u16],
+    pairs: &[u16],
+    index: &[u8],
+    blocks: &[u16],
+    block: &[u8],
+    last: bool,
+    room: &mut [u16],
+) -> u64 {
+    let outcome = convert::decode(
+        run,
+        numbers,
+        classes,
+        singles,
+        pairs,
+        index,
+        blocks,
+        block,
+        last,
+        room,
+    );
+    let after = outcome.run;
+    byte_of(after)
+}
+
+// Decodes a block and cuts its units.
+fn cut_block(
+    run: Run,
+    state: Held,
+    progress: Progress,
+    numbers: Numbers,
+    classes: &[u8],
+    singles: &[u16],
+    pairs: &[u16],
+    index: &[u8],
+    blocks: &[u16],
+    block: &[u8],
+    last: bool,
+    buffer: &mut [u16],
+    out: &mut [u16],
+    target: i32,
+    input: &[u8],
+    output: &[u8],
+) -> Turn {
+    let mut units = [0u16; 1024];
+    let outcome = convert::decode(
+        run,
+        numbers,
+        classes,
+        singles,
+        pairs,
+        index,
+        blocks,
+        block,
+        last,
+        &mut units,
+    );
+    let answer = outcome.answer;
+    let after = outcome.run;
+    let number = answer.number();
+    if !is_taken(number) {
+        messages::refuse(number, input);
+        return Turn {
+            run: after,
+            state,
+            progress,
+            refused: false,
+            place: 0,
+            failed: true,
+        };
+    }
+    let filled = layout::front_units(outcome.written, &units);
+    let ends = last && number == 0;
+    let cut = cutting::cut_units(
+        progress,
+        state,
+        &units[..filled],
+        ends,
+        buffer,
+        out,
+        target,
+        output,
+    );
+    let held = cut.state;
+    let so_far = cut.progress;
+    let mut place = 0;
+    if cut.refused {
+        let over = layout::front_units(over_limit(cut.read, held.count), &units);
+        place = byte_at(
+            run,
+            numbers,
+            classes,
+            singles,
+            pairs,
+            index,
+            blocks,
+            block,
+            last,
+            &mut units[..over],
+        );
+    }
+    Turn {
+        run: after,
+        state: held,
+        progress: so_far,
+        refused: cut.refused,
+        place,
+        failed: so_far.failed,
+    }
+}
+
+// The next block.
+fn next_block(
+    run: Run,
+    state: Held,
+    progress: Progress,
+    numbers: Numbers,
+    classes: &[u8],
+    singles: &[u16],
+    pairs: &[u16],
+    index: &[u8],
+    blocks: &[u16],
+    buffer: &mut [u16],
+    out: &mut [u16],
+    source: i32,
+    target: i32,
+    total: u64,
+    input: &[u8],
+    output: &[u8],
+) -> Turn {
+    let size = layout::block_len(run.read, total);
+    let last = layout::is_final(run.read, total);
+    let mut block = [0u8; 512];
+    let count = files::read_some(source, size, &mut block);
+    if count < size {
+        files::say_short(source, input);
+        return Turn {
+            run,
+            state,
+            progress,
+            refused: false,
+            place: 0,
+            failed: true,
+        };
+    }
+    cut_block(
+        run,
+        state,
+        progress,
+        numbers,
+        classes,
+        singles,
+        pairs,
+        index,
+        blocks,
+        &block[..count],
+        last,
+        buffer,
+        out,
+        target,
+        input,
+        output,
+    )
+}
+
+// Whether no block follows.
+fn is_over(turn: Turn) -> bool {
+    if turn.failed {
+        return true;
+    }
+    if turn.refused {
+        return true;
+    }
+    turn.run.ended
+}
+
+// One line for each 4 MiB of a journal.
+fn on_the_way(run: Run, done: u64, total: u64) {
+    if done % 8192 == 0 {
+        report::progress(run, total);
+    }
+}
+
+// All blocks of a journal of `total` bytes, to its end, to a stop, or to a field that has too many units.
+pub fn all_blocks(
+    run: Run,
+    progress: Progress,
+    numbers: Numbers,
+    classes: &[u8],
+    singles: &[u16],
+    pairs: &[u16],
+    index: &[u8],
+    blocks: &[u16],
+    buffer: &mut [u16],
+    out: &mut [u16],
+    source: i32,
+    target: i32,
+    total: u64,
+    input: &[u8],
+    output: &[u8],
+) -> Turn {
+    let count = layout::block_count(run.read, total, true);
+    let mut run = run;
+    let mut state = Held::fresh();
+    let mut so_far = progress;
+    let mut done = 0;
+    while done < count {
+        let turn = next_block(
+            run,
+            state,
+            so_far,
+            numbers,
+            classes,
+            singles,
+            pairs,
+            index,
+            blocks,
+            buffer,
+            out,
+            source,
+            target,
+            total,
+            input,
+            output,
+        );
+        if is_over(turn) {
+            return turn;
+        }
+        run = turn.run;
+        state = turn.state;
+        so_far = turn.progress;
+        done += 1;
+        on_the_way(run, done, total);
+    }
+    Turn {
+        run,
+        state,
+        progress: so_far,
+        refused: false,
+        place: 0,
+        failed: false,
+    }
+}
