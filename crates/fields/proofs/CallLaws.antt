@@ -21,7 +21,7 @@ use Rattle.fields.specs.declared.Answer.the-variants.{Field as FieldFoun
 use Rattle.fields.specs.declared.Held.{Held}
 use Rattle.fields.specs.declared.Outcome.{Outcome}
 use Rattle.fields.specs.Fields.{separator, stopAt, unitsIn, orElse, separatorIn, endIn, refusal, fresh, readWith, overFrom, foundCall, heldCall, refusedCall, fieldCall, Answered}
-use Rattle.fields.specs.Steps.{isSeparator, endOf}
+use Rattle.fields.specs.Steps.{isSeparator, endOf, Passed, Scanned}
 
 -- ---- separators
 pub no-separator : (u : ℕ) → isSeparator u ≡ false → separator u ≡ none
@@ -63,6 +63,18 @@ module _ (block : List ℕ) (i : ℕ) (so-far : length (unitsIn block) ≡ i + l
   scan-end h =
       let here : length (unitsIn (drop i block)) ≡ 0 = ap (λ (l : List ℕ). length (unitsIn l)) (drop-of-length-le block h) in
       omega arith
+
+-- four units at a time
+module _ (block : List ℕ) where
+  pub scan-next : (i j : ℕ) → Passed block i → i < length block → isSeparator (getD block i 0) ≡ false → j ≡ i + 1 → Passed block j
+  scan-next i j so-far h e q = subst (Passed block) (sym q) (scan-turn block i so-far h e)
+
+  pub scan-found : (i n j : ℕ) → n < 4 → i + n ≡ j → Passed block j → j < length block → isSeparator (getD block j 0) ≡ true → Scanned block i n
+  scan-found i n j small q so-far h e =
+      record { within = omega arith; found = λ l. q ∙ scan-stop block j so-far h e; passed = λ w. absurd (omega arith) }
+
+  pub scan-passed : (i : ℕ) → Passed block (i + 4) → Scanned block i 4
+  scan-passed i so-far = record { within = omega arith; found = λ l. absurd (omega arith); passed = λ w. so-far }
 
 -- ---- the copy
 pub laid : (buffer : List ℕ) (held : ℕ) (block : List ℕ) (size : ℕ) → size ≤ length block → paste buffer held block size ≡ overFrom held buffer (take size block)

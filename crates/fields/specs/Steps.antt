@@ -1,10 +1,14 @@
 -- What the inner functions promise.
 use mathlib.Core.Bool.{Bool, _||_}
-use Prim.Native.Nat.{ℕ}
+use mathlib.Core.List.{List}
+use mathlib.Core.Path.{_≡_}
+use Prim.Native.Nat.{ℕ, _+_, _≤_, _<_}
 use lib.Dec.{eqb}
+use lib.ListN.{length, drop}
 use Rattle.codepage.specs.CodePage.{pick}
 use Rattle.fields.specs.declared.End.{End}
 use Rattle.fields.specs.declared.End.the-variants.{Bar, LineFeed}
+use Rattle.fields.specs.Fields.{unitsIn}
 
 abbrev pub isSeparator : (unit : ℕ) → Bool
 isSeparator unit = eqb unit 0x7C || eqb unit 0x0A
@@ -12,3 +16,13 @@ isSeparator unit = eqb unit 0x7C || eqb unit 0x0A
 -- what a separator is
 abbrev pub endOf : (unit : ℕ) → End
 endOf unit = pick (eqb unit 0x7C) Bar LineFeed
+
+-- the scan of a block: no separator stands before a place
+abbrev pub Passed : (block : List ℕ) → (place : ℕ) → Type 0
+Passed block place = length (unitsIn block) ≡ place + length (unitsIn (drop place block))
+
+-- four units were looked at: how many of them stand before the block's first separator
+pub record Scanned (block : List ℕ) (place count : ℕ) : Type 0 where
+  pub within : count ≤ 4
+  pub found : count < 4 → place + count ≡ length (unitsIn block)
+  pub passed : count ≡ 4 → Passed block (place + 4)

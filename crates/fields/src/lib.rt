@@ -7,7 +7,7 @@ ghost use lib.Dec.{ltb};
 ghost use lib.ListN.{length, take};
 ghost use denote.Ref.{ptr};
 ghost use Rattle.fields.specs.Fields.{unitsIn, numberOf, fresh, overFrom, readWith, foundCall, heldCall, fieldCall, Answered, front, ShownAs};
-ghost use Rattle.fields.specs.Steps.{isSeparator, endOf};
+ghost use Rattle.fields.specs.Steps.{isSeparator, endOf, Passed, Scanned};
 ghost use Rattle.convert.specs.Runs.{pieceLimit};
 use convert::Run;
 
@@ -116,11 +116,32 @@ fn end_of(unit: u16) -> End
     End::LineFeed
 }
 
-// How many units stand before the first separator of a block.
-fn field_size(block: &[u16]) -> usize
+// Looks at four units: how many stand before the first separator among them, or 4.
+fn scan_four(block: &[u16], i: usize) -> usize
+    requires { ⌜ (i + 4 ≤ length (now block)) × Passed (now block) i ⌝ }
+    ensures { λ r. ⌜ Scanned (now (block .entry)) i r ⌝ }
+{
+    if is_separator(block[i]) {
+        return 0;
+    }
+    if is_separator(block[i + 1]) {
+        return 1;
+    }
+    if is_separator(block[i + 2]) {
+        return 2;
+    }
+    if is_separator(block[i + 3]) {
+        return 3;
+    }
+    4
+}
+
+// How many units stand before the first separator, if none stands before `start`.
+fn scan_rest(block: &[u16], start: usize) -> usize
+    requires { ⌜ (start ≤ length (now block)) × Passed (now block) start ⌝ }
     ensures { λ r. ⌜ r ≡ length (unitsIn (now (block .entry))) ⌝ }
 {
-    let mut i = 0;
+    let mut i = start;
     while i < block.len() {
         if is_separator(block[i]) {
             return i;
@@ -128,6 +149,21 @@ fn field_size(block: &[u16]) -> usize
         i += 1;
     }
     i
+}
+
+// How many units stand before the first separator of a block. Four are looked at in a turn, since a turn costs as much as a unit.
+fn field_size(block: &[u16]) -> usize
+    ensures { λ r. ⌜ r ≡ length (unitsIn (now (block .entry))) ⌝ }
+{
+    let mut i = 0;
+    while 4 <= block.len() - i {
+        let count = scan_four(block, i);
+        if count < 4 {
+            return i + count;
+        }
+        i += 4;
+    }
+    scan_rest(block, i)
 }
 
 // Lays the first `size` units of a block over the buffer behind the units held.

@@ -1,14 +1,12 @@
-use mathlib.Core.Path.{_≡_, sym, _∙_}
-use Prim.Native.Nat.{_+_, _-_, _≤_}
+use Prim.Native.Nat.{_-_, _≤_}
 use native.Mathlib.Omega.{arith}
-use lib.ListN.{length, drop}
-use Rattle.fields.specs.Fields.{unitsIn}
-use Rattle.fields.proofs.CallLaws.{scan-stop, scan-turn, scan-end}
+use lib.ListN.{length}
+use Rattle.fields.specs.Steps.{Passed}
 use Rattle.fields.proofs.field_size.Statement.{statement}
 use Rattle.fields.proofs.field_size.Tie as tie
 
 abbrev Inv-loop : tie.InvT-loop
-Inv-loop block i₀ i = (i ≤ length block) × (length (unitsIn block) ≡ i + length (unitsIn (drop i block)))
+Inv-loop block i₀ i = (i ≤ length block) × Passed block i
 
 abbrev μ-loop : tie.MeasureT-loop
 μ-loop block i₀ i = length block - i
@@ -16,19 +14,17 @@ abbrev μ-loop : tie.MeasureT-loop
 loop-holds : tie.Need-loop-holds Inv-loop μ-loop
 loop-holds c = (omega arith, omega arith)
 
-mul-is-separator : tie.Need-mul-is-separator Inv-loop μ-loop
-mul-is-separator c = omega arith
+sub-loop : tie.Need-sub-loop Inv-loop μ-loop
+sub-loop c = omega arith
 
-shared-slice-read-is-separator : tie.Need-shared-slice-read-is-separator Inv-loop μ-loop
-shared-slice-read-is-separator c = omega arith
+scan-four-requires : tie.Need-scan-four-requires Inv-loop μ-loop
+scan-four-requires c κs = (omega arith, c .before .loop .inv .1)
 
-is-separator-requires : tie.Need-is-separator-requires Inv-loop μ-loop
-is-separator-requires c κs = tt
+add-result : tie.Need-add-result Inv-loop μ-loop
+add-result c = omega arith
 
 returns : tie.Need-returns Inv-loop μ-loop
-returns c =
-    scan-stop (c .before .before .before .before .before .before .args .block .now) _ (c .before .before .before .before .loop .inv .1) (omega arith)
-    (sym (c .before .is-separator .ensures) ∙ c .if1 .taken)
+returns c = c .before .scan-four .ensures .found (c .if1 .taken)
 
 add-i : tie.Need-add-i Inv-loop μ-loop
 add-i c = omega arith
@@ -37,14 +33,13 @@ loop-less : tie.Need-loop-less Inv-loop μ-loop
 loop-less c = omega arith
 
 loop-again : tie.Need-loop-again Inv-loop μ-loop
-loop-again c = (
-  omega arith,
-  scan-turn (c .before .before .before .before .before .before .args .block .now) _ (c .before .before .before .before .loop .inv .1) (omega arith)
-      (sym (c .before .is-separator .ensures) ∙ c .if1 .left),
-)
+loop-again c = (omega arith, c .before .scan-four .ensures .passed (omega (arith, c .before .scan-four .ensures .within)))
+
+scan-rest-requires : tie.Need-scan-rest-requires Inv-loop μ-loop
+scan-rest-requires c κs = (c .before .loop .inv .0, c .before .loop .inv .1)
 
 returns-2 : tie.Need-returns-2 Inv-loop μ-loop
-returns-2 c = scan-end (c .before .before .before .args .block .now) _ (c .before .loop .inv .1) (omega arith)
+returns-2 c = c .scan-rest .ensures
 
 pub field-size-spec : {M : Type 1} → statement M
 field-size-spec =
@@ -53,11 +48,12 @@ field-size-spec =
     Inv-loop
     μ-loop
     loop-holds
-    mul-is-separator
-    shared-slice-read-is-separator
-    is-separator-requires
+    sub-loop
+    scan-four-requires
+    add-result
     returns
     add-i
     loop-less
     loop-again
+    scan-rest-requires
     returns-2)
