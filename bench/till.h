@@ -23,6 +23,13 @@ extern "C" {
 #define TILL_PIECE_LIMIT 65536   /* the most units of input in one call */
 #define TILL_LINE_LIMIT 44       /* the most bytes of a saved line */
 
+#define TILL_FIELD_LIMIT 256     /* the most units of a field, and the least of a field buffer */
+#define TILL_BAR 1
+#define TILL_LINE_FEED 2
+#define TILL_TEXT_END 3
+#define TILL_IN_BUFFER 0
+#define TILL_IN_BLOCK 1
+
 /* A run, handed in and given back by value. Make one by till_start or till_load, and hand each call the run of the one before. */
 typedef struct {
     uint64_t read;     /* units of input read so far */
@@ -64,6 +71,16 @@ typedef struct {
     uint8_t number;
 } till_fault;
 
+/* What till_next_field answers. number: 0 a field; 1 no field is complete and the whole block is held; or that of the refusal. */
+typedef struct {
+    size_t read;    /* units of the block read, the separator with its field */
+    size_t count;   /* units of the field */
+    size_t held;    /* for the next call */
+    uint8_t number;
+    uint8_t end;    /* what ended the field: TILL_BAR, TILL_LINE_FEED or TILL_TEXT_END; 0 if there is none */
+    uint8_t place;  /* where its units are, at the front: TILL_IN_BUFFER or TILL_IN_BLOCK */
+} till_field;
+
 /* The parameters of a table set: page, default byte, default unit, and the five tables. */
 #define TILL_TABLES \
     uint16_t page, uint8_t default_byte, uint16_t default_unit, const uint8_t *classes, size_t classes_len, const uint16_t *singles, \
@@ -90,6 +107,13 @@ till_handed till_load(const uint8_t *line, size_t line_len);
 
 /* The shape report of a table set: the first bad place, if any. */
 till_fault till_shape(TILL_TABLES);
+
+/* The next field of a text that is met in blocks of units, each of which begins at the first unread unit: 007C ends a field, 000A a
+ * field and a record, and the end of the text, in a call with last 1, a field that has units. held is 0 at first and then that of
+ * the call before, whose buffer is handed in unchanged. 0: a field, shown from the block, or from the buffer where it began in
+ * an earlier block; 1: none is complete, and the block is held. Refusals, with held and the buffer as before: 12 a last above 1; 20 a
+ * buffer of under 256 units; 11 a block of over 65,536; 27 a held over 256; 21 the next field has over 256 units. */
+till_field till_next_field(size_t held, uint16_t *buffer, size_t buffer_len, const uint16_t *block, size_t block_len, uint8_t last);
 
 #ifdef __cplusplus
 }

@@ -1,2 +1,3 @@
 pub mod InterfaceLaws
 pub mod EveryList
+pub mod CuttingLaws

@@ -8,6 +8,9 @@ ghost use Rattle.engine.specs.declared.Direction.the-variants.{Decoding, Encodi
 ghost use Rattle.convert.specs.Runs.{startedAs};
 ghost use Rattle.checkpoint.specs.Line.{readOf, restoredAs, writtenAs};
 ghost use Rattle.capi.specs.Interface.{directionIn, directionOut, pendingIn, pendingOut, flagOut, isRun, runOn, runOut, noRun, tillPage, isLast, tillCall, TillAnswered, pageNamed, answerOut, startOut, tillStart, loadOut, tillSave, TillSavedAs, faultOut};
+
+pub mod cutting;
+
 use checkpoint::Restored;
 use checkpoint::Written;
 use codepage::Fault;
