@@ -8,6 +8,12 @@ static void print_units(const uint16_t *units, size_t n)
     printf("\n");
 }
 
+static void print_field(till_field f, const uint16_t *buffer, const uint16_t *block)
+{
+    printf("next field %u, read %zu, held %zu, end %u, %s:", f.number, f.read, f.held, f.end, f.place == TILL_IN_BLOCK ? "block" : "buffer");
+    print_units(f.place == TILL_IN_BLOCK ? block : buffer, f.count);
+}
+
 int main(int argc, char **argv)
 {
     char name[4096];
@@ -67,5 +73,17 @@ int main(int argc, char **argv)
     bad = start.run;
     bad.direction = 2; /* the shape is asked first */
     printf("direction 2 and index 200: encode %u\n", till_encode(bad, TABLES(&t), text, 3, 1, bytes, 8).number);
+
+    /* two fields of a text in two blocks: one wholly in the first, one that is held there and completed */
+    static const uint16_t blocks[6] = {0x65E5, 0x672C, 0x007C, 0x0041, 0x0042, 0x000A};
+    uint16_t buffer[TILL_FIELD_LIMIT];
+    till_field f = till_next_field(0, buffer, TILL_FIELD_LIMIT, blocks, 4, 0);
+    print_field(f, buffer, blocks);
+    f = till_next_field(f.held, buffer, TILL_FIELD_LIMIT, blocks + 3, 1, 0);
+    print_field(f, buffer, blocks + 3);
+    f = till_next_field(f.held, buffer, TILL_FIELD_LIMIT, blocks + 4, 2, 1);
+    print_field(f, buffer, blocks + 4);
+    printf("buffer 255: next field %u; held 257: %u\n", till_next_field(0, buffer, 255, blocks, 4, 0).number,
+        till_next_field(257, buffer, TILL_FIELD_LIMIT, blocks, 4, 0).number);
     return 0;
 }

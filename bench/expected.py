@@ -1,5 +1,5 @@
 #!/usr/bin/env python3
-"""Converts the benchmark's texts by the second converter: FOLDER/NAME.decoded and NAME.encoded.
+"""Converts the benchmark's texts by the second converter: FOLDER/NAME.decoded and NAME.encoded; and cuts those of the cutter: NAME.cut.
 
 Use: expected.py FOLDER. Pieces of 65,536 units, policy 555, the last one marked last.
 """
@@ -27,8 +27,33 @@ def convert(direction, table, text):
     return output
 
 
+def cut(text):
+    """How many fields and records a text of units has, and a sum over all units of fields and what ends them (1 bar, 2 line feed,
+    3 the text's end): sum * 31 + element, in 64 bits."""
+    fields = records = total = 0
+    field = []
+    for unit in text + [None]:
+        end = {0x7C: 1, 0x0A: 2, None: 3}.get(unit)
+        if end is None:
+            field.append(unit)
+            continue
+        if end == 3 and not field:
+            break
+        for element in field + [end]:
+            total = (total * 31 + element) % 2**64
+        fields += 1
+        records += end == 2
+        field = []
+    return fields, records, total
+
+
 def main():
     folder = sys.argv[1]
+    for name in ("journal", "figures", "notes"):
+        with open("%s/%s.units" % (folder, name), "rb") as f:
+            data = f.read()
+        with open("%s/%s.cut" % (folder, name), "w") as f:
+            f.write("%d %d %d\n" % cut(list(struct.unpack("<%dH" % (len(data) // 2), data))))
     for name, page in (("ascii", "cp932"), ("japanese", "cp932"), ("latin", "cp1252"), ("damaged", "cp932")):
         table = second.read_image_file(page + ".tbl", [os.path.join(HERE, "..", "tables")])
         with open("%s/%s.bytes" % (folder, name), "rb") as f:

@@ -67,6 +67,49 @@ def latin_text(r):
     return ''.join(lines)
 
 
+SHOPS = '港町支店 駅前店 本店 空港売店 中央市場店'.split()
+
+CLERKS = '佐藤 鈴木 高橋 田中 伊藤 渡辺 山本 中村 小林 加藤'.split()
+
+
+def journal_text(r):
+    """A till's journal, a sold article a record: time, shop, receipt, clerk, article, number, price, and a remark that is mostly empty."""
+    lines = []
+    size = 0
+    while size < SIZE:
+        article = ''.join(r.choice(JAPANESE) for _ in range(r.randrange(1, 4)))
+        remark = ''.join(r.choice(JAPANESE) for _ in range(3)) if r.randrange(8) == 0 else ''
+        line = '2026-11-%02d %02d:%02d:%02d|%s|No.%06d|%s|%s|%d点|%d円|%s\n' % (
+            r.randrange(1, 31), r.randrange(24), r.randrange(60), r.randrange(60), r.choice(SHOPS), r.randrange(1000000), r.choice(CLERKS), article,
+            r.randrange(1, 20), r.randrange(10, 20000), remark)
+        lines.append(line)
+        size += len(line.encode('cp932'))
+    return ''.join(lines)
+
+
+def figures_text(r):
+    """A journal of figures alone, with short fields: number, time, article number, number, price."""
+    lines = []
+    size = 0
+    while size < SIZE:
+        line = '%06d|%02d:%02d|%d|%d|%d\n' % (
+            r.randrange(1000000), r.randrange(24), r.randrange(60), r.randrange(10000), r.randrange(1, 20), r.randrange(10, 20000))
+        lines.append(line)
+        size += len(line)
+    return ''.join(lines)
+
+
+def notes_text(r):
+    """A journal of few, long fields: English sentences of up to 250 units."""
+    lines = []
+    size = 0
+    while size < SIZE:
+        fields = [' '.join(r.choice(ENGLISH) for _ in range(40))[:r.randrange(40, 250)] for _ in range(3)]
+        lines.append('|'.join(fields) + '\n')
+        size += len(lines[-1])
+    return ''.join(lines)
+
+
 def main():
     folder = sys.argv[1]
 
@@ -76,7 +119,8 @@ def main():
         with open('%s/%s.units' % (folder, name), 'wb') as f:
             f.write(units)
 
-    for name, make, page in (('ascii', ascii_text, 'cp932'), ('japanese', japanese_text, 'cp932'), ('latin', latin_text, 'cp1252')):
+    for name, make, page in (('ascii', ascii_text, 'cp932'), ('japanese', japanese_text, 'cp932'), ('latin', latin_text, 'cp1252'),
+                             ('journal', journal_text, 'cp932'), ('figures', figures_text, 'cp932'), ('notes', notes_text, 'cp932')):
         text = make(random.Random('till ' + name))
         write(name, text.encode(page), text.encode('utf-16-le'))
     r = random.Random('till damaged')

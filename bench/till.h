@@ -109,9 +109,9 @@ till_handed till_load(const uint8_t *line, size_t line_len);
 till_fault till_shape(TILL_TABLES);
 
 /* The next field of a text that is met in blocks of units, each of which begins at the first unread unit: 007C ends a field, 000A a
- * field and a record, and the end of the text, in a call with last 1, a field that has units. held is 0 at first and then that of
+ * field and a record, and the end of the text, in a call with any last but 0, a field that has units. held is 0 at first and then that of
  * the call before, whose buffer is handed in unchanged. 0: a field, shown from the block, or from the buffer where it began in
- * an earlier block; 1: none is complete, and the block is held. Refusals, with held and the buffer as before: 12 a last above 1; 20 a
+ * an earlier block; 1: none is complete, and the block is held. Refusals, with held and the buffer as before: 20 a
  * buffer of under 256 units; 11 a block of over 65,536; 27 a held over 256; 21 the next field has over 256 units. */
 till_field till_next_field(size_t held, uint16_t *buffer, size_t buffer_len, const uint16_t *block, size_t block_len, uint8_t last);
 

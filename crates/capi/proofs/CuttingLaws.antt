@@ -1,36 +1,23 @@
--- The cases of the exported call that cuts a text.
+-- What the exported call that cuts a text gives is what the call behind it gives.
 use mathlib.Core.Bool.{Bool}
 use mathlib.Core.List.{List}
-use mathlib.Core.Path.{_≡_, refl, sym, ap, _∙_}
-use Prim.Native.Nat.{ℕ, _≤_, _<_}
-use lib.Dec.{leb, eqb}
-use borrow.Author.Tests.{le-leb, lt-leb}
-use Rattle.codepage.specs.CodePage.{pick}
+use mathlib.Core.Path.{_≡_, sym, ap, _∙_}
+use Prim.Native.Nat.{ℕ}
 use Rattle.fields.specs.declared.Answer.{Answer}
 use Rattle.fields.specs.declared.Outcome.{Outcome}
 use Rattle.fields.specs.Fields.{Called, fieldCall, Answered}
 use Rattle.capi.specs.declared.cutting.TillField.{TillField}
-use Rattle.capi.specs.Cutting.{refusedField, fieldOut, calledOut, TillCut}
+use Rattle.capi.specs.Interface.{isLast}
+use Rattle.capi.specs.Cutting.{fieldOut, calledOut, TillCut}
 
-module _ (held : ℕ) (buffer block : List ℕ) (last : ℕ) where
-  abbrev called : Called
-  called = fieldCall held buffer block (eqb last 1)
-
-  pub no-mark : (r : TillField) → 1 < last → r ≡ refusedField held 12 → TillCut held buffer block last r buffer
-  no-mark r h e =
-      record {
-        result = e ∙ ap (λ (b : Bool). pick b (calledOut called) (refusedField held 12)) (sym (lt-leb _ _ h));
-        lent = ap (λ (b : Bool). pick b (called .buffer) buffer) (sym (lt-leb _ _ h));
-      }
-
-  pub called-so : (o : Outcome) (r : TillField) (after : List ℕ) → last ≤ 1 → Answered called o after → r ≡ fieldOut (o .answer) (o .state .count) → TillCut held buffer block last r after
-  unfolding calledOut
-  called-so o r after h a e =
-      record {
-        result =
-            e
-            ∙ ap (λ (w : Answer). fieldOut w (o .state .count)) (a .answer)
-            ∙ ap (fieldOut (called .answer)) (a .state)
-            ∙ ap (λ (b : Bool). pick b (calledOut called) (refusedField held 12)) (sym (le-leb _ _ h));
-        lent = a .buffer ∙ ap (λ (b : Bool). pick b (called .buffer) buffer) (sym (le-leb _ _ h));
-      }
+pub called-so : (held : ℕ) (buffer block : List ℕ) (last : ℕ) (mark : Bool) (o : Outcome) (r : TillField) (after : List ℕ) → mark ≡ isLast last → Answered (fieldCall held buffer block mark) o after
+    → r ≡ fieldOut (o .answer) (o .state .count) → TillCut held buffer block last r after
+unfolding calledOut
+called-so held buffer block last mark o r after m a e =
+    let called : Called = fieldCall held buffer block mark in
+    record {
+      result =
+          e ∙ ap (λ (w : Answer). fieldOut w (o .state .count)) (a .answer) ∙ ap (fieldOut (called .answer)) (a .state)
+          ∙ ap (λ (b : Bool). calledOut (fieldCall held buffer block b)) m;
+      lent = a .buffer ∙ ap (λ (b : Bool). fieldCall held buffer block b .buffer) m;
+    }

@@ -1,10 +1,7 @@
 -- The C interface: a field as numbers, and what the exported call that cuts a text gives.
-use mathlib.Core.Bool.{Bool, true, false}
 use mathlib.Core.List.{List}
 use mathlib.Core.Path.{_≡_}
 use Prim.Native.Nat.{ℕ}
-use lib.Dec.{leb, eqb}
-use Rattle.codepage.specs.CodePage.{pick}
 use Rattle.fields.specs.declared.End.{End}
 use Rattle.fields.specs.declared.End.the-variants.{Bar, LineFeed, Text}
 use Rattle.fields.specs.declared.Place.{Place}
@@ -13,6 +10,7 @@ use Rattle.fields.specs.declared.Answer.{Answer}
 use Rattle.fields.specs.declared.Answer.the-variants.{Field as FieldFound, Incomplete, Refused}
 use Rattle.fields.specs.Fields.{Called, fieldCall, numberOf}
 use Rattle.capi.specs.declared.cutting.TillField.{TillField}
+use Rattle.capi.specs.Interface.{isLast}
 
 -- 0 is no end
 abbrev pub endOut : End → ℕ
@@ -33,10 +31,10 @@ fieldOut (FieldFound found) held =
 fieldOut (Incomplete read) held = record { read = read; count = 0; held = held; number = 1; end = 0; place = 0 }
 fieldOut (Refused refusal) held = refusedField held (numberOf refusal)
 
--- What the call gives: that of `fieldCall`. A mark over 1 is none: 12, and the buffer is as before.
+-- What the call gives: that of `fieldCall`, and every unit of the buffer. Any mark but 0 is last.
 unfoldable pub calledOut : Called → TillField
 calledOut called = fieldOut (called .answer) (called .held)
 
 pub record TillCut (held : ℕ) (buffer block : List ℕ) (last : ℕ) (r : TillField) (after : List ℕ) : Type 0 where
-  pub result : r ≡ pick (leb last 1) (calledOut (fieldCall held buffer block (eqb last 1))) (refusedField held 12)
-  pub lent : after ≡ pick (leb last 1) (fieldCall held buffer block (eqb last 1) .buffer) buffer
+  pub result : r ≡ calledOut (fieldCall held buffer block (isLast last))
+  pub lent : after ≡ fieldCall held buffer block (isLast last) .buffer

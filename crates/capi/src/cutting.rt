@@ -80,7 +80,7 @@ fn field_out(answer: Answer, held: usize) -> TillField
     }
 }
 
-// The next field of a text, or the block held. A mark `last` above 1 is refused with 12, before all else.
+// The next field of a text, or the block held. Any mark `last` but 0 is last.
 #[no_mangle]
 pub extern "C" fn till_next_field(
     held: usize,
@@ -90,11 +90,8 @@ pub extern "C" fn till_next_field(
 ) -> TillField
     ensures { λ r. ⌜ TillCut held (now (buffer .entry)) (now (block .entry)) last r (now (buffer .exit)) ⌝ }
 {
-    if 1 < last {
-        return refused_field(held, 12);
-    }
     let state = Held { count: held };
-    let outcome = fields::next_field(state, buffer, block, last == 1);
+    let outcome = fields::next_field(state, buffer, block, crate::is_last(last));
     let answer = outcome.answer;
     let after = outcome.state;
     field_out(answer, after.count)
