@@ -1,3 +1,4 @@
 pub mod CsvLaws
 pub mod ReadingLaws
 pub mod RecordLaws
+pub mod ImportLaws

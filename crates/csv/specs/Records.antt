@@ -34,6 +34,16 @@ unfoldable pub recordsOf : List Field → List Row
 recordsOf [] = []
 recordsOf (field ∷ fields) = rowsBefore (closes (field .end)) (field .units) (recordsOf fields)
 
+-- The records that some fields close: a record that is still open behind the last field is none of them.
+abbrev pub closedBefore : (closed : Bool) → (units : List ℕ) → List Row → List Row
+closedBefore true units rows = record { first = units; others = [] } ∷ rows
+closedBefore false units [] = []
+closedBefore false units (row ∷ rows) = record { first = units; others = row .first ∷ row .others } ∷ rows
+
+unfoldable pub closedRecords : List Field → List Row
+closedRecords [] = []
+closedRecords (field ∷ fields) = closedBefore (closes (field .end)) (field .units) (closedRecords fields)
+
 -- ---- what the calls write, one field after the other
 -- a line break, if it is wanted: behind a field that closes its record, and at the text's end where a record is begun
 unfoldable pub breakIf : Bool → List ℕ
@@ -47,6 +57,11 @@ partText begun units closed = pick begun (0x2C ∷ []) [] ++ (fieldText units ++
 unfoldable pub joined : (begun : Bool) → List Field → List ℕ
 joined begun [] = breakIf begun
 joined begun (field ∷ fields) = partText begun (field .units) (closes (field .end)) ++ joined (pick (closes (field .end)) false true) fields
+
+-- what the calls have written of the fields so far, before the text's end
+unfoldable pub soFar : (begun : Bool) → List Field → List ℕ
+soFar begun [] = []
+soFar begun (field ∷ fields) = partText begun (field .units) (closes (field .end)) ++ soFar (pick (closes (field .end)) false true) fields
 
 -- The promise of a call that writes a text at the front of a lent slice: all of it, or nothing where it does not fit.
 abbrev pub written : (text : List ℕ) → (room : ℕ) → List ℕ
