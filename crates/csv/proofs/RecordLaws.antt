@@ -1,16 +1,13 @@
--- What the calls write of all fields of a text is the file of its records, which RFC 4180's reading gives back.
+-- What the calls write of all fields of a text is the file of its records.
 use mathlib.Core.Bool.{Bool, true, false}
 use mathlib.Core.List.{List, [], _∷_, _++_, append-assoc}
-use mathlib.Core.Option.{some}
 use mathlib.Core.Path.{_≡_, refl, sym, ap, _∙_}
 use Prim.Native.Nat.{ℕ}
 use Rattle.codepage.specs.CodePage.{pick}
-use Rattle.fields.specs.Fields.{Field, fieldsOf}
+use Rattle.fields.specs.Fields.{Field}
 use Rattle.csv.specs.Csv.{Row, fieldText, lineEnd, othersText, rowText, fileText}
-use Rattle.csv.specs.Reading.{rowsOf}
 use Rattle.csv.specs.Records.{closes, openBefore, rowsBefore, recordsOf, breakIf, partText, joined}
 use Rattle.csv.proofs.CsvLaws.{append-none}
-use Rattle.csv.proofs.ReadingLaws.{file-back}
 
 -- what is behind a record that is begun
 behindOpen : List Row → List ℕ
@@ -59,7 +56,3 @@ all-calls begun (field ∷ fields) =
 pub calls-are-file : (fields : List Field) → joined false fields ≡ fileText (recordsOf fields)
 unfolding after
 calls-are-file fields = all-calls false fields
-
--- AND BACK: read by RFC 4180, what was written of a text says the text's records.
-pub text-comes-back : (text : List ℕ) → rowsOf (joined false (fieldsOf text)) ≡ some (recordsOf (fieldsOf text))
-text-comes-back text = ap rowsOf (calls-are-file (fieldsOf text)) ∙ file-back (recordsOf (fieldsOf text))

@@ -1,5 +1,6 @@
 // The blocks of a journal, one after the other: each is decoded by one call with room enough, and cut into fields.
 use crate::cutting;
+use crate::cutting::Cut;
 use crate::records::Progress;
 use codepage::Numbers;
 use convert::Pending;
@@ -21,7 +22,7 @@ pub struct Turn {
     pub failed: bool,
 }
 
-// The place of the first unit over the limit, among the units of a block: `read` of them are read and `held` units are held.
+// How many units of a block stand before the first one over the limit: `read` of them are read, and `held` units are held.
 fn over_limit(read: usize, held: usize) -> usize {
     if Held::LIMIT < held {
         return read;
@@ -46,7 +47,7 @@ fn byte_of(run: Run) -> u64 {
     }
 }
 
-// The byte that a unit of a block is read from: the block is decoded again, with room for the units before it.
+// The byte that a unit of a block is read from: the block is decoded again, with room for the `before` units before it.
 fn byte_at(
     run: Run,
     numbers: Numbers,
@@ -57,8 +58,10 @@ fn byte_at(
     blocks: &[u16],
     block: &[u8],
     last: bool,
-    room: &mut [u16],
+    before: usize,
 ) -> u64 {
+    let mut units = [0u16; 1024];
+    let room = layout::front_units(before, &units);
     let outcome = convert::decode(
         run,
         numbers,
@@ -69,10 +72,36 @@ fn byte_at(
         blocks,
         block,
         last,
-        room,
+        &mut units[..room],
     );
     let after = outcome.run;
     byte_of(after)
+}
+
+// A call that was not taken, or a block that could not be read.
+fn broken(run: Run, state: Held, progress: Progress) -> Turn {
+    Turn {
+        run,
+        state,
+        progress,
+        refused: false,
+        place: 0,
+        failed: true,
+    }
+}
+
+// A block whose units were cut, as far as they could be.
+fn settled(run: Run, cut: Cut, place: u64) -> Turn {
+    let state = cut.state;
+    let progress = cut.progress;
+    Turn {
+        run,
+        state,
+        progress,
+        refused: cut.refused,
+        place,
+        failed: progress.failed,
+    }
 }
 
 // Decodes a block and cuts its units.
@@ -112,14 +141,7 @@ fn cut_block(
     let number = answer.number();
     if !is_taken(number) {
         messages::refuse(number, input);
-        return Turn {
-            run: after,
-            state,
-            progress,
-            refused: false,
-            place: 0,
-            failed: true,
-        };
+        return broken(after, state, progress);
     }
     let filled = layout::front_units(outcome.written, &units);
     let ends = last && number == 0;
@@ -133,32 +155,24 @@ fn cut_block(
         target,
         output,
     );
+    if !cut.refused {
+        return settled(after, cut, 0);
+    }
     let held = cut.state;
-    let so_far = cut.progress;
-    let mut place = 0;
-    if cut.refused {
-        let over = layout::front_units(over_limit(cut.read, held.count), &units);
-        place = byte_at(
-            run,
-            numbers,
-            classes,
-            singles,
-            pairs,
-            index,
-            blocks,
-            block,
-            last,
-            &mut units[..over],
-        );
-    }
-    Turn {
-        run: after,
-        state: held,
-        progress: so_far,
-        refused: cut.refused,
-        place,
-        failed: so_far.failed,
-    }
+    let before = over_limit(cut.read, held.count);
+    let place = byte_at(
+        run,
+        numbers,
+        classes,
+        singles,
+        pairs,
+        index,
+        blocks,
+        block,
+        last,
+        before,
+    );
+    settled(after, cut, place)
 }
 
 // The next block.
@@ -186,14 +200,7 @@ fn next_block(
     let count = files::read_some(source, size, &mut block);
     if count < size {
         files::say_short(source, input);
-        return Turn {
-            run,
-            state,
-            progress,
-            refused: false,
-            place: 0,
-            failed: true,
-        };
+        return broken(run, state, progress);
     }
     cut_block(
         run,
