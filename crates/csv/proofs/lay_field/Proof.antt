@@ -37,7 +37,8 @@ loop-again c = (
   omega arith,
   c .before .out .given ∙ c .before .before .before .before .before .before .loop .inv .1,
   c .before .before .before .before .before .before .loop .inv .2,
-  laid-turn (c .before .before .before .before .before .before .before .before .before .args .field .now) (c .before .before .before .before .before .before .loop .i) (omega arith) (c .before .before .before .before .before .before .loop .inv .2) (c .before .before .before .before .before .before .loop .inv .3) (c .before .before .lay-escaped .ensures),
+  let l = c .before .before .before .before .before .before .loop in
+      laid-turn (c .before .before .before .before .before .before .before .before .before .args .field .now) (l .i) (omega arith) (l .inv .2) (l .inv .3) (c .before .before .lay-escaped .ensures),
 )
 
 same-length : tie.Need-same-length Inv-loop μ-loop

@@ -35,9 +35,10 @@ same-length c = search needs
 
 returns : tie.Need-returns
 returns c =
-    let a = c .before .before .before .before .before .before .before .before .before .before .before .before .before .before .args in
+    let start = c .before .before .before .before .before .before .before .before .before .before .before .before .before .before in
+    let a = start .args in
     let first = c .before .before .before .before .before .before .before .before .before in
-    part-laid (a .begun) (a .quotes) (a .closed) (a .field .now) (c .before .before .before .before .before .before .before .before .before .before .before .before .before .before .pre) (first .before .lay-if .ensures) (c .before .before .before .before .before .before .lay-quoted .ensures) (c .before .before .lay-break .ensures) (first .out .given)
+    part-laid (a .begun) (a .quotes) (a .closed) (a .field .now) (start .pre) (first .before .lay-if .ensures) (c .before .before .before .before .before .before .lay-quoted .ensures) (c .before .before .lay-break .ensures) (first .out .given)
 
 pub lay-part-spec : {M : Type 1} → statement M
 lay-part-spec =

@@ -25,9 +25,10 @@ same-length c = search needs
 
 returns : tie.Need-returns
 returns c =
-    let a = c .before .before .before .before .before .before .before .before .before .before .before .before .before .before .args in
+    let start = c .before .before .before .before .before .before .before .before .before .before .before .before .before .before in
+    let a = start .args in
     let first = c .before .before .before .before .before .before .before .before .before in
-    quotes-laid (a .quotes) (a .field .now) (c .before .before .before .before .before .before .before .before .before .before .before .before .before .before .pre) (first .before .lay-if .ensures) (c .before .before .before .before .before .before .lay-field .ensures) (c .before .before .lay-if2 .ensures) (first .out .given)
+    quotes-laid (a .quotes) (a .field .now) (start .pre) (first .before .lay-if .ensures) (c .before .before .before .before .before .before .lay-field .ensures) (c .before .before .lay-if2 .ensures) (first .out .given)
 
 pub lay-quoted-spec : {M : Type 1} → statement M
 lay-quoted-spec =

@@ -46,13 +46,19 @@ returns : tie.Need-returns Inv-loop μ-loop
 returns c = tt
 
 add-at : tie.Need-add-at Inv-loop μ-loop
-add-at c = let d = c .before .before .is-done .ensures (c .before .if1 .left) in omega (arith, d .1, c .before .before .before .before .before .before .before .before .before .before .before .before .before .loop .inv .0, c .before .before .before .before .before .before .before .before .before .before .before .before .before .loop .inv .3)
+add-at c =
+    let d = c .before .before .is-done .ensures (c .before .if1 .left) in
+    let inv = c .before .before .before .before .before .before .before .before .before .before .before .before .before .loop .inv in
+    omega (arith, d .1, inv .0, inv .3)
 
 loop-less : tie.Need-loop-less Inv-loop μ-loop
 loop-less c = let d = c .before .before .is-done .ensures (c .before .if1 .left) in omega (arith, d .0)
 
 loop-again : tie.Need-loop-again Inv-loop μ-loop
-loop-again c = let d = c .before .before .is-done .ensures (c .before .if1 .left) in (omega (arith, d .1), c .before .before .before .before .before .before .before .before .buffer .given ∙ c .before .before .before .before .before .before .before .before .before .before .before .before .before .loop .inv .1, c .before .before .before .before .before .before .out .given ∙ c .before .before .before .before .before .before .before .before .before .before .before .before .before .loop .inv .2, c .before .before .before .before .before .before .before .before .before .before .before .before .before .loop .inv .3)
+loop-again c =
+    let d = c .before .before .is-done .ensures (c .before .if1 .left) in
+    let inv = c .before .before .before .before .before .before .before .before .before .before .before .before .before .loop .inv in
+    (omega (arith, d .1), c .before .before .before .before .before .before .before .before .buffer .given ∙ inv .1, c .before .before .before .before .before .before .out .given ∙ inv .2, inv .3)
 
 pub cut-units-spec : {M : Type 1} → statement M
 cut-units-spec =
