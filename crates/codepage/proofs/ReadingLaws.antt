@@ -1,13 +1,19 @@
 -- Laws of the codes of a call, over any reader.
-use mathlib.Core.Bool.{Bool, true, false}
+use mathlib.Core.Bool.{Bool, true, false, _||_}
 use mathlib.Core.List.{List, [], _∷_, _++_}
 use mathlib.Core.Option.{Option, none, some}
 use mathlib.Core.Path.{_≡_, refl, sym, ap, _∙_}
-use Prim.Native.Nat.{ℕ, _+_}
-use lib.ListN.{length, length-append}
-use Rattle.codepage.specs.Reading.{Reader, Code, unitsOf, sizeOf, alone, together, completed, waitsThen, codesAtEnd, callCodes, waitingUnit, waitingUnits}
+use Prim.Native.Nat.{ℕ, _+_, _≤_}
+use native.Mathlib.Omega.{arith}
+use lib.Dec.{leb}
+use lib.ListN.{length, drop, length-append}
+use Rattle.codepage.specs.CodePage.{pick, entry, isTrail}
+use Rattle.codepage.specs.declared.Kind.the-variants.{Invalid}
+use Rattle.codepage.specs.declared.Lookup.the-variants.{Found, Lacking}
+use Rattle.codepage.specs.Reading.{byteJoins, bytePair, Reader, Code, unitsOf, sizeOf, alone, together, settled, completed, waitsThen, codesAtEnd, callCodes, waitingUnit, waitingUnits}
 
--- ---- one unit more: it waits, it is a code alone, or it completes one
+-- ---- one unit more: it waits, it is a code alone, or it settles the one that waits: they are one code, or that one is a code
+-- alone and it is read afresh
 module _ (r : Reader) (last : Bool) where
   pub codes-wait : (a : ℕ) (l : List ℕ) → r .waits a ≡ true → callCodes r last none (a ∷ l) ≡ callCodes r last (some a) l
   unfolding callCodes completed waitsThen
@@ -17,9 +23,23 @@ module _ (r : Reader) (last : Bool) where
   unfolding callCodes completed waitsThen
   codes-one a l e = rw e
 
-  pub codes-two : (c b : ℕ) (l : List ℕ) → callCodes r last (some c) (b ∷ l) ≡ together r c b ∷ callCodes r last none l
-  unfolding callCodes completed waitsThen
-  codes-two c b l = refl
+  pub codes-two : (c b : ℕ) (l : List ℕ) → r .joins c b ≡ true → callCodes r last (some c) (b ∷ l) ≡ together r c b ∷ callCodes r last none l
+  unfolding callCodes settled completed waitsThen
+  codes-two c b l e = rw e
+
+  pub codes-alone : (c b : ℕ) (l : List ℕ) → r .joins c b ≡ false → callCodes r last (some c) (b ∷ l) ≡ alone r c ∷ callCodes r last none (b ∷ l)
+  unfolding callCodes settled completed waitsThen
+  codes-alone c b l e = rw e
+
+  -- either way
+  pub codes-settled : (c b : ℕ) (l : List ℕ) → callCodes r last (some c) (b ∷ l) ≡ settled r c b ∷ callCodes r last none (drop (sizeOf (settled r c b)) (c ∷ b ∷ l))
+  unfolding settled
+  codes-settled c b l = by-next (r .joins c b) refl
+    where
+      by-next : (t : Bool) → r .joins c b ≡ t
+          → callCodes r last (some c) (b ∷ l) ≡ pick t (together r c b) (alone r c) ∷ callCodes r last none (drop (sizeOf (pick t (together r c b) (alone r c))) (c ∷ b ∷ l))
+      by-next true e = codes-two c b l e
+      by-next false e = codes-alone c b l e
 
   pub waiting-wait : (a : ℕ) (l : List ℕ) → r .waits a ≡ true → waitingUnit r last none (a ∷ l) ≡ waitingUnit r last (some a) l
   unfolding waitingUnit waitsThen
@@ -29,9 +49,21 @@ module _ (r : Reader) (last : Bool) where
   unfolding waitingUnit waitsThen
   waiting-one a l e = rw e
 
-  pub waiting-two : (c b : ℕ) (l : List ℕ) → waitingUnit r last (some c) (b ∷ l) ≡ waitingUnit r last none l
+  pub waiting-two : (c b : ℕ) (l : List ℕ) → r .joins c b ≡ true → waitingUnit r last (some c) (b ∷ l) ≡ waitingUnit r last none l
   unfolding waitingUnit waitsThen
-  waiting-two c b l = refl
+  waiting-two c b l e = rw e
+
+  pub waiting-alone : (c b : ℕ) (l : List ℕ) → r .joins c b ≡ false → waitingUnit r last (some c) (b ∷ l) ≡ waitingUnit r last none (b ∷ l)
+  unfolding waitingUnit waitsThen
+  waiting-alone c b l e = rw e
+
+  pub waiting-settled : (c b : ℕ) (l : List ℕ) → waitingUnit r last (some c) (b ∷ l) ≡ waitingUnit r last none (drop (sizeOf (settled r c b)) (c ∷ b ∷ l))
+  unfolding settled
+  waiting-settled c b l = by-next (r .joins c b) refl
+    where
+      by-next : (t : Bool) → r .joins c b ≡ t → waitingUnit r last (some c) (b ∷ l) ≡ waitingUnit r last none (drop (sizeOf (pick t (together r c b) (alone r c))) (c ∷ b ∷ l))
+      by-next true e = waiting-two c b l e
+      by-next false e = waiting-alone c b l e
 
 -- What holds at the end, and with each unit more, holds of every pending unit and all units.
 pub record EachUnit (r : Reader) (P : Option ℕ → List ℕ → Type 0) : Type 0 where
@@ -39,18 +71,23 @@ pub record EachUnit (r : Reader) (P : Option ℕ → List ℕ → Type 0) : Type
   pub end-some : (c : ℕ) → P (some c) []
   pub wait : (a : ℕ) (l : List ℕ) → r .waits a ≡ true → P (some a) l → P none (a ∷ l)
   pub one : (a : ℕ) (l : List ℕ) → r .waits a ≡ false → P none l → P none (a ∷ l)
-  pub two : (c b : ℕ) (l : List ℕ) → P none l → P (some c) (b ∷ l)
+  pub two : (c b : ℕ) (l : List ℕ) → r .joins c b ≡ true → P none l → P (some c) (b ∷ l)
+  pub alone : (c b : ℕ) (l : List ℕ) → r .joins c b ≡ false → P none (b ∷ l) → P (some c) (b ∷ l)
 
 module _ (r : Reader) (P : Option ℕ → List ℕ → Type 0) (s : EachUnit r P) where
   by-fresh : (a : ℕ) (l : List ℕ) (t : Bool) → r .waits a ≡ t → ((p : Option ℕ) → P p l) → P none (a ∷ l)
   by-fresh a l true e h = s .wait a l e (h (some a))
   by-fresh a l false e h = s .one a l e (h none)
 
+  by-next : (c b : ℕ) (l : List ℕ) (t : Bool) → r .joins c b ≡ t → ((p : Option ℕ) → P p l) → P (some c) (b ∷ l)
+  by-next c b l true e h = s .two c b l e (h none)
+  by-next c b l false e h = s .alone c b l e (by-fresh b l (r .waits b) refl h)
+
   pub by-units : (p : Option ℕ) (l : List ℕ) → P p l
   by-units none [] = s .end-none
   by-units (some c) [] = s .end-some c
   by-units none (a ∷ l) = by-fresh a l (r .waits a) refl (λ (p : Option ℕ). by-units p l)
-  by-units (some c) (b ∷ l) = s .two c b l (by-units none l)
+  by-units (some c) (b ∷ l) = by-next c b l (r .joins c b) refl (λ (p : Option ℕ). by-units p l)
 
 -- ---- the codes cover the units
 abbrev pub joined : List Code → List ℕ
@@ -73,7 +110,8 @@ covers r last =
       end-some = λ c. covers-end r last (some c);
       wait = λ a l e h. rw (codes-wait r last a l e, waiting-wait r last a l e) h;
       one = λ a l e h. rw (codes-one r last a l e, waiting-one r last a l e) (ap (λ (xs : List ℕ). a ∷ xs) h);
-      two = λ c b l h. rw (codes-two r last c b l, waiting-two r last c b l) (ap (λ (xs : List ℕ). c ∷ b ∷ xs) h);
+      two = λ c b l e h. rw (codes-two r last c b l e, waiting-two r last c b l e) (ap (λ (xs : List ℕ). c ∷ b ∷ xs) h);
+      alone = λ c b l e h. rw (codes-alone r last c b l e, waiting-alone r last c b l e) (ap (λ (xs : List ℕ). c ∷ xs) h);
     })
 
 abbrev pub sizesOf : List Code → ℕ
@@ -95,3 +133,31 @@ pub none-waits : (r : Reader) (p : Option ℕ) (l : List ℕ) → waitingUnit r 
 unfolding waitingUnit
 none-waits r p [] = refl
 none-waits r p (a ∷ l) = none-waits r (waitsThen r p a) l
+
+-- ---- the code of a waiting unit: its first unit is the one that waited, and it has at most one more
+pub settled-first : (r : Reader) (c b : ℕ) → settled r c b .first ≡ c
+unfolding settled
+settled-first r c b = by-next (r .joins c b)
+  where
+    by-next : (t : Bool) → pick t (together r c b) (alone r c) .first ≡ c
+    by-next true = refl
+    by-next false = refl
+
+pub more-le : (r : Reader) (c b : ℕ) → length (settled r c b .more) ≤ 1
+unfolding settled
+more-le r c b = by-next (r .joins c b)
+  where
+    by-next : (t : Bool) → length (pick t (together r c b) (alone r c) .more) ≤ 1
+    by-next true = omega arith
+    by-next false = omega arith
+
+-- a pair that has a character is one code
+pub pair-joins : (classes pairs : List ℕ) (lead byte unit : ℕ) → bytePair classes pairs lead byte ≡ Found unit → byteJoins classes byte ≡ true
+unfolding bytePair byteJoins
+pair-joins classes pairs lead byte unit e = by-trail (isTrail (entry classes byte)) refl
+  where
+    by-trail : (t : Bool) → isTrail (entry classes byte) ≡ t → (isTrail (entry classes byte) || leb 0x80 byte) ≡ true
+    by-trail true q = rw q
+    by-trail false q =
+        let lacks : Lacking Invalid ≡ Found unit = rw q at e in
+        absurd (let z : _≡_ {A = ℕ} 0 1 = cc in omega arith)

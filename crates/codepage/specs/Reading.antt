@@ -1,5 +1,6 @@
--- Document 01, "Reading one code from bytes" and "Reading one unit for bytes": what a code means, with no policy.
-use mathlib.Core.Bool.{Bool, true, false}
+-- Document 01, "Reading one code from bytes" and "Reading one unit for bytes", as amended by CR 2: what a code means, with no
+-- policy.
+use mathlib.Core.Bool.{Bool, true, false, _||_}
 use mathlib.Core.List.{List, [], _∷_, _++_}
 use mathlib.Core.Option.{Option, none, some}
 use Prim.Native.Nat.{ℕ, zero, suc, _+_, _*_, _/_, _%_}
@@ -17,9 +18,14 @@ lookup kind value = pick (eqb value 0xFFFF) (Lacking kind) (Found value)
 
 -- Reading one code from bytes.
 
--- One byte. Class single: its character, or undefined single. Class never, and a lead at the end of the whole text: invalid.
+-- One byte. Class single: its character, or undefined single. Class never, and a lead that nothing is taken with (at the end of
+-- the whole text, or before a byte below 80 that may not be second): invalid.
 unfoldable pub byteAlone : (classes singles : List ℕ) → ℕ → Lookup
 byteAlone classes singles byte = pick (isSingle (entry classes byte)) (lookup UndefinedSingle (entry singles byte)) (Lacking Invalid)
+
+-- CR 2: a byte is taken with the lead before it if it may be second, or is 80 or more; else it is read afresh.
+unfoldable pub byteJoins : (classes : List ℕ) → ℕ → Bool
+byteJoins classes byte = isTrail (entry classes byte) || leb 0x80 byte
 
 -- Two bytes. A lead followed by a byte that may be second: its character, or undefined pair. Followed by any other: invalid.
 -- The lead with j leads below it uses block j, at the second byte.
@@ -40,7 +46,9 @@ bytesOf code = pick (leb code 0xFF) (code ∷ []) (code / 256 ∷ code % 256 ∷
 pub record Reader : Type 0 where
   -- whether a unit needs a second one
   pub waits : ℕ → Bool
-  -- a unit alone, or a waiting unit at the end of the whole text
+  -- whether a waiting unit and the one after it are one code
+  pub joins : ℕ → ℕ → Bool
+  -- a unit alone
   pub one : ℕ → Lookup
   -- a waiting unit and the one after it
   pub two : ℕ → ℕ → Lookup
@@ -55,6 +63,7 @@ unfoldable pub decoder : (classes singles pairs : List ℕ) → Reader
 decoder classes singles pairs =
     record {
       waits = λ byte. isLead (entry classes byte);
+      joins = λ lead byte. byteJoins classes byte;
       one = byteAlone classes singles;
       two = bytePair classes pairs;
       writes = unitOf;
@@ -65,6 +74,7 @@ unfoldable pub encoder : (index blocks : List ℕ) → Reader
 encoder index blocks =
     record {
       waits = λ unit. false;
+      joins = λ before unit. false;
       one = unitCode index blocks;
       two = λ before unit. unitCode index blocks unit;
       writes = bytesOf;
@@ -88,17 +98,28 @@ alone r a = record { first = a; more = []; means = r .one a }
 abbrev pub together : Reader → ℕ → ℕ → Code
 together r a b = record { first = a; more = b ∷ []; means = r .two a b }
 
+-- The code of a waiting unit, settled by the one after it: both, or the waiting one alone, and then the next is read afresh.
+unfoldable pub settled : Reader → ℕ → ℕ → Code
+settled r c b = pick (r .joins c b) (together r c b) (alone r c)
+
 -- A call takes codes: those of a unit that waits from before, or none, and of the units after it. Which they are does not
 -- depend on room or policy.
 
+-- a unit that is read afresh: it waits, or it is a code alone
+abbrev pub freshCodes : Reader → ℕ → List Code
+freshCodes r a = pick (r .waits a) [] (alone r a ∷ [])
+
+abbrev pub freshWaits : Reader → ℕ → Option ℕ
+freshWaits r a = pick (r .waits a) (some a) none
+
 -- the codes that one more unit completes, and the unit that waits then
 unfoldable pub completed : Reader → Option ℕ → ℕ → List Code
-completed r none a = pick (r .waits a) [] (alone r a ∷ [])
-completed r (some c) a = together r c a ∷ []
+completed r none a = freshCodes r a
+completed r (some c) a = settled r c a ∷ pick (r .joins c a) [] (freshCodes r a)
 
 unfoldable pub waitsThen : Reader → Option ℕ → ℕ → Option ℕ
-waitsThen r none a = pick (r .waits a) (some a) none
-waitsThen r (some c) a = none
+waitsThen r none a = freshWaits r a
+waitsThen r (some c) a = pick (r .joins c a) none (freshWaits r a)
 
 -- behind the final unit: at the end of the whole text (`last`) a unit that waits is a code alone, else it goes on waiting
 unfoldable pub codesAtEnd : Reader → (last : Bool) → Option ℕ → List Code

@@ -10,7 +10,7 @@ use lib.Bits.{or-zero-l}
 use borrow.Author.Tests.{eqb-true}
 use Rattle.codepage.specs.CodePage.{CodePage, pick, entry, isSingle, isLead}
 use Rattle.codepage.specs.Reading.{byteAlone, bytesOf, Reader, decoder, encoder, Code, unitsOf, sizeOf, alone, together, completed, waitsThen, codesAtEnd, callCodes, codes, waitingUnits}
-use Rattle.codepage.proofs.ReadingLaws.{codes-wait, codes-one, codes-two, none-waits, joined, covers}
+use Rattle.codepage.proofs.ReadingLaws.{codes-wait, codes-one, codes-two, codes-alone, none-waits, joined, covers}
 use Rattle.codepage.specs.declared.Kind.the-variants.{Invalid}
 use Rattle.codepage.specs.declared.Lookup.the-variants.{Found, Lacking}
 use Rattle.engine.specs.declared.Direction.the-variants.{Decoding, Encoding}
@@ -62,9 +62,16 @@ module _ (classes singles pairs : List ℕ) where
 
   two-bytes : (a b : ℕ) (k : Code) (rest : List ℕ) → callCodes r true none (a ∷ b ∷ []) ≡ k ∷ [] → (t : Bool) → isLead (entry classes a) ≡ t → callCodes r true none (a ∷ b ∷ rest) ≡ k ∷ callCodes r true none rest
   unfolding decoder callCodes codesAtEnd
-  two-bytes a b k rest e true w =
-      let q : together r a b ≡ k = cons-path (together r a b) k [] [] (sym (codes-wait r true a (b ∷ []) w ∙ codes-two r true a b []) ∙ e) .0 in
-      codes-wait r true a (b ∷ rest) w ∙ codes-two r true a b rest ∙ ap (λ (x : Code). x ∷ callCodes r true none rest) q
+  two-bytes a b k rest e true w = by-next (r .joins a b) refl
+    where
+      by-next : (t : Bool) → r .joins a b ≡ t → callCodes r true none (a ∷ b ∷ rest) ≡ k ∷ callCodes r true none rest
+      by-next true j =
+          let q : together r a b ≡ k = cons-path (together r a b) k [] [] (sym (codes-wait r true a (b ∷ []) w ∙ codes-two r true a b [] j) ∙ e) .0 in
+          codes-wait r true a (b ∷ rest) w ∙ codes-two r true a b rest j ∙ ap (λ (x : Code). x ∷ callCodes r true none rest) q
+      by-next false j =
+          absurd
+          (codes-some r b (isLead (entry classes b)) refl
+          (cons-path (alone r a) k (callCodes r true none (b ∷ [])) [] (sym (codes-wait r true a (b ∷ []) w ∙ codes-alone r true a b [] j) ∙ e) .1))
   two-bytes a b k rest e false w =
       absurd (codes-some r b (isLead (entry classes b)) refl (cons-path (alone r a) k (callCodes r true none (b ∷ [])) [] (sym (codes-one r true a (b ∷ []) w) ∙ e) .1))
 

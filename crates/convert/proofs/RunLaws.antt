@@ -22,7 +22,7 @@ use Rattle.convert.specs.declared.Run.{Run}
 use Rattle.engine.specs.Policies.{policyAllowed}
 use Rattle.engine.specs.Engine.{Fed, limit, feedFrom}
 use Rattle.convert.specs.Runs.{readLimit, isDecoding, mostWritten, ifPending, validRun, fresh, startOf}
-use Rattle.convert.specs.Calls.{refusal, pendingUnit, pendingCount, finalUnit, readOf, pendingAfter, endedAfter, runAfter, fedBy, acceptedCall, refusedCall, runCall}
+use Rattle.convert.specs.Calls.{refusal, ReadsOrSettles, pendingUnit, pendingCount, finalUnit, readOf, pendingAfter, endedAfter, runAfter, fedBy, acceptedCall, refusedCall, runCall}
 use Rattle.engine.specs.Engine.{converterOf}
 use Rattle.engine.proofs.EffectLaws.{and-left, and-right}
 use Rattle.engine.proofs.EngineLaws.{Shape}
@@ -86,12 +86,12 @@ no-wait : (direction : Direction) (p : CodePage) (policy : Policy) (unit : ℕ) 
 no-wait Decoding p policy unit e q = let z : _≡_ {A = ℕ} 0 1 = cc in omega arith
 no-wait Encoding p policy unit e q = false≢true (sym (encoder-waits (p .index) (p .blocks) policy (p .defaultByte) unit) ∙ q)
 
--- the first unit is read
+-- a unit is read, or one that was pending is used
 read-first : (direction : Direction) (run : Run) (p : CodePage) (piece : List ℕ) (last : Bool) (room b : ℕ) (l : List ℕ) → piece ≡ b ∷ l → widest direction ≤ room
-    → (fedBy direction run p piece last room .answer ≡ 1) ⊎ (pendingCount (run .pending) + 1 ≤ fedBy direction run p piece last room .used)
+    → (fedBy direction run p piece last room .answer ≡ 1) ⊎ (1 ≤ fedBy direction run p piece last room .used)
 unfolding fedBy
 read-first direction run p piece last room b l e w =
-    rw (e, ← pending-units (run .pending)) (reads (widest direction) (converterOf direction p (run .policy)) (bounded-of direction p (run .policy)) last room (pendingUnit (run .pending)) b l w)
+    rw e (reads (widest direction) (converterOf direction p (run .policy)) (bounded-of direction p (run .policy)) last room (pendingUnit (run .pending)) b l w)
 
 module _ (direction : Direction) (run : Run) (p : CodePage) (piece : List ℕ) (last : Bool) (room : ℕ) (a : Accepted direction run p (length piece)) where
   f : Fed
@@ -218,21 +218,29 @@ module _ (direction : Direction) (run : Run) (p : CodePage) (piece : List ℕ) (
       })
 
   -- the reading promise
-  reads-some : 1 ≤ length piece → widest direction ≤ room → 1 ≤ read′
+  reads-some : 1 ≤ length piece → widest direction ≤ room → ReadsOrSettles read′ (run .pending) (pendingAfter (run .pending) piece (f .answer) (f .used))
   unfolding f
   reads-some h w = by-case (some-read piece refl h)
     where
-      some-read : (l : List ℕ) → piece ≡ l → 1 ≤ length l → (f .answer ≡ 1) ⊎ (pendingCount (run .pending) + 1 ≤ f .used)
+      some-read : (l : List ℕ) → piece ≡ l → 1 ≤ length l → (f .answer ≡ 1) ⊎ (1 ≤ f .used)
       some-read [] e q = absurd (omega arith)
       some-read (b ∷ l) e q = read-first direction run p piece last room b l e w
 
-      by-case : (f .answer ≡ 1) ⊎ (pendingCount (run .pending) + 1 ≤ f .used) → 1 ≤ read′
-      by-case (inl e) = omega (arith, read-all e)
-      by-case (inr e) = by-answer (eqb (f .answer) 1) refl
+      settles : (f .answer ≡ 1 → ⊥) → 1 ≤ f .used → pendingAfter (run .pending) piece (f .answer) (f .used) ≡ Nothing
+      settles n u = unfold pendingAfter in rw (ne-eqb (f .answer) 1 n, ne-eqb (f .used) 0 (λ z. omega arith))
+
+      by-answer : 1 ≤ f .used → (t : Bool) → eqb (f .answer) 1 ≡ t → (pending : Pending) → run .pending ≡ pending
+          → ReadsOrSettles read′ (run .pending) (pendingAfter (run .pending) piece (f .answer) (f .used))
+      by-answer u true q pending e = inl (omega (arith, read-all (eqb-true _ _ q)))
+      by-answer u false q Nothing e = inl (omega (arith, read-used (eqb-false _ _ q), ap pendingCount e))
+      by-answer u false q (Byte byte) e = inr (λ z. some-pending byte (sym e ∙ z), settles (eqb-false _ _ q) u)
         where
-          by-answer : (t : Bool) → eqb (f .answer) 1 ≡ t → 1 ≤ read′
-          by-answer true q = omega (arith, read-all (eqb-true _ _ q))
-          by-answer false q = omega (arith, read-used (eqb-false _ _ q))
+          some-pending : (byte : ℕ) → Byte byte ≡ Nothing → ⊥
+          some-pending byte z = let y : _≡_ {A = ℕ} 0 1 = cc in omega arith
+
+      by-case : (f .answer ≡ 1) ⊎ (1 ≤ f .used) → ReadsOrSettles read′ (run .pending) (pendingAfter (run .pending) piece (f .answer) (f .used))
+      by-case (inl e) = inl (omega (arith, read-all e))
+      by-case (inr u) = by-answer u (eqb (f .answer) 1) refl (run .pending) refl
 
 -- EVERY ACCEPTED CALL gives a run that keeps the rules; a refused one gives back the run it was handed.
 pub call-kept : (direction : Direction) (run : Run) (p : CodePage) (piece : List ℕ) (last : Bool) (room : ℕ) → refusal direction run p (length piece) ≡ 0
@@ -255,9 +263,9 @@ totals-fit run e = (valid-facts run e .read, by-direction (run .direction) (vali
     by-direction Encoding h = omega (arith, valid-facts run e .read)
 
 -- THE READING PROMISE: with a non-empty input and room for one unit (decoding) or two bytes (encoding), an accepted call reads
--- at least one unit of input.
+-- a unit of input or settles the pending one. (CR 2)
 pub reading-promise : (direction : Direction) (run : Run) (p : CodePage) (piece : List ℕ) (last : Bool) (room : ℕ) → refusal direction run p (length piece) ≡ 0
-    → 1 ≤ length piece → widest direction ≤ room → 1 ≤ runCall direction run p piece last room .read
-unfolding runCall f acceptedCall
+    → 1 ≤ length piece → widest direction ≤ room → ReadsOrSettles (runCall direction run p piece last room .read) (run .pending) (runCall direction run p piece last room .run .pending)
+unfolding runCall f acceptedCall runAfter
 reading-promise direction run p piece last room e h w =
     rw (eq-eqb (refusal direction run p (length piece)) 0 e) (reads-some direction run p piece last room (accepted-facts direction run p (length piece) e) h w)

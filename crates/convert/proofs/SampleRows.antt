@@ -1,16 +1,17 @@
--- The rows of document 01 hold of the rules, the sample page has a good shape, and texts on it return or do not.
+-- The rows of document 01 and of CR 2 hold of the rules, the sample page has a good shape, and texts on it return or do not.
 use mathlib.Core.List.{List, [], _∷_}
 use mathlib.Core.Path.{_≡_, refl, sym, ap, _∙_, subst}
 use Prim.Native.Nat.{ℕ}
 use native.Mathlib.Omega.{arith}
 use Rattle.codepage.specs.CodePage.{GoodShape}
 use Rattle.codepage.specs.Reading.{bytesOf, Code, codes}
-use Rattle.codepage.specs.declared.Lookup.the-variants.{Found}
+use Rattle.codepage.specs.declared.Kind.the-variants.{Invalid}
+use Rattle.codepage.specs.declared.Lookup.the-variants.{Found, Lacking}
 use Rattle.codepage.proofs.ShapeLaws.{shape-exact}
 use Rattle.engine.specs.declared.Direction.the-variants.{Decoding, Encoding}
 use Rattle.engine.specs.Engine.{readerOf}
 use Rattle.convert.specs.RoundTrips.{RoundTrips, UnitsReturn, BytesReturn}
-use Rattle.convert.specs.Sample.{samplePage, rows, AllHold}
+use Rattle.convert.specs.Sample.{samplePage, rows, badHalfRows, AllHold}
 use Rattle.convert.proofs.Computing.{shapeRules, readingRules, callRules}
 
 pub sample-good : GoodShape samplePage
@@ -21,6 +22,21 @@ sample-good = shape-exact samplePage .0 refl
 pub rows-hold : AllHold rows
 unfolding callRules
 rows-hold = (refl, (refl, (refl, (refl, (refl, (refl, (refl, (refl, (refl, (refl, (refl, (refl, (refl, (refl, (refl, (refl, tt))))))))))))))))
+
+-- THE ROWS OF CR 2.
+pub bad-halves-hold : AllHold badHalfRows
+unfolding callRules
+bad-halves-hold = (refl, (refl, (refl, (refl, (refl, (refl, (refl, (refl, tt))))))))
+
+-- their codes: 82 alone and 0A, and 82 80 together
+pub bad-half-alone : codes (readerOf Decoding samplePage) (0x82 ∷ 0x0A ∷ [])
+    ≡ record { first = 0x82; more = []; means = Lacking Invalid } ∷ record { first = 0x0A; more = []; means = Found 0x000A } ∷ []
+unfolding readingRules
+bad-half-alone = refl
+
+pub bad-half-taken : codes (readerOf Decoding samplePage) (0x82 ∷ 0x80 ∷ []) ≡ record { first = 0x82; more = 0x80 ∷ []; means = Lacking Invalid } ∷ []
+unfolding readingRules
+bad-half-taken = refl
 
 -- ---- texts that return, and one that does not
 -- 4E00 and 827C belong together.

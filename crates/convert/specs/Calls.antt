@@ -2,8 +2,9 @@
 use mathlib.Core.Bool.{Bool, true, false, not, _&&_}
 use mathlib.Core.List.{List, [], _∷_, _++_}
 use mathlib.Core.Option.{Option, none, some}
+use mathlib.Core.Logic.{_⊎_}
 use mathlib.Core.Path.{_≡_}
-use Prim.Native.Nat.{ℕ, _+_, _-_}
+use Prim.Native.Nat.{ℕ, _+_, _-_, _≤_}
 use lib.Dec.{leb, eqb}
 use lib.ListN.{length}
 use lib.Bits.{bitOr}
@@ -69,6 +70,10 @@ pub record Called : Type 0 where
   pub read : ℕ
   pub output : List ℕ
   pub run : Run
+
+-- The reading promise, as amended by CR 2: a unit of input is read, or the pending one is settled (pending before, not pending after).
+abbrev pub ReadsOrSettles : (read : ℕ) → (before after : Pending) → Type 0
+ReadsOrSettles read before after = (1 ≤ read) ⊎ ((before ≡ Nothing → ⊥) × (after ≡ Nothing))
 
 -- What is pending as a unit that waits. All that a call does with it goes through this.
 abbrev pub pendingUnit : Pending → Option ℕ

@@ -1,4 +1,5 @@
--- Document 01, "The little page, and sixteen rows to prove": the sample page, and its rows of run calls.
+-- Document 01, "The little page, and sixteen rows to prove": the sample page, and its rows of run calls, row 7 as amended by CR 2;
+-- and rows of CR 2.
 use mathlib.Core.Bool.{Bool, true, false}
 use mathlib.Core.List.{List, [], _∷_, _++_}
 use mathlib.Core.Path.{_≡_}
@@ -169,8 +170,8 @@ rows =
     ∷ lastCall Decoding (digits 5 5 5) ample (0x82 ∷ []) (allRead 1 (0x30FB ∷ []) (room 8) 4)
     -- 6. 81 5A: 30FB, flag 2
     ∷ lastCall Decoding (digits 5 5 5) ample (0x81 ∷ 0x5A ∷ []) (allRead 2 (0x30FB ∷ []) (room 8) 2)
-    -- 7. 81 0A 41: 30FB 0041, flag 4
-    ∷ lastCall Decoding (digits 5 5 5) ample (0x81 ∷ 0x0A ∷ 0x41 ∷ []) (allRead 3 (0x30FB ∷ 0x0041 ∷ []) (room 7) 4)
+    -- 7. 81 0A 41: 30FB 000A 0041, flag 4 (CR 2)
+    ∷ lastCall Decoding (digits 5 5 5) ample (0x81 ∷ 0x0A ∷ 0x41 ∷ []) (allRead 3 (0x30FB ∷ 0x000A ∷ 0x0041 ∷ []) (room 6) 4)
     -- 8. 83 41: 30FB 0041, flag 4
     ∷ lastCall Decoding (digits 5 5 5) ample (0x83 ∷ 0x41 ∷ []) (allRead 2 (0x30FB ∷ 0x0041 ∷ []) (room 7) 4)
     -- 9. 80, policy 655: F180, flag 1
@@ -220,6 +221,115 @@ rows =
     ∷ lastCall Encoding (digits 5 5 5) ample (0x00A0 ∷ []) (allRead 1 (0x20 ∷ []) (room 8) 0)
     -- 15. encode D83D DE00: 3F 3F, flag 1
     ∷ lastCall Encoding (digits 5 5 5) ample (0xD83D ∷ 0xDE00 ∷ []) (allRead 2 (0x3F ∷ 0x3F ∷ []) (room 7) 1)
+    ∷ []
+
+-- a call, not marked last, on a decoding run that carries 82
+abbrev pub carriedCall : Policy → (lent : List ℕ) → List ℕ → Seen → Row
+carriedCall policy lent piece seen =
+    record {
+      direction = Decoding;
+      run =
+          record {
+            direction = Decoding;
+            page = 7;
+            policy = policy;
+            pending = Byte 0x82;
+            flags = 0;
+            read = 1;
+            written = 0;
+            ended = false;
+          };
+      piece = piece;
+      last = false;
+      lent = lent;
+      seen = seen;
+    }
+
+-- CR 2: when a lead is followed by a byte below 80 that may not be second, only the lead is the invalid code, and the next byte is
+-- read afresh; a byte of 80 or more is still taken with it.
+abbrev pub badHalfRows : List Row
+badHalfRows =
+    -- 82 carried, 0A, room 1: the lead is settled, 0A does not fit and stays unread
+    carriedCall (digits 5 5 5) (room 1) (0x0A ∷ [])
+    (record {
+      number = 2;
+      read = 0;
+      written = 1;
+      lent = 0x30FB ∷ [];
+      flags = 4;
+      totalRead = 1;
+      totalWritten = 1;
+      pending = Nothing;
+      ended = false;
+    })
+    -- room 0: nothing fits, the lead stays carried
+    ∷ carriedCall (digits 5 5 5) [] (0x0A ∷ [])
+    (record {
+      number = 2;
+      read = 0;
+      written = 0;
+      lent = [];
+      flags = 0;
+      totalRead = 1;
+      totalWritten = 0;
+      pending = Byte 0x82;
+      ended = false;
+    })
+    -- policy 551, room 0: the lead is skipped; nothing is read, nothing written, and the run has changed
+    ∷ carriedCall (digits 5 5 1) [] (0x0A ∷ [])
+    (record {
+      number = 2;
+      read = 0;
+      written = 0;
+      lent = [];
+      flags = 4;
+      totalRead = 1;
+      totalWritten = 0;
+      pending = Nothing;
+      ended = false;
+    })
+    -- policy 550: stopped, with 0A unread
+    ∷ carriedCall (digits 5 5 0) ample (0x0A ∷ [])
+    (record {
+      number = 3;
+      read = 0;
+      written = 0;
+      lent = ample;
+      flags = 12;
+      totalRead = 1;
+      totalWritten = 0;
+      pending = Nothing;
+      ended = true;
+    })
+    -- room enough: the lead, and 0A by itself
+    ∷ carriedCall (digits 5 5 5) ample (0x0A ∷ [])
+    (record {
+      number = 0;
+      read = 1;
+      written = 2;
+      lent = 0x30FB ∷ 0x000A ∷ room 7;
+      flags = 4;
+      totalRead = 2;
+      totalWritten = 2;
+      pending = Nothing;
+      ended = false;
+    })
+    -- 81, a lead that may not be second: taken with it, not carried
+    ∷ carriedCall (digits 5 5 5) (room 1) (0x81 ∷ [])
+    (record {
+      number = 0;
+      read = 1;
+      written = 1;
+      lent = 0x30FB ∷ [];
+      flags = 4;
+      totalRead = 2;
+      totalWritten = 1;
+      pending = Nothing;
+      ended = false;
+    })
+    -- 82 7F, marked last: 30FB 007F; 82 80: one invalid code of two bytes
+    ∷ lastCall Decoding (digits 5 5 5) ample (0x82 ∷ 0x7F ∷ []) (allRead 2 (0x30FB ∷ 0x007F ∷ []) (room 7) 4)
+    ∷ lastCall Decoding (digits 5 5 5) ample (0x82 ∷ 0x80 ∷ []) (allRead 2 (0x30FB ∷ []) (room 8) 4)
     ∷ []
 
 abbrev pub AllHold : List Row → Type 0

@@ -11,7 +11,7 @@ use lib.ListN.{length, length-append}
 use lib.Bits.{or-lt}
 use borrow.Author.Tests.{le-leb}
 use Rattle.codepage.specs.CodePage.{CodePage, pick}
-use Rattle.codepage.specs.Reading.{unitOf, bytesOf, decoder, encoder, Code, sizeOf, together, callCodes, waitingUnit, waitingUnits}
+use Rattle.codepage.specs.Reading.{unitOf, bytesOf, decoder, encoder, Code, sizeOf, callCodes, waitingUnit, waitingUnits}
 use Rattle.codepage.proofs.ReadingLaws.{sizesOf, sizes-cover}
 use Rattle.codepage.specs.declared.Kind.{Kind}
 use Rattle.codepage.specs.declared.Kind.the-variants.{UndefinedSingle, UndefinedPair, Invalid}
@@ -25,9 +25,7 @@ use Rattle.engine.specs.declared.policies.Action.the-variants.{Stop, Ski
 use Rattle.engine.specs.Policies.{digitOf, flagOf, actionOf}
 use Rattle.engine.specs.Engine.{Effect, acted, effectOf, Converter, converter, Room, limit, fits, less, Fed, halt, after, stopAt, takeWhen, takeCode, takeCodes, feedFrom}
 use Rattle.engine.specs.Engine.{converterOf, defaultOf}
-use Rattle.engine.proofs.EngineLaws.{feed-two}
 use lib.Dec.{leb}
-use Rattle.engine.specs.Steps.{doesTogether}
 
 -- an effect that writes at most m units and sets none but a kind's flag
 pub record Small (m : ℕ) (k : Effect) : Type 0 where
@@ -91,14 +89,12 @@ module _ (m : ℕ) (v : Converter) (bounded : Bounded m v) where
   reads-codes room [] (some c) h n = inl refl
   reads-codes room (k ∷ ks) waiting h n = inr (omega (arith, taken-some (sizeOf k) room (v .does k) (takeCodes v (less (limit room) (length (v .does k .writes))) ks waiting) (v .does k .stops) h (bounded .each k)))
 
-  -- A call that has units, and room for m, ends with a unit waiting or has used one of them.
+  -- A call that has units, and room for m, ends with a unit waiting or has used one, be it the one that waited before.
   pub reads : (last : Bool) (room : ℕ) (p : Option ℕ) (a : ℕ) (l : List ℕ) → m ≤ room
-      → (feedFrom v last (limit room) p (a ∷ l) .answer ≡ 1) ⊎ (length (waitingUnits p) + 1 ≤ feedFrom v last (limit room) p (a ∷ l) .used)
-  unfolding feedFrom takeCode fits
-  reads last room none a l h =
-      reads-codes room (callCodes (v .reader) last none (a ∷ l)) (waitingUnit (v .reader) last none (a ∷ l)) h (omega (arith, sizes-cover (v .reader) last none (a ∷ l)))
-  reads last room (some c) a l h =
-      rw (feed-two v last (limit room) c a l) (inr (taken-some 2 room (doesTogether v c a) _ (doesTogether v c a .stops) h (bounded .each (together (v .reader) c a))))
+      → (feedFrom v last (limit room) p (a ∷ l) .answer ≡ 1) ⊎ (1 ≤ feedFrom v last (limit room) p (a ∷ l) .used)
+  unfolding feedFrom
+  reads last room p a l h =
+      reads-codes room (callCodes (v .reader) last p (a ∷ l)) (waitingUnit (v .reader) last p (a ∷ l)) h (omega (arith, sizes-cover (v .reader) last p (a ∷ l)))
 
 -- ---- the two directions
 -- how many units a code writes at most

@@ -5,8 +5,8 @@ use mathlib.Core.Option.{Option, none, some}
 use mathlib.Core.Path.{_≡_, refl, sym, ap, _∙_}
 use Prim.Native.Nat.{ℕ}
 use lib.ListN.{drop}
-use Rattle.codepage.specs.Reading.{Reader, Code, sizeOf, alone, together, callCodes, codesAtEnd, codes}
-use Rattle.codepage.proofs.ReadingLaws.{codes-wait, codes-one, codes-two, none-waits}
+use Rattle.codepage.specs.Reading.{Reader, Code, sizeOf, alone, settled, callCodes, codesAtEnd, codes}
+use Rattle.codepage.proofs.ReadingLaws.{codes-wait, codes-one, codes-settled, none-waits}
 use Rattle.engine.specs.declared.Policy.{Policy}
 use Rattle.engine.specs.Engine.{converter, endless, takeCodes, feedFrom, feed, whole}
 use Rattle.engine.proofs.EngineLaws.{uncut}
@@ -16,7 +16,7 @@ use Rattle.engine.proofs.EngineLaws.{uncut}
 abbrev pub firstWhen : (waits : Bool) → Reader → ℕ → Option ℕ → Code
 firstWhen false r a next = alone r a
 firstWhen true r a none = alone r a
-firstWhen true r a (some b) = together r a b
+firstWhen true r a (some b) = settled r a b
 
 abbrev pub firstOf : List ℕ → Option ℕ
 firstOf [] = none
@@ -29,7 +29,7 @@ codes-first r a [] true e = codes-wait r true a [] e ∙ end
   where
     end : callCodes r true (some a) [] ≡ alone r a ∷ callCodes r true none []
     end = unfold callCodes codesAtEnd in refl
-codes-first r a (b ∷ l) true e = codes-wait r true a (b ∷ l) e ∙ codes-two r true a b l
+codes-first r a (b ∷ l) true e = codes-wait r true a (b ∷ l) e ∙ codes-settled r true a b l
 
 -- A CODE IS FIXED BY AT MOST TWO UNITS: the first code is a function of the text's first two, and the rest are the codes of
 -- what is left.

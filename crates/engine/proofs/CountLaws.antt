@@ -10,19 +10,21 @@ use lib.Dec.{eqb}
 use lib.ListN.{length, getD, drop, length-append}
 use lib.Bits.{or-zero-r}
 use Rattle.codepage.specs.CodePage.{pick}
+use Rattle.codepage.specs.Reading.{settled}
+use Rattle.codepage.proofs.ReadingLaws.{more-le}
 use Rattle.engine.specs.declared.policies.CodeEffect.{CodeEffect}
 use Rattle.engine.specs.declared.progress.Progress.{Progress}
 use Rattle.engine.specs.Engine.{Effect, Converter, endless, fits, less, Fed, halt, after, stopAt, takeWhen, takeCode, feedFrom}
-use Rattle.engine.specs.Steps.{unitEffect, byteEffect, summary, optional, stoppedBy, takenBy, doesAlone, doesTogether}
+use Rattle.engine.specs.Steps.{unitEffect, byteEffect, summary, optional, oneIf, stoppedBy, takenBy, doesAlone, doesSettled}
 use Rattle.engine.proofs.EngineLaws.{after-none, after-after, feed-end, feed-last}
-use Rattle.engine.proofs.TurnLaws.{no-more, wait-step, two-step, one-step}
+use Rattle.engine.proofs.TurnLaws.{no-more, wait-step, settled-step, one-step}
 
 -- F is what the whole text gives; s are the numbers of what was taken so far, and `ys` what it would have written.
 pub record Counting (v : Converter) (F : Fed) (text : List ℕ) (waits : Bool) (first : ℕ) (s : Progress) (i : ℕ) : Type 0 where
   pub inside : i ≤ length text
   pub short : length text < 2 ^ 63
-  pub few : s .used ≤ i + i
-  pub little : s .written ≤ i + i
+  pub few : s .used + oneIf waits ≤ i
+  pub little : s .written ≤ s .used + s .used
   pub waiting : waits ≡ true → v .reader .waits first ≡ true
   pub zero-so-far : s .answer ≡ 0
   pub ys : List ℕ
@@ -81,8 +83,8 @@ module _ {v : Converter} {F : Fed} {text : List ℕ} {waits : Bool} {first : ℕ
       record {
         inside = omega arith;
         short = g .short;
-        few = omega (arith, g .few);
-        little = omega (arith, g .little);
+        few = omega (arith, g .few, ap oneIf e);
+        little = g .little;
         waiting = λ y. w;
         zero-so-far = g .zero-so-far;
         ys = g .ys;
@@ -117,27 +119,30 @@ module _ {v : Converter} {F : Fed} {text : List ℕ} {waits : Bool} {first : ℕ
         let t = stop-fact z in
         t .1 ∙ summary-stop F s (g .ys) n k (g .count) (g .sum ∙ ap (after (s .used) (g .ys) (s .flags)) (e ∙ code-stop n k _ (t .0)))
 
-  -- a code of two units, and of one
-  pub count-two : {k : Effect} {r : Progress} → Came k 2 s r → length (k .writes) ≤ 2 → waits ≡ true → i < length text → k ≡ doesTogether v first (getD text i 0) → r .answer ≡ 0 → Counting v F text false first r (i + 1)
+  -- the waiting unit is settled by the next
+  pub count-settled : {k : Effect} {r : Progress} {m : ℕ} → Came k (1 + m) s r → length (k .writes) ≤ 2 → waits ≡ true → i < length text → k ≡ doesSettled v first (getD text i 0)
+      → m ≡ length (settled (v .reader) first (getD text i 0) .more) → r .answer ≡ 0 → Counting v F text false first r (i + m)
   unfolding less
-  count-two {k} {r} c m e h q z =
+  count-settled {k} {r} {m} c b e h q n z =
       let t = taken-fact c z .1 in
       record {
-        inside = omega arith;
+        inside = omega (arith, more-le (v .reader) first (getD text i 0));
         short = g .short;
-        few = omega (arith, g .few, ap (λ (x : Progress). x .used) t);
-        little = omega (arith, g .little, ap (λ (x : Progress). x .written) t);
+        few = omega (arith, g .few, ap oneIf e, ap (λ (x : Progress). x .used) t);
+        little = omega (arith, g .little, ap (λ (x : Progress). x .used) t, ap (λ (x : Progress). x .written) t);
         waiting = λ y. absurd (false≢true y);
         zero-so-far = z;
         ys = g .ys ++ k .writes;
         count = count-length c z;
-        sum = count-taken c (drop (i + 1) text) (two-step v true text i k h waits first e q endless) z;
+        sum = count-taken c (drop (i + m) text) (settled-step v true text i k h waits first m e q n endless) z;
       }
 
-  pub stop-count-two : {k : Effect} {r : Progress} → Came k 2 s r → waits ≡ true → i < length text → k ≡ doesTogether v first (getD text i 0) → (r .answer ≡ 0 → ⊥) → r ≡ summary F
+  pub stop-count-settled : {k : Effect} {r : Progress} {m : ℕ} → Came k (1 + m) s r → waits ≡ true → i < length text → k ≡ doesSettled v first (getD text i 0)
+      → m ≡ length (settled (v .reader) first (getD text i 0) .more) → (r .answer ≡ 0 → ⊥) → r ≡ summary F
   unfolding less
-  stop-count-two {k} {r} c e h q z = count-stop c (drop (i + 1) text) (two-step v true text i k h waits first e q endless) z
+  stop-count-settled {k} {r} {m} c e h q n z = count-stop c (drop (i + m) text) (settled-step v true text i k h waits first m e q n endless) z
 
+  -- a code of one unit
   pub count-one : {k : Effect} {r : Progress} → Came k 1 s r → length (k .writes) ≤ 2 → waits ≡ false → i < length text → v .reader .waits (getD text i 0) ≡ false → k ≡ doesAlone v (getD text i 0) → r .answer ≡ 0
       → Counting v F text waits first r (i + 1)
   unfolding less
@@ -147,7 +152,7 @@ module _ {v : Converter} {F : Fed} {text : List ℕ} {waits : Bool} {first : ℕ
         inside = omega arith;
         short = g .short;
         few = omega (arith, g .few, ap (λ (x : Progress). x .used) t);
-        little = omega (arith, g .little, ap (λ (x : Progress). x .written) t);
+        little = omega (arith, g .little, ap (λ (x : Progress). x .used) t, ap (λ (x : Progress). x .written) t);
         waiting = g .waiting;
         zero-so-far = z;
         ys = g .ys ++ k .writes;

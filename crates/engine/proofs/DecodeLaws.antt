@@ -1,20 +1,23 @@
 -- A code of decoding, as the loop meets it.
 use mathlib.Core.Bool.{Bool, true, false}
 use mathlib.Core.List.{List, [], _∷_}
-use mathlib.Core.Path.{_≡_, ap, _∙_}
+use mathlib.Core.Path.{_≡_, sym, ap, _∙_}
 use Prim.Native.Nat.{ℕ, zero, suc, _+_, _*_, _<_, _≤_}
 use native.Mathlib.Omega.{arith}
 use lib.ListN.{length, set}
 use borrow.Author.Tests.{eq-eqb, ne-eqb}
 use Rattle.codepage.specs.CodePage.{entry, isLead, leadsBelow}
-use Rattle.codepage.specs.Reading.{byteAlone, bytePair, unitOf, decoder}
+use Rattle.codepage.specs.Reading.{byteAlone, unitOf, Reader, decoder, settled}
 use Rattle.codepage.specs.declared.Lookup.{Lookup}
 use Rattle.codepage.proofs.ShapeLaws.{block-there}
+use Rattle.codepage.proofs.ReadingLaws.{settled-first, more-le}
+use Rattle.lookup.specs.declared.LeadCode.{LeadCode}
+use Rattle.lookup.specs.Profile.{SettledAs}
 use Rattle.engine.specs.declared.Policy.{Policy}
 use Rattle.engine.specs.declared.policies.CodeEffect.{CodeEffect}
 use Rattle.engine.specs.declared.progress.Progress.{Progress}
 use Rattle.engine.specs.Engine.{effectOf, converter}
-use Rattle.engine.specs.Steps.{unitEffect, stoppedBy, fullAt, takenBy, Took, DecodeSizes, doesAlone, doesTogether}
+use Rattle.engine.specs.Steps.{unitEffect, stoppedBy, fullAt, takenBy, Took, DecodeSizes, doesAlone, doesSettled}
 use Rattle.engine.proofs.LoopLaws.{took-stop, took-lacks, took-none, took-writes}
 
 -- ---- the four ways of a code
@@ -53,11 +56,6 @@ module _ (classes singles pairs : List ℕ) (policy : Policy) (default : ℕ) (d
   unfolding converter decoder
   decoded-one byte e q = q ∙ ap (effectOf unitOf policy default byte) e
 
-  pub decoded-two : (lead byte : ℕ) → found ≡ bytePair classes pairs lead byte → unitEffect d ≡ effectOf unitOf policy default lead found
-      → unitEffect d ≡ doesTogether (converter (decoder classes singles pairs) policy default) lead byte
-  unfolding converter decoder
-  decoded-two lead byte e q = q ∙ ap (effectOf unitOf policy default lead) e
-
 pub decoder-waits : (classes singles pairs : List ℕ) (policy : Policy) (default byte : ℕ) (t : Bool) → isLead (entry classes byte) ≡ t
     → converter (decoder classes singles pairs) policy default .reader .waits byte ≡ t
 unfolding converter decoder
@@ -67,3 +65,18 @@ pub decoder-lead : (classes singles pairs : List ℕ) (policy : Policy) (default
     → isLead (entry classes byte) ≡ true
 unfolding converter decoder
 decoder-lead classes singles pairs policy default byte e = e
+
+-- ---- a lead that waits, settled by the byte after it
+pub settled-more : (r : Reader) (c b : ℕ) {k : LeadCode} → SettledAs (settled r c b) k → k .more ≤ 1
+settled-more r c b a = omega (arith, a .more, more-le r c b)
+
+module _ (classes singles pairs : List ℕ) (policy : Policy) (default lead byte : ℕ) {k : LeadCode} (a : SettledAs (settled (decoder classes singles pairs) lead byte) k) where
+  pub decoded-settled : (d : CodeEffect) → unitEffect d ≡ effectOf unitOf policy default lead (k .means) → unitEffect d ≡ doesSettled (converter (decoder classes singles pairs) policy default) lead byte
+  unfolding converter decoder
+  decoded-settled d q =
+      q ∙ ap (effectOf unitOf policy default lead) (a .means)
+      ∙ ap (λ (first : ℕ). effectOf unitOf policy default first (settled (decoder classes singles pairs) lead byte .means)) (sym (settled-first (decoder classes singles pairs) lead byte))
+
+  pub decoder-more : k .more ≡ length (settled (converter (decoder classes singles pairs) policy default .reader) lead byte .more)
+  unfolding converter
+  decoder-more = a .more

@@ -17,7 +17,7 @@ use Rattle.engine.specs.declared.Policy.{Policy}
 use Rattle.engine.specs.Policies.{actionOf, flagOf}
 use Rattle.engine.specs.Engine.{Effect, acted, effectOf, Converter, converter, converterOf, Room, less, Fed, halt, takeCode, feedFrom}
 use Rattle.engine.specs.Steps.{doesAlone, doesTogether}
-use Rattle.engine.proofs.EngineLaws.{feed-wait, feed-one, feed-two, feed-end, feed-last, feed-stays}
+use Rattle.engine.proofs.EngineLaws.{feed-wait, feed-one, feed-two, feed-alone, feed-end, feed-last, feed-stays}
 
 -- Two converters of one reader whose codes do the same, alone and together.
 pub record SameDoes (r : Reader) (d e : Code → Effect) : Type 0 where
@@ -49,8 +49,10 @@ module _ (r : Reader) (d e : Code → Effect) (same : SameDoes r d e) (last : Bo
         wait = λ a l q h room. feed-wait v last room a l q ∙ h room ∙ sym (feed-wait w last room a l q);
         one = λ a l q h room. feed-one v last room a l q
             ∙ take-alike room 1 _ _ (λ (x : Room). feedFrom v last x none l) (λ (x : Room). feedFrom w last x none l) (same .one a) h ∙ sym (feed-one w last room a l q);
-        two = λ c b l h room. feed-two v last room c b l
-            ∙ take-alike room 2 _ _ (λ (x : Room). feedFrom v last x none l) (λ (x : Room). feedFrom w last x none l) (same .two c b) h ∙ sym (feed-two w last room c b l);
+        two = λ c b l q h room. feed-two v last room c b l q
+            ∙ take-alike room 2 _ _ (λ (x : Room). feedFrom v last x none l) (λ (x : Room). feedFrom w last x none l) (same .two c b) h ∙ sym (feed-two w last room c b l q);
+        alone = λ c b l q h room. feed-alone v last room c b l q
+            ∙ take-alike room 1 _ _ (λ (x : Room). feedFrom v last x none (b ∷ l)) (λ (x : Room). feedFrom w last x none (b ∷ l)) (same .one c) h ∙ sym (feed-alone w last room c b l q);
       })
 
 -- what an undefined single does is said by the first digit

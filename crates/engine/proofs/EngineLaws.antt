@@ -9,10 +9,10 @@ use native.Mathlib.Numerals.{one-add}
 use native.Mathlib.Omega.{arith}
 use lib.ListN.{length, getD, drop}
 use lib.Bits.{bitOr, or-step, or-zero-l}
-use Rattle.codepage.specs.Reading.{alone, together, callCodes, waitingUnit, completed, waitsThen, codesAtEnd, waitingUnits}
-use Rattle.codepage.proofs.ReadingLaws.{by-units}
+use Rattle.codepage.specs.Reading.{sizeOf, alone, together, settled, callCodes, waitingUnit, completed, waitsThen, codesAtEnd, waitingUnits}
+use Rattle.codepage.proofs.ReadingLaws.{codes-settled, waiting-settled, by-units}
 use Rattle.engine.specs.Engine.{Effect, Converter, Room, endless, fits, less, Fed, halt, after, stopAt, takeWhen, takeCode, takeCodes, feedFrom, feed}
-use Rattle.engine.specs.Steps.{doesAlone, doesTogether}
+use Rattle.engine.specs.Steps.{doesAlone, doesTogether, doesSettled}
 
 -- what a call marked last gives with room for all
 unfoldable pub uncut : Converter → List ℕ → Fed
@@ -57,10 +57,22 @@ module _ (v : Converter) (last : Bool) (room : Room) where
   unfolding feedFrom takeCodes callCodes waitingUnit completed waitsThen
   feed-one a l e = rw e
 
-  pub feed-two : (c b : ℕ) (l : List ℕ)
+  pub feed-two : (c b : ℕ) (l : List ℕ) → v .reader .joins c b ≡ true
       → feedFrom v last room (some c) (b ∷ l) ≡ takeCode room 2 (doesTogether v c b) (feedFrom v last (less room (length (doesTogether v c b .writes))) none l)
-  unfolding feedFrom takeCodes callCodes waitingUnit completed waitsThen
-  feed-two c b l = refl
+  unfolding feedFrom takeCodes callCodes waitingUnit settled completed waitsThen
+  feed-two c b l e = rw e
+
+  pub feed-alone : (c b : ℕ) (l : List ℕ) → v .reader .joins c b ≡ false
+      → feedFrom v last room (some c) (b ∷ l) ≡ takeCode room 1 (doesAlone v c) (feedFrom v last (less room (length (doesAlone v c .writes))) none (b ∷ l))
+  unfolding feedFrom takeCodes callCodes waitingUnit settled completed waitsThen
+  feed-alone c b l e = rw e
+
+  -- either way
+  pub feed-settled : (c b : ℕ) (l : List ℕ)
+      → feedFrom v last room (some c) (b ∷ l)
+      ≡ takeCode room (sizeOf (settled (v .reader) c b)) (doesSettled v c b) (feedFrom v last (less room (length (doesSettled v c b .writes))) none (drop (sizeOf (settled (v .reader) c b)) (c ∷ b ∷ l)))
+  unfolding feedFrom takeCodes
+  feed-settled c b l = rw (codes-settled (v .reader) last c b l, waiting-settled (v .reader) last c b l)
 
 -- and none more
 pub feed-end : (v : Converter) (last : Bool) (room : Room) → feedFrom v last room none [] ≡ halt 0
@@ -155,8 +167,10 @@ module _ (v : Converter) (last : Bool) (rest : List ℕ) (to-end : last ≡ true
         end-some = λ c w room. cut-end last to-end room c w;
         wait = λ a l e h w room. rw (feed-wait v last room a l e, feed-wait v true endless a (l ++ rest) e) (h e room);
         one = λ a l e h w room. rw (feed-one v last room a l e) (cut-code room 1 (doesAlone v a) (a ∷ l) l _ (drop-one a l) (feed-one v true endless a (l ++ rest) e) refl (h tt));
-        two = λ c b l h w room. rw (feed-two v last room c b l)
-            (cut-code room 2 (doesTogether v c b) (c ∷ b ∷ l) l _ (drop-two c b l) (feed-two v true endless c b (l ++ rest)) (feed-wait v true endless c (b ∷ (l ++ rest)) w) (h tt));
+        two = λ c b l e h w room. rw (feed-two v last room c b l e)
+            (cut-code room 2 (doesTogether v c b) (c ∷ b ∷ l) l _ (drop-two c b l) (feed-two v true endless c b (l ++ rest) e) (feed-wait v true endless c (b ∷ (l ++ rest)) w) (h tt));
+        alone = λ c b l e h w room. rw (feed-alone v last room c b l e)
+            (cut-code room 1 (doesAlone v c) (c ∷ b ∷ l) (b ∷ l) _ (drop-one c (b ∷ l)) (feed-alone v true endless c b (l ++ rest) e) (feed-wait v true endless c (b ∷ (l ++ rest)) w) (h tt));
       })
 
 -- THE CUT LAW. One call, of any room, marked last or not, on the units l (what was carried, and then the piece), where `rest` is the
@@ -232,7 +246,8 @@ shape-from v last room p l w =
       end-some = λ c w room. shape-end v last room c w;
       wait = λ a l e h w room. rw (feed-wait v last room a l e) (h e room);
       one = λ a l e h w room. rw (feed-one v last room a l e) (shape-take v last _ _ 1 (doesAlone v a) (a ∷ l) l _ (omega arith) (omega arith) (getD-one a l) (h tt _));
-      two = λ c b l h w room. rw (feed-two v last room c b l) (shape-take v last _ _ 2 (doesTogether v c b) (c ∷ b ∷ l) l _ (omega arith) (omega arith) (getD-two c b l) (h tt _));
+      two = λ c b l e h w room. rw (feed-two v last room c b l e) (shape-take v last _ _ 2 (doesTogether v c b) (c ∷ b ∷ l) l _ (omega arith) (omega arith) (getD-two c b l) (h tt _));
+      alone = λ c b l e h w room. rw (feed-alone v last room c b l e) (shape-take v last _ _ 1 (doesAlone v c) (c ∷ b ∷ l) (b ∷ l) _ (omega arith) (omega arith) (getD-one c (b ∷ l)) (h tt _));
     })
     p l w room
 

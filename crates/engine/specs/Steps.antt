@@ -12,7 +12,7 @@ use Rattle.codepage.specs.Marks.{NoLowLead}
 use Rattle.engine.specs.declared.policies.Action.{Action}
 use Rattle.engine.specs.declared.policies.Action.the-variants.{Stop, Skip, Write}
 use Rattle.engine.specs.declared.policies.CodeEffect.{CodeEffect}
-use Rattle.codepage.specs.Reading.{decoder, encoder, alone, together}
+use Rattle.codepage.specs.Reading.{decoder, encoder, alone, together, settled}
 use Rattle.engine.specs.declared.Policy.{Policy}
 use Rattle.engine.specs.declared.progress.Progress.{Progress}
 use lib.Bits.{bitOr}
@@ -26,6 +26,10 @@ doesAlone v a = v .does (alone (v .reader) a)
 
 abbrev pub doesTogether : Converter → ℕ → ℕ → Effect
 doesTogether v a b = v .does (together (v .reader) a b)
+
+-- what a waiting unit does before the next one: with it, or by itself
+abbrev pub doesSettled : Converter → ℕ → ℕ → Effect
+doesSettled v a b = v .does (settled (v .reader) a b)
 
 -- what an action does, in numbers
 abbrev pub actedAs : ℕ → Action → CodeEffect
@@ -93,10 +97,14 @@ pub record DecodeSizes (classes singles pairs : List ℕ) : Type 0 where
   pub all-pairs : length pairs ≡ 256 * leads classes
   pub no-low-lead : NoLowLead classes
 
--- a pending unit as a flag and a number
+-- a pending unit as a flag and a number; and how many units that is
 abbrev pub optional : Bool → ℕ → Option ℕ
 optional true a = some a
 optional false a = none
+
+abbrev pub oneIf : Bool → ℕ
+oneIf true = 1
+oneIf false = 0
 
 -- what one call of a loop gives
 abbrev pub decodeFed : (classes singles pairs : List ℕ) → Policy → (default : ℕ) → (last : Bool) → (room : ℕ) → Option ℕ → List ℕ → Fed

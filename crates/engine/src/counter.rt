@@ -72,14 +72,15 @@ pub fn count_decoded(
     while i < text.len() {
         let byte = text[i];
         if waits {
-            let code = lookup::byte_pair(classes, pairs, leads, first, byte);
-            let d = policies::decoded(policy, default, first, code);
-            s = count_code(d, 2, units_written(d), s);
+            let code = lookup::settle(classes, pairs, leads, first, byte);
+            let means = code.means;
+            let d = policies::decoded(policy, default, first, means);
+            s = count_code(d, 1 + code.more, units_written(d), s);
             if s.answer != 0 {
                 return s;
             }
             waits = false;
-            i += 1;
+            i += code.more;
         } else if lookup::is_lead(classes, byte) {
             waits = true;
             first = byte;

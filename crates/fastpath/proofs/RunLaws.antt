@@ -12,7 +12,7 @@ use lib.Seq.{sets, length-sets, set-comm, set-getD}
 use lib.Bits.{bitOr, or-zero-r}
 use borrow.Author.Tests.{le-leb, lt-leb, leb-true, leb-false, eqb-true, eqb-false, eq-eqb, ne-eqb}
 use Rattle.codepage.specs.CodePage.{pick, entry, isSingle, isLead}
-use Rattle.codepage.specs.Reading.{Reader, lookup, byteAlone, bytePair, unitCode, bytesOf, decoder, encoder}
+use Rattle.codepage.specs.Reading.{Reader, Code, together, settled, lookup, byteAlone, bytePair, unitCode, bytesOf, decoder, encoder}
 use Rattle.codepage.specs.declared.Lookup.the-variants.{Found}
 use Rattle.engine.specs.declared.Policy.{Policy}
 use Rattle.engine.specs.declared.progress.Progress.{Progress}
@@ -22,7 +22,8 @@ use Rattle.engine.specs.Steps.{sofar, takenBy, Took, movedTo, optional}
 use Rattle.fastpath.specs.Runs.{Ran, SinglesTaken}
 use Rattle.lookup.proofs.ProfileLaws.{single-no-lead}
 use Rattle.engine.proofs.LoopLaws.{later, took-fits}
-use Rattle.engine.proofs.TurnLaws.{one-step, two-step, wait-step}
+use Rattle.engine.proofs.TurnLaws.{one-step, settled-step, wait-step}
+use Rattle.codepage.proofs.ReadingLaws.{pair-joins}
 
 -- a code that has a character: it writes ys
 abbrev written : List ℕ → Effect
@@ -114,15 +115,17 @@ module _ {R : Reader} {piece out : List ℕ} {i w : ℕ} where
         (omega arith) f
 
     -- a unit that waits, and the one after it
-    pub ran-two : (value : ℕ) → i₁ + 1 < length piece → R .waits (getD piece i₁ 0) ≡ true → R .two (getD piece i₁ 0) (getD piece (i₁ + 1) 0) ≡ Found value
+    pub ran-two : (value : ℕ) → i₁ + 1 < length piece → R .waits (getD piece i₁ 0) ≡ true → R .joins (getD piece i₁ 0) (getD piece (i₁ + 1) 0) ≡ true → R .two (getD piece i₁ 0) (getD piece (i₁ + 1) 0) ≡ Found value
         → w₁ + length (R .writes value) ≤ length out₁ → Ran R piece out i w (sets out₁ w₁ (R .writes value)) (i₁ + 2) (w₁ + length (R .writes value))
-    unfolding converter effectOf
-    ran-two value h e q f =
+    unfolding converter effectOf settled
+    ran-two value h e j q f =
         let two : i₁ + 1 + 1 ≡ i₁ + 2 = omega arith in
+        let both : settled R (getD piece i₁ 0) (getD piece (i₁ + 1) 0) ≡ together R (getD piece i₁ 0) (getD piece (i₁ + 1) 0) = rw j in
         ran-more 2 (R .writes value) r
         (λ policy default last room.
         wait-step (converter R policy default) last piece i₁ (omega arith) false 0 refl e room
-        ∙ two-step (converter R policy default) last piece (i₁ + 1) (written (R .writes value)) h true (getD piece i₁ 0) refl (sym (ap (effectOf (R .writes) policy default (getD piece i₁ 0)) q)) room
+        ∙ settled-step (converter R policy default) last piece (i₁ + 1) (written (R .writes value)) h true (getD piece i₁ 0) 1 refl
+        (sym (ap (λ (k : Code). effectOf (R .writes) policy default (k .first) (k .means)) both ∙ ap (effectOf (R .writes) policy default (getD piece i₁ 0)) q)) (sym (ap (λ (k : Code). length (k .more)) both)) room
         ∙ ap (λ (m : ℕ). takeCode room 2 (written (R .writes value)) (feedFrom (converter R policy default) last (less room (length (R .writes value))) none (drop m piece))) two)
         (omega arith) f
 
@@ -157,7 +160,7 @@ module _ (classes singles pairs : List ℕ) {piece out : List ℕ} {i w : ℕ} {
   pub ran-pair : i₁ + 1 < length piece → isLead (entry classes (getD piece i₁ 0)) ≡ true → bytePair classes pairs (getD piece i₁ 0) (getD piece (i₁ + 1) 0) ≡ Found unit
       → Ran (decoder classes singles pairs) piece out i w (set out₁ w₁ unit) (i₁ + 2) (w₁ + 1)
   unfolding decoder
-  ran-pair h e q = ran-two r unit h e q (omega arith)
+  ran-pair h e q = ran-two r unit h e (pair-joins classes pairs _ _ unit q) q (omega arith)
 
 -- ---- a unit of encoding
 module _ (index blocks : List ℕ) {piece out : List ℕ} {i w : ℕ} {out₁ : List ℕ} {i₁ w₁ : ℕ} (r : Ran (encoder index blocks) piece out i w out₁ i₁ w₁) (code : ℕ) (h : i₁ < length piece) (q : unitCode index blocks (getD piece i₁ 0) ≡ Found code) where

@@ -1,4 +1,4 @@
--- Laws of a page's profile.
+-- Laws of looking up, and of a page's profile.
 use mathlib.Core.Bool.{Bool, true, false, not, _||_, true≢false}
 use mathlib.Core.List.{List}
 use mathlib.Core.Path.{_≡_, refl, sym, ap, _∙_}
@@ -6,15 +6,17 @@ use Prim.Native.Nat.{ℕ, _+_, _*_, _/_, _%_, _-_, _<_, _≤_}
 use native.Mathlib.Nat.{zero-add}
 use native.Mathlib.Omega.{arith}
 use lib.Bits.{bitAnd, bitOr, bitXor, and-le-l, and-le-r, or-add-and, xor-add-and}
-use lib.Dec.{ltb, eqb}
+use lib.Dec.{leb, ltb, eqb}
 use lib.ListN.{length, List·getD-eq-default}
-use borrow.Author.Tests.{ltb-true, ltb-false, eq-eqb, ne-eqb, eqb-true}
-use Rattle.codepage.specs.CodePage.{entry, isSingle, isLead, leadsBelow}
+use borrow.Author.Tests.{le-leb, lt-leb, ltb-true, ltb-false, eq-eqb, ne-eqb, eqb-true}
+use Rattle.codepage.specs.CodePage.{entry, isSingle, isLead, isTrail, leadsBelow}
 use Rattle.codepage.specs.Marks.{NoLowLead}
-use Rattle.lookup.specs.Profile.{HalfOf, LeadsAt}
-use Rattle.codepage.specs.Reading.{lookup, byteAlone, unitCode}
+use Rattle.lookup.specs.Profile.{HalfOf, LeadsAt, SettledAs}
+use Rattle.codepage.specs.Reading.{lookup, byteAlone, byteJoins, bytePair, unitCode, decoder, settled}
 use Rattle.codepage.specs.declared.Kind.{Kind}
-use Rattle.codepage.specs.declared.Lookup.the-variants.{Found}
+use Rattle.codepage.specs.declared.Kind.the-variants.{UndefinedPair, Invalid}
+use Rattle.codepage.specs.declared.Lookup.{Lookup}
+use Rattle.codepage.specs.declared.Lookup.the-variants.{Found, Lacking}
 use Rattle.lookup.specs.declared.profile.Half.{Half}
 use Rattle.codepage.proofs.MarkLaws.{allBelow, all-below, or-else, below-steps, below-same, none-low}
 
@@ -44,6 +46,30 @@ single-no-lead class e = by-one (eqb class 1) refl
     by-one : (t : Bool) → eqb class 1 ≡ t → (eqb class 2 || eqb class 6) ≡ false
     by-one true q = rw (eqb-true class 1 q)
     by-one false q = rw (eqb-true class 5 (or-else (eqb class 1) (eqb class 5) q e))
+
+-- ---- a lead, settled by the byte after it
+lead-no-single : (class : ℕ) (t : Bool) → isSingle class ≡ t → isLead class ≡ true → isSingle class ≡ false
+lead-no-single class true q e = absurd (true≢false (sym e ∙ single-no-lead class q))
+lead-no-single class false q e = q
+
+module _ (classes singles pairs : List ℕ) (lead byte : ℕ) where
+  -- a byte that may be second
+  pub settled-second : {means : Lookup} → isTrail (entry classes byte) ≡ true → means ≡ lookup UndefinedPair (entry pairs (256 * leadsBelow classes lead + byte))
+      → SettledAs (settled (decoder classes singles pairs) lead byte) (record { means = means; more = 1 })
+  unfolding settled decoder byteJoins bytePair
+  settled-second e q = record { means = q ∙ sym (rw e); more = rw e }
+
+  -- one that may not be: of 80 or more, and below 80
+  pub settled-high : isTrail (entry classes byte) ≡ false → 0x80 ≤ byte → SettledAs (settled (decoder classes singles pairs) lead byte) (record { means = Lacking Invalid; more = 1 })
+  unfolding settled decoder byteJoins bytePair
+  settled-high e h = record { means = rw (e, le-leb 0x80 byte h); more = rw (e, le-leb 0x80 byte h) }
+
+  pub settled-low : isLead (entry classes lead) ≡ true → isTrail (entry classes byte) ≡ false → byte < 0x80
+      → SettledAs (settled (decoder classes singles pairs) lead byte) (record { means = Lacking Invalid; more = 0 })
+  unfolding settled decoder byteJoins byteAlone
+  settled-low l e h =
+      let single : isSingle (entry classes lead) ≡ false = lead-no-single (entry classes lead) (isSingle (entry classes lead)) refl l in
+      record { means = rw (e, lt-leb 0x80 byte h, single); more = rw (e, lt-leb 0x80 byte h) }
 
 -- ---- entries that are a character
 pub found-entry : (kind : Kind) (value : ℕ) → (value ≡ 0xFFFF → ⊥) → lookup kind value ≡ Found value

@@ -1,9 +1,12 @@
--- Definitions that the contracts of the page's profile cite, and that no promise does.
+-- Definitions that the contracts of looking up and of the page's profile cite, and that no promise does.
 use mathlib.Core.Bool.{true}
 use mathlib.Core.List.{List}
 use mathlib.Core.Path.{_≡_}
 use Prim.Native.Nat.{ℕ, _+_, _*_, _/_, _%_, _<_, _≤_}
+use lib.ListN.{length}
 use Rattle.codepage.specs.CodePage.{entry, isLead, leadsBelow}
+use Rattle.codepage.specs.Reading.{Code}
+use Rattle.lookup.specs.declared.LeadCode.{LeadCode}
 use Rattle.lookup.specs.declared.profile.Leads.{Leads}
 use Rattle.lookup.specs.declared.profile.Half.{Half}
 
@@ -17,6 +20,11 @@ pub record HalfOf (classes : List ℕ) (from : ℕ) (h : Half) : Type 0 where
 pub record LeadsAt (classes : List ℕ) (l : Leads) : Type 0 where
   pub low-half : l .regular ≡ true → (lead : ℕ) → lead < 0xC0 → isLead (entry classes lead) ≡ true → leadsBelow classes lead + l .low ≡ lead
   pub high-half : l .regular ≡ true → (lead : ℕ) → 0xC0 ≤ lead → isLead (entry classes lead) ≡ true → leadsBelow classes lead + l .high ≡ lead
+
+-- a code of a lead: what it means, and how many units it takes after the first
+pub record SettledAs (k : Code) (r : LeadCode) : Type 0 where
+  pub means : r .means ≡ k .means
+  pub more : r .more ≡ length (k .more)
 
 -- the entry of a unit: in the block of its high half at its low half
 abbrev pub unitEntry : (index blocks : List ℕ) → ℕ → ℕ

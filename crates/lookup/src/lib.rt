@@ -5,11 +5,12 @@ pub mod profile;
 
 ghost use mathlib.Core.Path.{_≡_};
 ghost use mathlib.Core.Bool.{true};
+ghost use mathlib.Core.List.{List};
 ghost use Prim.Native.Nat.{ℕ, _+_, _*_, _≤_};
 ghost use lib.ListN.{length};
 ghost use Rattle.codepage.specs.CodePage.{entry, isLead, leadsBelow};
-ghost use Rattle.codepage.specs.Reading.{lookup, byteAlone, bytePair, unitCode};
-ghost use Rattle.lookup.specs.Profile.{LeadsAt, unitEntry};
+ghost use Rattle.codepage.specs.Reading.{lookup, byteAlone, bytePair, unitCode, decoder, settled};
+ghost use Rattle.lookup.specs.Profile.{LeadsAt, SettledAs, unitEntry};
 use codepage::Kind;
 use codepage::Lookup;
 use profile::Leads;
@@ -56,20 +57,31 @@ fn pair_entry(classes: &[u8], pairs: &[u16], leads: Leads, lead: u8, byte: u8) -
     pairs[256 * block + (byte as usize)]
 }
 
-// A lead byte and the byte after it.
-pub fn byte_pair(classes: &[u8], pairs: &[u16], leads: Leads, lead: u8, byte: u8) -> Lookup
+// The code of a lead byte: what it means, and how many bytes it takes after the lead, 0 or 1.
+pub struct LeadCode {
+    pub means: Lookup,
+    pub more: usize,
+}
+
+// A lead byte, settled by the byte after it. A byte below 80 that may not be second is not taken with it.
+pub fn settle(classes: &[u8], pairs: &[u16], leads: Leads, lead: u8, byte: u8) -> LeadCode
     requires { ⌜ (length (now classes) ≡ 256) × (isLead (entry (now classes) lead) ≡ true) × (256 * leadsBelow (now classes) lead + 256 ≤ length (now pairs)) ⌝ }
     requires { ⌜ LeadsAt (now classes) leads ⌝ }
-    ensures { λ r. ⌜ r ≡ bytePair (now (classes .entry)) (now (pairs .entry)) lead byte ⌝ }
+    ensures { λ r. ⌜ ((singles : List ℕ) → SettledAs (settled (decoder (now (classes .entry)) singles (now (pairs .entry))) lead byte) r) ⌝ }
 {
     let at = byte as usize;
     if codepage::is_trail_class(classes[at]) {
-        return found(
+        let means = found(
             Kind::UndefinedPair,
             pair_entry(classes, pairs, leads, lead, byte),
         );
+        return LeadCode { means, more: 1 };
     }
-    Lookup::Lacking(Kind::Invalid)
+    let means = Lookup::Lacking(Kind::Invalid);
+    if byte < 0x80 {
+        return LeadCode { means, more: 0 };
+    }
+    LeadCode { means, more: 1 }
 }
 
 // The character of a byte alone, or FFFF where it has none.

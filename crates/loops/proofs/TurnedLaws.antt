@@ -12,23 +12,24 @@ use lib.Bits.{or-zero-r}
 use lib.Dec.{ltb}
 use borrow.Author.Tests.{ltb-true, ltb-false}
 use Rattle.codepage.specs.Lent.{over}
-use Rattle.codepage.specs.Reading.{Reader}
+use Rattle.codepage.specs.Reading.{Reader, settled}
+use Rattle.codepage.proofs.ReadingLaws.{more-le}
 use Rattle.engine.specs.declared.Policy.{Policy}
 use Rattle.engine.specs.declared.progress.Progress.{Progress}
 use Rattle.engine.specs.Engine.{Effect, Converter, converter, Room, limit, less, Fed, halt, after, takeCode, feedFrom}
-use Rattle.engine.specs.Steps.{sofar, ended, summary, Took, Ends, optional, doesAlone, doesTogether}
+use Rattle.engine.specs.Steps.{sofar, ended, summary, Took, Ends, optional, oneIf, doesAlone, doesSettled}
 use Rattle.engine.proofs.EngineLaws.{after-none, feed-end, feed-last, feed-stays}
 use Rattle.engine.proofs.LoopLaws.{later}
-use Rattle.engine.proofs.TurnLaws.{one-step, two-step, wait-step, no-more}
+use Rattle.engine.proofs.TurnLaws.{one-step, settled-step, wait-step, no-more}
 use Rattle.fastpath.specs.Runs.{Ran}
 use Rattle.loops.specs.declared.turns.Turn.{Turn}
-use Rattle.loops.specs.Turns.{startTurn, movedTurn, pastTurn, waitTurn, oneIf, stepsLeft, Ready, restOf, Turned, Advanced, Closed}
+use Rattle.loops.specs.Turns.{startTurn, movedTurn, pastTurn, waitTurn, stepsLeft, Ready, restOf, Turned, Advanced, Closed}
 
 pub took-as : {k k′ : Effect} {n : ℕ} {s : Progress} {out : List ℕ} {r : Progress} {out′ : List ℕ} → k ≡ k′ → Took k n s out r out′ → Took k′ n s out r out′
 took-as {n = n} {s = s} {out = out} {r = r} {out′ = out′} e w = subst (λ (x : Effect). Took x n s out r out′) e w
 
 -- a turn past one unit comes nearer to the end
-pub past-falls : (piece : List ℕ) (t : Turn) {r : Turn} {s : Progress} → r ≡ pastTurn t s → t .at < length piece → stepsLeft piece r < stepsLeft piece t
+pub past-falls : (piece : List ℕ) (t : Turn) {r : Turn} {s : Progress} → r ≡ pastTurn t 1 s → t .at < length piece → stepsLeft piece r < stepsLeft piece t
 past-falls piece t {r} q h = subst (λ (x : Turn). stepsLeft piece x < stepsLeft piece t) (sym q) (omega arith)
 
 pub wait-falls : (piece : List ℕ) (t : Turn) {r : Turn} {lead : ℕ} → r ≡ waitTurn t lead → t .at < length piece → stepsLeft piece r < stepsLeft piece t
@@ -72,13 +73,13 @@ module _ {v : Converter} {piece out : List ℕ} {t : Turn} where
       → r ≡ waitTurn t (getD piece (t .at) 0) → Turned v piece out t out r
   turned-wait z f e h w q = subst (Turned v piece out t out) (sym q) (waiting-turn z f e h w)
 
-  -- a code of n units is taken, or ends the call
-  turned-took : {k : Effect} {s : Progress} {out′ : List ℕ} (n : ℕ) → Took k n (t .progress) out s out′ → t .at < length piece → n ≤ 1 + oneIf (t .waits)
+  -- a code of n units is taken that ends m units on, or ends the call
+  turned-took : {k : Effect} {s : Progress} {out′ : List ℕ} (n m : ℕ) → Took k n (t .progress) out s out′ → t .at + m ≤ length piece → n ≤ m + oneIf (t .waits)
       → ((last : Bool) (room : Room)
-      → feedFrom v last room (optional (t .waits) (t .lead)) (drop (t .at) piece) ≡ takeCode room n k (feedFrom v last (less room (length (k .writes))) none (drop (t .at + 1) piece)))
-      → Turned v piece out t out′ (pastTurn t s)
+      → feedFrom v last room (optional (t .waits) (t .lead)) (drop (t .at) piece) ≡ takeCode room n k (feedFrom v last (less room (length (k .writes))) none (drop (t .at + m) piece)))
+      → Turned v piece out t out′ (pastTurn t m s)
   unfolding restOf less
-  turned-took {k} {s} {out′} n w h fit step =
+  turned-took {k} {s} {out′} n m w h fit step =
       record {
         same = w .same;
         within = w .within;
@@ -90,23 +91,25 @@ module _ {v : Converter} {piece out : List ℕ} {t : Turn} where
         goes = λ z last.
             let room : length out - t .progress .written - length (k .writes) ≡ length out′ - s .written = omega (arith, w .more z .0, w .same) in
             ap (sofar (t .progress) out) (step last (limit (length out - t .progress .written))) ∙ w .goes z _
-            ∙ ap (λ (m : ℕ). sofar s out′ (feedFrom v last (limit m) none (drop (t .at + 1) piece))) room;
+            ∙ ap (λ (x : ℕ). sofar s out′ (feedFrom v last (limit x) none (drop (t .at + m) piece))) room;
         ends = λ z last. ap (sofar (t .progress) out) (step last (limit (length out - t .progress .written))) ∙ w .ends z _;
       }
 
   module _ {k : Effect} {s : Progress} {out′ : List ℕ} {r : Turn} where
     pub turned-one : Took k 1 (t .progress) out s out′ → t .waits ≡ false → t .at < length piece → v .reader .waits (getD piece (t .at) 0) ≡ false → k ≡ doesAlone v (getD piece (t .at) 0)
-        → r ≡ pastTurn t s → Turned v piece out t out′ r
+        → r ≡ pastTurn t 1 s → Turned v piece out t out′ r
     turned-one u e h w q m =
-        subst (Turned v piece out t out′) (sym m) (turned-took 1 u h (omega arith) (λ last. one-step v last piece (t .at) k h (t .waits) (t .lead) e w q))
+        subst (Turned v piece out t out′) (sym m) (turned-took 1 1 u (omega arith) (omega arith) (λ last. one-step v last piece (t .at) k h (t .waits) (t .lead) e w q))
 
-    -- the unit that waits is settled
-    pub settled : Took k 2 (t .progress) out s out′ → t .waits ≡ true → t .at < length piece → k ≡ doesTogether v (t .lead) (getD piece (t .at) 0) → r ≡ pastTurn t s
-        → Advanced v piece out t out′ r
-    settled u e h q m =
+    -- the unit that waits is settled by the next
+    pub settled-turn : {m : ℕ} → Took k (1 + m) (t .progress) out s out′ → t .waits ≡ true → t .at < length piece → k ≡ doesSettled v (t .lead) (getD piece (t .at) 0)
+        → m ≡ length (settled (v .reader) (t .lead) (getD piece (t .at) 0) .more) → r ≡ pastTurn t m s → Advanced v piece out t out′ r
+    settled-turn {m} u e h q n p =
+        let little : m ≤ 1 = omega (arith, n, more-le (v .reader) (t .lead) (getD piece (t .at) 0)) in
         record {
-          turned = subst (Turned v piece out t out′) (sym m) (turned-took 2 u h (omega (arith, ap oneIf e)) (λ last. two-step v last piece (t .at) k h (t .waits) (t .lead) e q));
-          falls = past-falls piece t m h;
+          turned = subst (Turned v piece out t out′) (sym p)
+              (turned-took (1 + m) m u (omega arith) (omega (arith, ap oneIf e)) (λ last. settled-step v last piece (t .at) k h (t .waits) (t .lead) m e q n));
+          falls = subst (λ (x : Turn). stepsLeft piece x < stepsLeft piece t) (sym p) (omega (arith, ap oneIf e));
         }
 
 -- codes that have characters are taken

@@ -6,7 +6,7 @@ use Prim.Native.Nat.{ℕ, _+_, _-_, _<_, _≤_}
 use lib.ListN.{length, drop}
 use Rattle.engine.specs.declared.progress.Progress.{Progress}
 use Rattle.engine.specs.Engine.{Converter, Fed, limit, feedFrom}
-use Rattle.engine.specs.Steps.{sofar, ended, movedTo, optional}
+use Rattle.engine.specs.Steps.{sofar, ended, movedTo, optional, oneIf}
 use Rattle.loops.specs.declared.turns.Turn.{Turn}
 
 -- ---- where a turn comes to
@@ -18,18 +18,15 @@ startTurn waits lead = record { progress = record { answer = 0; used = 0; writte
 abbrev pub movedTurn : Turn → (at written : ℕ) → Turn
 movedTurn t at written = record { progress = movedTo (t .progress) (at - t .at) written; at = at; waits = false; lead = t .lead }
 
--- past one more unit: none waits, or this one does
-abbrev pub pastTurn : Turn → Progress → Turn
-pastTurn t s = record { progress = s; at = t .at + 1; waits = false; lead = t .lead }
+-- past a code that ends some units on: none waits
+abbrev pub pastTurn : Turn → (count : ℕ) → Progress → Turn
+pastTurn t count s = record { progress = s; at = t .at + count; waits = false; lead = t .lead }
 
+-- past one more unit, which waits
 abbrev pub waitTurn : Turn → (lead : ℕ) → Turn
 waitTurn t lead = record { progress = t .progress; at = t .at + 1; waits = true; lead = lead }
 
 -- ---- what a turn keeps
-
-abbrev pub oneIf : Bool → ℕ
-oneIf true = 1
-oneIf false = 0
 
 -- the most turns that are left: one reads a unit, and one settles it if it waits
 abbrev pub stepsLeft : (piece : List ℕ) → Turn → ℕ

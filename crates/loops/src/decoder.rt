@@ -10,9 +10,9 @@ ghost use Rattle.codepage.specs.Lent.{over};
 ghost use Rattle.codepage.specs.Reading.{decoder};
 ghost use Rattle.lookup.specs.Profile.{LeadsAt};
 ghost use Rattle.engine.specs.Engine.{converter};
-ghost use Rattle.engine.specs.Steps.{doesAlone, summary, Took, Ends, DecodeSizes, optional, decodeFed};
+ghost use Rattle.engine.specs.Steps.{doesAlone, summary, Took, Ends, DecodeSizes, optional, oneIf, decodeFed};
 ghost use Rattle.loops.specs.Ways.{Way};
-ghost use Rattle.loops.specs.Turns.{oneIf, stepsLeft, Ready, Turned, Advanced, Closed};
+ghost use Rattle.loops.specs.Turns.{stepsLeft, Ready, Turned, Advanced, Closed};
 use crate::turns;
 use crate::turns::Turn;
 use engine::Policy;
@@ -67,7 +67,7 @@ fn singles_turn(
     }
     let after = next.progress;
     let taken = take_alone(policy, default, classes, singles, piece[end], after, out);
-    turns::past(next, taken)
+    turns::past(next, 1, taken)
 }
 
 // Pages that have only singles. Their pairs, and whether the call is the last, are asked nothing: they stand in the promise.
@@ -96,7 +96,7 @@ fn decode_singles(
     t.progress
 }
 
-// Settles the lead byte that waits, with the byte behind it.
+// Settles the lead byte that waits, by the byte behind it: they are one code, or the lead is one alone and that byte stays unread.
 fn settle(
     policy: Policy,
     default: u16,
@@ -116,10 +116,11 @@ fn settle(
 {
     let at = t.at;
     let s = t.progress;
-    let code = lookup::byte_pair(classes, pairs, leads, t.lead, piece[at]);
-    let d = policies::decoded(policy, default, t.lead, code);
-    let taken = progress::take_units(d, 2, s, out);
-    turns::past(t, taken)
+    let code = lookup::settle(classes, pairs, leads, t.lead, piece[at]);
+    let means = code.means;
+    let d = policies::decoded(policy, default, t.lead, means);
+    let taken = progress::take_units(d, 1 + code.more, s, out);
+    turns::past(t, code.more, taken)
 }
 
 // The code at a place, if the piece goes on: a lead byte waits, any other byte is taken.
@@ -146,7 +147,7 @@ fn next_code(
     }
     let s = t.progress;
     let taken = take_alone(policy, default, classes, singles, byte, s, out);
-    turns::past(t, taken)
+    turns::past(t, 1, taken)
 }
 
 // Codes that have characters, and the code behind them.

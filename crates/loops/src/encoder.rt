@@ -44,7 +44,7 @@ fn next_unit(
     let d = policies::encoded(policy, default, code);
     let s = t.progress;
     let taken = progress::take_bytes(d, s, out);
-    turns::past(t, taken)
+    turns::past(t, 1, taken)
 }
 
 // A turn of encoding: units whose codes are there, and the unit behind them.

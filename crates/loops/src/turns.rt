@@ -45,14 +45,14 @@ pub fn moved(t: Turn, at: usize, written: usize) -> Turn
     }
 }
 
-// One more unit of the piece was taken, or a code with it ended the call.
-pub fn past(t: Turn, progress: Progress) -> Turn
-    requires { ⌜ t .at + 1 < 2 ^ 64 ⌝ }
-    ensures { λ r. ⌜ r ≡ pastTurn t progress ⌝ }
+// A code was taken, or ended the call, that ends `count` units on in the piece.
+pub fn past(t: Turn, count: usize, progress: Progress) -> Turn
+    requires { ⌜ t .at + count < 2 ^ 64 ⌝ }
+    ensures { λ r. ⌜ r ≡ pastTurn t count progress ⌝ }
 {
     Turn {
         progress,
-        at: t.at + 1,
+        at: t.at + count,
         waits: false,
         lead: t.lead,
     }

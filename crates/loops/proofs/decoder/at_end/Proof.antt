@@ -1,6 +1,6 @@
 use mathlib.Core.Path.{refl, ap}
 use native.Mathlib.Omega.{arith}
-use Rattle.loops.specs.Turns.{oneIf}
+use Rattle.engine.specs.Steps.{oneIf}
 use borrow.Author.Tests.{not-true, not-false}
 use Rattle.loops.proofs.TurnedLaws.{closed-none, closed-wait, closed-last}
 use borrow.Author.Needs.{needs}

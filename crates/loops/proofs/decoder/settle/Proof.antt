@@ -1,34 +1,52 @@
+use mathlib.Core.Path.{ap}
 use native.Mathlib.Omega.{arith}
-use Rattle.engine.proofs.DecodeLaws.{pair-room, decoded-two}
-use Rattle.loops.proofs.TurnedLaws.{settled}
+use Rattle.engine.specs.Steps.{oneIf}
+use Rattle.engine.proofs.DecodeLaws.{pair-room, decoded-settled, decoder-more, settled-more}
+use Rattle.loops.proofs.TurnedLaws.{settled-turn}
 use borrow.Author.Needs.{needs}
 use Rattle.loops.proofs.decoder.settle.Statement.{statement}
 use Rattle.loops.proofs.decoder.settle.Tie as tie
 
-shared-slice-read-byte-pair : tie.Need-shared-slice-read-byte-pair
-shared-slice-read-byte-pair c = search needs
+shared-slice-read-settle : tie.Need-shared-slice-read-settle
+shared-slice-read-settle c = search needs
 
-byte-pair-requires : tie.Need-byte-pair-requires
-byte-pair-requires c κs =
+settle-requires : tie.Need-settle-requires
+settle-requires c κs =
     let pre = c .before .before .before .before .before .before .before .pre in
     ((pre .0 .all-classes, pre .1 .1 .1 .1, pair-room _ _ _ _ (pre .0) (pre .1 .1 .1 .1)), pre .1 .0)
 
 decoded-requires : tie.Need-decoded-requires
 decoded-requires c κs = search needs
 
+add-take-units : tie.Need-add-take-units
+add-take-units c =
+    let code = c .before .before .settle .ensures (c .before .before .before .before .before .before .before .before .before .before .args .singles .now) in
+    omega (arith, settled-more _ _ _ code)
+
 take-units-requires : tie.Need-take-units-requires
-take-units-requires c κs = search needs
+take-units-requires c κs =
+    let start = c .before .before .before .before .before .before .before .before .before .before .before in
+    let ready = start .pre .1 .1 .0 .0 in
+    let inside = start .pre .1 .1 .0 .1 in
+    let short = start .good .1 .1 .1 .1 .1 .1 .0 in
+    let code = c .before .before .before .settle .ensures (c .before .before .before .before .before .before .before .before .before .before .before .args .singles .now) in
+    (ready .within, omega (arith, ready .few, settled-more _ _ _ code, ap oneIf (start .pre .1 .1 .1 .0)))
 
 past-requires : tie.Need-past-requires
-past-requires c κs = omega (arith, c .before .before .before .before .before .before .before .before .before .before .before .before .before .pre .1 .1 .0 .1, c .before .before .before .before .before .before .before .before .before .before .before .before .before .good .1 .1 .1 .1 .1 .1 .0)
+past-requires c κs =
+    let inside = c .before .before .before .before .before .before .before .before .before .before .before .before .before .before .pre .1 .1 .0 .1 in
+    let short = c .before .before .before .before .before .before .before .before .before .before .before .before .before .before .good .1 .1 .1 .1 .1 .1 .0 in
+    let code = c .before .before .before .before .before .before .settle .ensures (c .before .before .before .before .before .before .before .before .before .before .before .before .before .before .args .singles .now) in
+    omega (arith, settled-more _ _ _ code)
 
 same-length : tie.Need-same-length
 same-length c = search needs
 
 returns : tie.Need-returns
 returns c =
-    let pre = c .before .before .before .before .before .before .before .before .before .before .before .before .before .before .pre in
-    settled (c .before .before .before .take-units .ensures) (pre .1 .1 .1 .0) (pre .1 .1 .0 .1) (decoded-two _ _ _ _ _ _ _ _ _ (c .before .before .before .before .before .before .byte-pair .ensures) (c .before .before .before .before .before .decoded .ensures)) (c .past .ensures)
+    let pre = c .before .before .before .before .before .before .before .before .before .before .before .before .before .before .before .pre .1 .1 in
+    let code = c .before .before .before .before .before .before .before .settle .ensures (c .before .before .before .before .before .before .before .before .before .before .before .before .before .before .before .args .singles .now) in
+    settled-turn (c .before .before .before .take-units .ensures) (pre .1 .0) (pre .0 .1) (decoded-settled _ _ _ _ _ _ _ code _ (c .before .before .before .before .before .before .decoded .ensures)) (decoder-more _ _ _ _ _ _ _ code) (c .past .ensures)
 
 pub settle-spec : {M : Type 1} → statement M
-settle-spec = tie.close (tie.spec shared-slice-read-byte-pair byte-pair-requires decoded-requires take-units-requires past-requires same-length returns)
+settle-spec = tie.close (tie.spec shared-slice-read-settle settle-requires decoded-requires add-take-units take-units-requires past-requires same-length returns)
