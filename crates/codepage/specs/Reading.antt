@@ -27,7 +27,8 @@ byteAlone classes singles byte = pick (isSingle (entry classes byte)) (lookup Un
 unfoldable pub byteJoins : (classes : List ℕ) → ℕ → Bool
 byteJoins classes byte = isTrail (entry classes byte) || leb 0x80 byte
 
--- Two bytes. A lead followed by a byte that may be second: its character, or undefined pair. Followed by any other: invalid.
+-- Two bytes. A lead followed by a byte that may be second: its character, or undefined pair. Followed by any other that is taken
+-- with it: invalid.
 -- The lead with j leads below it uses block j, at the second byte.
 unfoldable pub bytePair : (classes pairs : List ℕ) → ℕ → ℕ → Lookup
 bytePair classes pairs lead byte = pick (isTrail (entry classes byte)) (lookup UndefinedPair (entry pairs (256 * leadsBelow classes lead + byte))) (Lacking Invalid)

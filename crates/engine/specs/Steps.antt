@@ -20,14 +20,13 @@ use Rattle.engine.specs.Policies.{stoppedFlag}
 use Rattle.codepage.specs.Lent.{over}
 use Rattle.engine.specs.Engine.{Effect, Converter, Fed, after, takeCode, limit, converter, feedFrom}
 
--- what a unit does that is a code by itself, and two units that are one code
+-- what a unit does that is a code by itself, two units that are one code, and a waiting unit settled by the one after it
 abbrev pub doesAlone : Converter → ℕ → Effect
 doesAlone v a = v .does (alone (v .reader) a)
 
 abbrev pub doesTogether : Converter → ℕ → ℕ → Effect
 doesTogether v a b = v .does (together (v .reader) a b)
 
--- what a waiting unit does before the next one: with it, or by itself
 abbrev pub doesSettled : Converter → ℕ → ℕ → Effect
 doesSettled v a b = v .does (settled (v .reader) a b)
 

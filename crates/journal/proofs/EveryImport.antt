@@ -13,13 +13,13 @@ use Rattle.traces.specs.Examples.{onSample}
 use Rattle.traces.proofs.Computing.{listRules}
 use Rattle.traces.proofs.EveryTrace.{every-trace}
 use Rattle.traces.proofs.ListLaws.{TraceOf, traces-exist}
-use Rattle.fields.specs.declared.End.the-variants.{Bar}
+use Rattle.fields.specs.declared.End.the-variants.{Bar, LineFeed}
 use Rattle.fields.specs.Fields.{Field, fieldsOf, separator, prepend, fieldLimit, AllWithin}
 use Rattle.fields.specs.Cuttings.{Entry, Trace, NoneLast}
 use Rattle.fields.proofs.EveryCutting.{every-cutting}
 use Rattle.fields.proofs.Beginnings.{every-beginning}
 use Rattle.fields.proofs.Witnesses.{all-given}
-use Rattle.journal.specs.Import.{written, isEnded, progress, Imported, nightText, night}
+use Rattle.journal.specs.Import.{written, isEnded, progress, Imported, nightText, night, brokenText}
 
 -- THE THEOREM: for every table set, text, accepted start and list of run calls with results that meet the contracts, every buffer
 -- and every list of field calls on what was written.
@@ -88,3 +88,23 @@ night-kept buffer room =
       cutting = g .1;
       given-are = g .2 ∙ ap fieldsOf all ∙ night-fields;
     }
+
+-- ---- THE NIGHT THAT MADE ONE RECORD OF TWO
+broken-proper : Proper (onSample brokenText)
+unfolding listRules
+broken-proper = record { start = refl; page = omega arith; units = (omega arith, (omega arith, (omega arith, (omega arith, tt)))); within = omega arith }
+
+broken-whole : wholeOf (onSample brokenText) .output ≡ 0x30FB ∷ 0x0A ∷ 0x41 ∷ 0x7C ∷ []
+unfolding listRules wholeOf
+broken-whole = refl
+
+broken-fields : fieldsOf (0x30FB ∷ 0x0A ∷ 0x41 ∷ 0x7C ∷ []) ≡ record { units = 0x30FB ∷ []; end = LineFeed } ∷ record { units = 0x41 ∷ []; end = Bar } ∷ []
+unfolding fieldsOf separator prepend
+broken-fields = refl
+
+-- The line feed behind a broken half ends its record, under every list of run calls and every cutting.
+pub broken-half-kept : (start : Run) (es : List RunEntry) → RunTrace (onSample brokenText) start es → (buffer : List ℕ) (cs : List Entry) → Trace (written (onSample brokenText) es) buffer cs
+    → isEnded (onSample brokenText) es ≡ true → progress (onSample brokenText) es cs .finished ≡ true
+    → progress (onSample brokenText) es cs .given ≡ record { units = 0x30FB ∷ []; end = LineFeed } ∷ record { units = 0x41 ∷ []; end = Bar } ∷ []
+broken-half-kept start es t buffer cs c ended f =
+    every-import (onSample brokenText) broken-proper start es t buffer cs c .all-of-them ended f ∙ ap fieldsOf broken-whole ∙ broken-fields

@@ -37,3 +37,7 @@ nightLine = 0x44 ∷ 9 ∷ 0x37 ∷ 9 ∷ 0x35 ∷ 0x35 ∷ 0x35 ∷ 9 ∷ 0x38 
 
 abbrev pub night : List Call
 night = feeding (0x82 ∷ []) false (room 9) ∷ saving (room 44) ∷ loading nightLine ∷ feeding (0x7C ∷ 0x7C ∷ []) true (room 9) ∷ []
+
+-- The night that made one record of two: a broken half, 81, before a line feed (CR 2).
+abbrev pub brokenText : List ℕ
+brokenText = 0x81 ∷ 0x0A ∷ 0x41 ∷ 0x7C ∷ []

@@ -70,7 +70,8 @@ pub fn settle(classes: &[u8], pairs: &[u16], leads: Leads, lead: u8, byte: u8) -
     ensures { λ r. ⌜ ((singles : List ℕ) → SettledAs (settled (decoder (now (classes .entry)) singles (now (pairs .entry))) lead byte) r) ⌝ }
 {
     let at = byte as usize;
-    if codepage::is_trail_class(classes[at]) {
+    let second = codepage::is_trail_class(classes[at]);
+    if second {
         let means = found(
             Kind::UndefinedPair,
             pair_entry(classes, pairs, leads, lead, byte),

@@ -1,5 +1,6 @@
 use Rattle.codepage.specs.Reading.{lookup}
 use mathlib.Core.Path.{sym, _∙_, ap}
+use native.Mathlib.Omega.{arith}
 use borrow.Author.Needs.{needs}
 use Rattle.lookup.proofs.ProfileLaws.{settled-second, settled-high, settled-low}
 use Rattle.lookup.proofs.settle.Statement.{statement}
@@ -23,10 +24,10 @@ returns c =
 
 returns-2 : tie.Need-returns-2
 returns-2 c =
-    λ singles. settled-low _ singles _ _ _ (c .before .before .before .before .before .before .pre .0 .1) (sym (c .before .before .is-trail-class .ensures) ∙ c .before .if1 .left) (c .if2 .taken)
+    λ singles. settled-low _ singles _ _ _ (c .before .before .before .before .before .before .pre .0 .1) (sym (c .before .before .is-trail-class .ensures) ∙ c .before .if1 .left) (omega (arith, c .if2 .taken))
 
 returns-3 : tie.Need-returns-3
-returns-3 c = λ singles. settled-high _ singles _ _ _ (sym (c .before .before .is-trail-class .ensures) ∙ c .before .if1 .left) (c .if2 .left)
+returns-3 c = λ singles. settled-high _ singles _ _ _ (sym (c .before .before .is-trail-class .ensures) ∙ c .before .if1 .left) (omega (arith, c .if2 .left))
 
 pub settle-spec : {M : Type 1} → statement M
 settle-spec = tie.close (tie.spec shared-slice-read-is-trail-class is-trail-class-requires pair-entry-requires found-requires returns returns-2 returns-3)
