@@ -58,7 +58,11 @@ returns : tie.Need-returns Inv-loop μ-loop
 returns c =
     let code = c .before .before .before .before .before .before .settle .ensures (c .before .before .before .before .before .before .before .before .before .before .before .before .before .before .before .before .args .singles .now) in
     let came = came-units _ _ _ _ _ (c .before .before .before .units-written .ensures) (c .before .before .count-code .ensures) in
-    stop-count-settled (c .before .before .before .before .before .before .before .before .before .before .loop .inv) came (c .before .before .before .before .before .before .before .if1 .taken) (c .before .before .before .before .before .before .before .before .before .loop-test .taken) (decoded-settled _ _ _ _ _ _ _ code _ (c .before .before .before .before .before .decoded .ensures)) (decoder-more _ _ _ _ _ _ _ code) (c .if2 .taken)
+    let turn = c .before .before .before .before .before .before .before .before .before .before .loop in
+    let loop-test = c .before .before .before .before .before .before .before .before .before .loop-test in
+    let if1 = c .before .before .before .before .before .before .before .if1 in
+    let decoded = c .before .before .before .before .before .decoded in
+    stop-count-settled (turn .inv) came (if1 .taken) (loop-test .taken) (decoded-settled _ _ _ _ _ _ _ code _ (decoded .ensures)) (decoder-more _ _ _ _ _ _ _ code) (c .if2 .taken)
 
 add-i : tie.Need-add-i Inv-loop μ-loop
 add-i c =
@@ -74,7 +78,12 @@ loop-again : tie.Need-loop-again Inv-loop μ-loop
 loop-again c =
     let code = c .before .before .before .before .before .before .before .settle .ensures (c .before .before .before .before .before .before .before .before .before .before .before .before .before .before .before .before .before .args .singles .now) in
     let came = came-units _ _ _ _ _ (c .before .before .before .before .units-written .ensures) (c .before .before .before .count-code .ensures) in
-    count-settled (c .before .before .before .before .before .before .before .before .before .before .before .loop .inv) came (units-short _) (c .before .before .before .before .before .before .before .before .if1 .taken) (c .before .before .before .before .before .before .before .before .before .before .loop-test .taken) (decoded-settled _ _ _ _ _ _ _ code _ (c .before .before .before .before .before .before .decoded .ensures)) (decoder-more _ _ _ _ _ _ _ code) (c .before .if2 .left)
+    let turn = c .before .before .before .before .before .before .before .before .before .before .before .loop in
+    let loop-test = c .before .before .before .before .before .before .before .before .before .before .loop-test in
+    let if1 = c .before .before .before .before .before .before .before .before .if1 in
+    let decoded = c .before .before .before .before .before .before .decoded in
+    count-settled (turn .inv) came (units-short _) (if1 .taken) (loop-test .taken) (decoded-settled _ _ _ _ _ _ _ code _ (decoded .ensures)) (decoder-more _ _ _ _ _ _ _ code)
+    (c .before .if2 .left)
 
 is-lead-requires : tie.Need-is-lead-requires Inv-loop μ-loop
 is-lead-requires c κs = c .before .before .before .before .before .before .before .before .before .pre .all-classes
@@ -98,10 +107,28 @@ units-written-requires-2 : tie.Need-units-written-requires-2 Inv-loop μ-loop
 units-written-requires-2 c κs = search needs
 
 count-code-requires-2 : tie.Need-count-code-requires-2 Inv-loop μ-loop
-count-code-requires-2 c κs = (omega (arith, c .before .before .before .before .before .before .before .before .loop .inv .few, c .before .before .before .before .before .before .before .before .loop .inv .short, c .before .before .before .before .before .before .before .loop-test), omega (arith, c .units-written2 .ensures, units-short (c .before .decoded2 .result), c .before .before .before .before .before .before .before .before .loop .inv .little, c .before .before .before .before .before .before .before .before .loop .inv .short, c .before .before .before .before .before .before .before .loop-test))
+count-code-requires-2 c κs =
+    let turn = c .before .before .before .before .before .before .before .before .loop in
+    let loop-test = c .before .before .before .before .before .before .before .loop-test in (
+      omega (arith, turn .inv .few, turn .inv .short, loop-test),
+      omega
+          (arith, c .units-written2 .ensures, units-short (c .before .decoded2 .result), turn .inv .little, turn .inv .short, loop-test),
+    )
 
 returns-2 : tie.Need-returns-2 Inv-loop μ-loop
-returns-2 c = stop-count-one (c .before .before .before .before .before .before .before .before .before .before .before .loop .inv) (came-units _ _ _ _ _ (c .before .before .before .units-written2 .ensures) (c .before .before .count-code2 .ensures)) (c .before .before .before .before .before .before .before .before .if1 .left) (c .before .before .before .before .before .before .before .before .before .before .loop-test .taken) (decoder-waits _ _ _ _ _ _ _ (sym (c .before .before .before .before .before .before .before .is-lead .ensures) ∙ c .before .before .before .before .before .before .if3 .left)) (decoded-one _ _ (c .before .before .before .before .before .before .before .before .before .before .before .before .before .before .before .before .before .args .pairs .now) _ _ _ _ _ (c .before .before .before .before .before .byte-alone .ensures) (c .before .before .before .before .decoded2 .ensures)) (c .if4 .taken)
+returns-2 c =
+    let start = c .before .before .before .before .before .before .before .before .before .before .before .before .before .before .before .before .before in
+    let turn = c .before .before .before .before .before .before .before .before .before .before .before .loop in
+    let loop-test = c .before .before .before .before .before .before .before .before .before .before .loop-test in
+    let if1 = c .before .before .before .before .before .before .before .before .if1 in
+    let is-lead = c .before .before .before .before .before .before .before .is-lead in
+    let if3 = c .before .before .before .before .before .before .if3 in
+    let byte-alone = c .before .before .before .before .before .byte-alone in
+    let decoded2 = c .before .before .before .before .decoded2 in
+    let units-written2 = c .before .before .before .units-written2 in
+    let count-code2 = c .before .before .count-code2 in
+    stop-count-one (turn .inv) (came-units _ _ _ _ _ (units-written2 .ensures) (count-code2 .ensures)) (if1 .left) (loop-test .taken)
+    (decoder-waits _ _ _ _ _ _ _ (sym (is-lead .ensures) ∙ if3 .left)) (decoded-one _ _ (start .args .pairs .now) _ _ _ _ _ (byte-alone .ensures) (decoded2 .ensures)) (c .if4 .taken)
 
 add-i-3 : tie.Need-add-i-3 Inv-loop μ-loop
 add-i-3 c = omega (arith, c .before .before .before .before .before .before .before .before .before .before .before .loop .inv .short, c .before .before .before .before .before .before .before .before .before .before .loop-test .taken)
@@ -110,7 +137,19 @@ loop-less-3 : tie.Need-loop-less-3 Inv-loop μ-loop
 loop-less-3 c = omega (arith, c .before .before .before .before .before .before .before .before .before .before .loop-test .taken)
 
 loop-again-3 : tie.Need-loop-again-3 Inv-loop μ-loop
-loop-again-3 c = count-one (c .before .before .before .before .before .before .before .before .before .before .before .loop .inv) (came-units _ _ _ _ _ (c .before .before .before .units-written2 .ensures) (c .before .before .count-code2 .ensures)) (units-short _) (c .before .before .before .before .before .before .before .before .if1 .left) (c .before .before .before .before .before .before .before .before .before .before .loop-test .taken) (decoder-waits _ _ _ _ _ _ _ (sym (c .before .before .before .before .before .before .before .is-lead .ensures) ∙ c .before .before .before .before .before .before .if3 .left)) (decoded-one _ _ (c .before .before .before .before .before .before .before .before .before .before .before .before .before .before .before .before .before .args .pairs .now) _ _ _ _ _ (c .before .before .before .before .before .byte-alone .ensures) (c .before .before .before .before .decoded2 .ensures)) (c .if4 .left)
+loop-again-3 c =
+    let start = c .before .before .before .before .before .before .before .before .before .before .before .before .before .before .before .before .before in
+    let turn = c .before .before .before .before .before .before .before .before .before .before .before .loop in
+    let loop-test = c .before .before .before .before .before .before .before .before .before .before .loop-test in
+    let if1 = c .before .before .before .before .before .before .before .before .if1 in
+    let is-lead = c .before .before .before .before .before .before .before .is-lead in
+    let if3 = c .before .before .before .before .before .before .if3 in
+    let byte-alone = c .before .before .before .before .before .byte-alone in
+    let decoded2 = c .before .before .before .before .decoded2 in
+    let units-written2 = c .before .before .before .units-written2 in
+    let count-code2 = c .before .before .count-code2 in
+    count-one (turn .inv) (came-units _ _ _ _ _ (units-written2 .ensures) (count-code2 .ensures)) (units-short _) (if1 .left) (loop-test .taken)
+    (decoder-waits _ _ _ _ _ _ _ (sym (is-lead .ensures) ∙ if3 .left)) (decoded-one _ _ (start .args .pairs .now) _ _ _ _ _ (byte-alone .ensures) (decoded2 .ensures)) (c .if4 .left)
 
 byte-alone-requires-2 : tie.Need-byte-alone-requires-2 Inv-loop μ-loop
 byte-alone-requires-2 c κs = (c .before .before .before .before .before .before .before .before .pre .all-classes, c .before .before .before .before .before .before .before .before .pre .all-singles)
@@ -122,10 +161,23 @@ units-written-requires-3 : tie.Need-units-written-requires-3 Inv-loop μ-loop
 units-written-requires-3 c κs = search needs
 
 count-code-requires-3 : tie.Need-count-code-requires-3 Inv-loop μ-loop
-count-code-requires-3 c κs = (omega (arith, c .before .before .before .before .before .loop .inv .few, c .before .before .before .before .before .loop .inv .short, c .before .before .before .before .before .loop .inv .inside), omega (arith, c .units-written3 .ensures, units-least (c .before .decoded3 .result), c .before .before .before .before .before .loop .inv .little, c .before .before .before .before .before .loop .inv .short, c .before .before .before .before .before .loop .inv .inside))
+count-code-requires-3 c κs =
+    let turn = c .before .before .before .before .before .loop in (
+      omega (arith, turn .inv .few, turn .inv .short, turn .inv .inside),
+      omega
+          (arith, c .units-written3 .ensures, units-least (c .before .decoded3 .result), turn .inv .little, turn .inv .short, turn .inv .inside),
+    )
 
 returns-3 : tie.Need-returns-3 Inv-loop μ-loop
-returns-3 c = count-last (c .before .before .before .before .before .before .loop .inv) (came-units _ _ _ _ _ (c .before .units-written3 .ensures) (c .count-code3 .ensures)) (c .before .before .before .before .if5 .taken) (c .before .before .before .before .before .loop-test .left) (decoded-one _ _ (c .before .before .before .before .before .before .before .before .before .before .before .before .args .pairs .now) _ _ _ _ _ (c .before .before .before .byte-alone2 .ensures) (c .before .before .decoded3 .ensures))
+returns-3 c =
+    let start = c .before .before .before .before .before .before .before .before .before .before .before .before in
+    let turn = c .before .before .before .before .before .before .loop in
+    let loop-test = c .before .before .before .before .before .loop-test in
+    let if5 = c .before .before .before .before .if5 in
+    let byte-alone2 = c .before .before .before .byte-alone2 in
+    let decoded3 = c .before .before .decoded3 in
+    count-last (turn .inv) (came-units _ _ _ _ _ (c .before .units-written3 .ensures) (c .count-code3 .ensures)) (if5 .taken) (loop-test .left)
+    (decoded-one _ _ (start .args .pairs .now) _ _ _ _ _ (byte-alone2 .ensures) (decoded3 .ensures))
 
 returns-4 : tie.Need-returns-4 Inv-loop μ-loop
 returns-4 c = count-end (c .before .before .loop .inv) (c .if5 .left) (c .before .loop-test .left)
