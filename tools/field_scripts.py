@@ -368,6 +368,17 @@ def journal(script):
     script.field("1 1 last", "end 1 block:B", 0, "A\u4E00")
     script.note("nothing of the calls before is remembered but state and buffer: the text's fields are given once more")
     script.field("0 2 last", "bar 1 block:", 0, "A\u4E00")
+    script.note("a broken first half before a line feed (CR 2): two records stay two, uncut and with the half at a block's end")
+    script.bytes("810A417C")
+    script.start("D", 7, "555")
+    script.expect("decode 0 4 last 9", "decode 0 4 4 30FB000A0041007C kept D 7 5 5 5 - 4 4 4 over")
+    script.start("D", 7, "555")
+    script.expect("decode 0 1 more 9", "decode 1 1 0 - kept D 7 5 5 5 81 0 1 0 on")
+    script.expect("decode 1 3 last 9", "decode 0 3 4 30FB000A0041007C kept D 7 5 5 5 - 4 4 4 over")
+    script.text("\u30FB;A|")
+    script.field("0 4 last", "line 2 block:\u30FB", 0, "A\u4E00")
+    script.field("2 2 last", "bar 2 block:A", 0, "A\u4E00")
+    script.field("4 0 last", "held 0", 0, "A\u4E00")
 
 
 def fields_script():

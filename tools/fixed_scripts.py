@@ -1,7 +1,8 @@
 """The fixed console scripts, each command with its expected answer (a module of make_scripts.py).
 
-The expected answers are written by hand from document 01, docs/CONSOLE.md and docs/CONSOLE-NOTES.md, and never taken from a
-program. Only what is the same everywhere (counts of elements, the words of a run, tabs of a line as hex) is put together by code.
+The expected answers are written by hand from documents 01 and 02, docs/CONSOLE.md and docs/CONSOLE-NOTES.md, and never taken
+from a program. Only what is the same everywhere (counts of elements, the words of a run, tabs of a line as hex) is put
+together by code.
 
 One call of a run is written in a short form:
 
@@ -263,6 +264,19 @@ def more_seconds(tables):
     tables.set_pair(0x8283, 0x6C36)
 
 
+def low_bytes(tables):
+    """0B never; 0C single, none; 0E never and second: 810E is 3007. 7E is no second byte; 7F and 80 are: 817F is 3008, 8180 is
+    3009."""
+    tables.classes[0x0B] = NEVER
+    tables.singles[0x0C] = NONE
+    tables.classes[0x0E] = NEVER + SECOND
+    tables.classes[0x7E] = SINGLE
+    tables.classes[0x7F] = tables.classes[0x80] = SINGLE + SECOND
+    tables.set_pair(0x810E, 0x3007)
+    tables.set_pair(0x817F, 0x3008)
+    tables.set_pair(0x8180, 0x3009)
+
+
 def default_as_character(tables):
     """41 and 8141 have the default unit as their character."""
     tables.singles[0x41] = 0x30FB
@@ -324,6 +338,7 @@ def all_leads(tables):
 OTHERS = {
     "hidden": hidden_entries,
     "more_seconds": more_seconds,
+    "low_bytes": low_bytes,
     "default_character": default_as_character,
     "odd_codes": odd_codes,
     "odd_defaults": odd_defaults,
@@ -412,7 +427,7 @@ def initial_script():
 
 def rows_script():
     script = Script()
-    script.note("The sixteen rows of document 01")
+    script.note("The sixteen rows of document 01, the seventh as CR 2 of document 02 has it")
     script.sample()
     script.expect("shape", "shape good")
     rows = (
@@ -422,7 +437,7 @@ def rows_script():
         (4, None, None),
         (5, "D{555;-;82;last;9}", "0/1/30FB/4/-/yes"),
         (6, "D{555;-;815A;last;9}", "0/2/30FB/2/-/yes"),
-        (7, "D{555;-;810A41;last;9}", "0/3/30FB0041/4/-/yes"),
+        (7, "D{555;-;810A41;last;9}", "0/3/30FB000A0041/4/-/yes"),
         (8, "D{555;-;8341;last;9}", "0/2/30FB0041/4/-/yes"),
         (9, "D{655;-;80;last;9}", "0/1/F180/1/-/yes"),
         (10, "D{555;-;4142;last;1}", "2/1/0041/0/-/no"),
@@ -627,7 +642,7 @@ def policies_script():
         ("undefined single", 0, 1, "80"),
         ("undefined pair", 1, 2, "815A"),
         ("invalid: never", 2, 4, "83"),
-        ("invalid: lead and another byte", 2, 4, "810A"),
+        ("invalid: lead and a byte from 80 on that may not be second", 2, 4, "8180"),
         ("invalid: lead and lead", 2, 4, "8182"),
         ("invalid: lead at the end", 2, 4, "82"),
     )
@@ -645,6 +660,26 @@ def policies_script():
                 script.call(f"D{{{policy};-;{code};last;0}}", f"0/{read}/-/{flag}/-/yes")
             else:
                 script.call(f"D{{{policy};-;{code};last;0}}", "2/0/-/0/-/no")
+    script.note("invalid: lead before a byte below 80 that may not be second, which is read afresh")
+    for answered in (
+        ("D{000;-;810A;last;3}", "3/1/-/12/-/yes"),
+        ("D{000;-;810A;last;0}", "3/1/-/12/-/yes"),
+        ("D{001;-;810A;last;3}", "0/2/000A/4/-/yes"),
+        ("D{001;-;810A;last;0}", "2/1/-/4/-/no"),
+        ("D{002;-;810A;last;3}", "0/2/0000000A/4/-/yes"),
+        ("D{002;-;810A;last;1}", "2/1/0000/4/-/no"),
+        ("D{002;-;810A;last;0}", "2/0/-/0/-/no"),
+        ("D{003;-;810A;last;3}", "0/2/003F000A/4/-/yes"),
+        ("D{003;-;810A;last;1}", "2/1/003F/4/-/no"),
+        ("D{003;-;810A;last;0}", "2/0/-/0/-/no"),
+        ("D{004;-;810A;last;3}", "0/2/005F000A/4/-/yes"),
+        ("D{004;-;810A;last;1}", "2/1/005F/4/-/no"),
+        ("D{004;-;810A;last;0}", "2/0/-/0/-/no"),
+        ("D{005;-;810A;last;3}", "0/2/30FB000A/4/-/yes"),
+        ("D{005;-;810A;last;1}", "2/1/30FB/4/-/no"),
+        ("D{005;-;810A;last;0}", "2/0/-/0/-/no"),
+    ):
+        script.call(*answered)
     script.note("encoding: the first digit only")
     for digit, output in ((1, "-"), (2, "00"), (3, "3F"), (4, "5F"), (5, "3F")):
         script.call(f"E{{{digit}00;-;1234;last;3}}", f"0/1/{output}/1/-/yes")
@@ -679,8 +714,109 @@ def policies_script():
     return script
 
 
+def bad_halves(script):
+    """Document 02, CR 2, and the readings of it."""
+    script.note("a lead and a byte below 80 that may not be second: the lead alone is invalid")
+    for asked, answered in (
+        ("D{555;-;820A;last;9}", "0/2/30FB000A/4/-/yes"),
+        ("D{555;-;8200;last;9}", "0/2/30FB0000/4/-/yes"),
+        ("D{555;-;827F;last;9}", "0/2/30FB007F/4/-/yes"),
+        # a byte of 80 or more is taken with the lead: single, lead or never, with a character or without
+        ("D{555;-;8280;last;9}", "0/2/30FB/4/-/yes"),
+        ("D{555;-;82A0;last;9}", "0/2/30FB/4/-/yes"),
+        ("D{555;-;82FF;last;9}", "0/2/30FB/4/-/yes"),
+        # what follows
+        ("D{555;-;820A827C;last;9}", "0/4/30FB000A4E00/4/-/yes"),
+        ("D{555;-;820A82;more;9}", "1/3/30FB000A/4/82/no"),
+        ("D{555;-;8281400A;last;9}", "0/4/30FB0040000A/4/-/yes"),
+        ("D{555;-;8181820A;last;9}", "0/4/30FB30FB000A/4/-/yes"),
+        # room ends before and behind the lead
+        ("D{555;-;820A41;last;0}", "2/0/-/0/-/no"),
+        ("D{555;-;820A41;last;1}", "2/1/30FB/4/-/no"),
+        ("D{555;-;820A41;last;2}", "2/2/30FB000A/4/-/no"),
+        ("D{551;-;820A41;last;0}", "2/1/-/4/-/no"),
+        ("D{551;-;820A41;last;1}", "2/2/000A/4/-/no"),
+        ("D{550;-;820A41;more;0}", "3/1/-/12/-/yes"),
+        # the lead was carried: it is settled, and the byte is read only if it fits
+        ("D{555;82;0A;more;9}", "0/1/30FB000A/4/-/no"),
+        ("D{555;82;0A;last;2}", "0/1/30FB000A/4/-/yes"),
+        ("D{555;82;0A;more;1}", "2/0/30FB/4/-/no"),
+        ("D{555;82;0A;last;1}", "2/0/30FB/4/-/no"),
+        ("D{555;82;0A;more;0}", "2/0/-/0/82/no"),
+        ("D{555;82;0A;last;0}", "2/0/-/0/82/no"),
+        # nothing is read and nothing written, and yet the run is another
+        ("D{551;82;0A;more;0}", "2/0/-/4/-/no"),
+        ("D{551;82;0A;last;0}", "2/0/-/4/-/no"),
+        ("D{551;82;0A;more;1}", "0/1/000A/4/-/no"),
+        # the run ends with the byte unread
+        ("D{550;82;0A;more;9}", "3/0/-/12/-/yes"),
+        ("D{550;82;0A;last;0}", "3/0/-/12/-/yes"),
+        ("D{550;82;80;last;0}", "3/1/-/12/-/yes"),
+        ("D{555;82;0A81;more;2}", "1/2/30FB000A/4/81/no"),
+        ("D{555;82;0A81;last;2}", "2/1/30FB000A/4/-/no"),
+        ("D{555;82;7F;more;2}", "0/1/30FB007F/4/-/no"),
+        ("D{555;82;80;more;1}", "0/1/30FB/4/-/no"),
+    ):
+        script.call(asked, answered)
+    script.note("the lead is settled by a call that reads nothing; the run is saved, and the next calls read on")
+    script.bytes("820A41")
+    script.start("D", 7, "555")
+    script.expect("decode 0 1 more 0", "decode 1 1 0 - kept D 7 5 5 5 82 0 1 0 on")
+    script.expect("decode 1 2 more 1", "decode 2 0 1 30FB kept D 7 5 5 5 - 4 1 1 on")
+    line = line_hex("D>7>555>->4>1>1>on;")
+    script.expect("save 44", f"save 0 19 {line} kept")
+    script.start("D", 7, "000")
+    script.expect(f"load {line}", "load 0 D 7 5 5 5 - 4 1 1 on")
+    script.expect("decode 1 2 last 1", "decode 2 1 1 000A kept D 7 5 5 5 - 4 2 2 on")
+    script.expect("decode 2 1 last 1", "decode 0 1 1 0041 kept D 7 5 5 5 - 4 3 3 over")
+    script.note("the same, skipped: read 0, written 0, and the lead is settled; once more, and nothing is left to settle")
+    script.start("D", 7, "551")
+    script.expect("decode 0 1 more 0", "decode 1 1 0 - kept D 7 5 5 1 82 0 1 0 on")
+    line = line_hex("D>7>551>82>0>1>0>on;")
+    script.expect("save 44", f"save 0 20 {line} kept")
+    script.expect("decode 1 2 last 0", "decode 2 0 0 - kept D 7 5 5 1 - 4 1 0 on")
+    script.expect("decode 1 2 last 0", "decode 2 0 0 - kept D 7 5 5 1 - 4 1 0 on")
+    script.expect("decode 1 2 last 2", "decode 0 2 2 000A0041 kept D 7 5 5 1 - 4 3 2 over")
+    script.note("the line that was saved before has the lead still")
+    script.expect(f"load {line}", "load 0 D 7 5 5 1 82 0 1 0 on")
+    script.expect("decode 1 2 last 1", "decode 2 1 1 000A kept D 7 5 5 1 - 4 2 1 on")
+    script.note("stopped with the byte unread")
+    script.start("D", 7, "550")
+    script.expect("decode 0 1 more 0", "decode 1 1 0 - kept D 7 5 5 0 82 0 1 0 on")
+    script.expect("decode 1 2 more 9", "decode 3 0 0 - kept D 7 5 5 0 - 12 1 0 over")
+    script.expect("decode 1 2 more 9", "decode 15 0 0 - kept D 7 5 5 0 - 12 1 0 over")
+    script.note("the byte is read by its own class; one below 80 that may be second is taken with the lead, and so is 80")
+    script.table("low_bytes.tbl", edited(low_bytes))
+    script.expect("shape", "shape good")
+    for asked, answered in (
+        ("D{555;-;810B;last;9}", "0/2/30FB30FB/4/-/yes"),
+        ("D{550;-;810B;last;9}", "3/1/-/12/-/yes"),
+        ("D{551;-;810B41;last;1}", "0/3/0041/4/-/yes"),
+        ("D{555;81;0B;last;1}", "2/0/30FB/4/-/no"),
+        ("D{551;81;0B;more;0}", "0/1/-/4/-/no"),
+        ("D{555;-;810C;last;9}", "0/2/30FB30FB/5/-/yes"),
+        ("D{655;-;810C;last;9}", "0/2/30FBF10C/5/-/yes"),
+        ("D{055;-;810C41;last;9}", "3/2/30FB/13/-/yes"),
+        ("D{055;81;0C41;more;1}", "3/1/30FB/13/-/yes"),
+        ("D{055;81;0C41;more;0}", "2/0/-/0/81/no"),
+        ("D{051;81;0C41;more;0}", "3/1/-/13/-/yes"),
+        ("D{150;81;0C41;more;0}", "3/0/-/12/-/yes"),
+        ("D{555;-;810E;last;9}", "0/2/3007/0/-/yes"),
+        ("D{555;81;0E;last;1}", "0/1/3007/0/-/yes"),
+        ("D{555;-;820E;last;9}", "0/2/30FB/2/-/yes"),
+        ("D{555;-;0E;last;9}", "0/1/30FB/4/-/yes"),
+        ("D{555;-;817E;last;9}", "0/2/30FB007E/4/-/yes"),
+        ("D{555;-;817F;last;9}", "0/2/3008/0/-/yes"),
+        ("D{555;-;8180;last;9}", "0/2/3009/0/-/yes"),
+        ("D{555;-;8280;last;9}", "0/2/30FB/2/-/yes"),
+        ("D{555;-;8181;last;9}", "0/2/30FB/4/-/yes"),
+    ):
+        script.call(asked, answered)
+    script.sample()
+
+
 def calls_script():
-    """Document 01's 'One call of a run' and the readings of it."""
+    """Document 01's 'One call of a run' and the readings of it, with document 02's CR 2."""
     script = Script()
     script.note("One call of a run, case by case")
     script.sample()
@@ -715,9 +851,8 @@ def calls_script():
         ("D{555;82;81;more;1}", "0/1/30FB/4/-/no"),
         ("D{555;82;81;more;0}", "2/0/-/0/82/no"),
         ("D{555;82;8140;more;2}", "0/2/30FB0040/4/-/no"),
-        ("D{555;82;0A;last;1}", "0/1/30FB/4/-/yes"),
-        ("D{550;82;0A;more;9}", "3/1/-/12/-/yes"),
-        ("D{551;82;0A;more;0}", "0/1/-/4/-/no"),
+        ("D{550;82;81;more;9}", "3/1/-/12/-/yes"),
+        ("D{551;82;81;more;0}", "0/1/-/4/-/no"),
         ("D{515;82;5A;more;0}", "0/1/-/2/-/no"),
         ("D{505;82;5A41;more;0}", "3/1/-/10/-/yes"),
         ("D{555;82;7C81;more;1}", "1/2/4E00/0/81/no"),
@@ -728,7 +863,8 @@ def calls_script():
         ("D{055;-;418041;more;0}", "2/0/-/0/-/no"),
         ("D{505;-;815A41;last;9}", "3/2/-/10/-/yes"),
         ("D{550;-;8341;last;9}", "3/1/-/12/-/yes"),
-        ("D{550;-;810A41;last;9}", "3/2/-/12/-/yes"),
+        ("D{550;-;810A41;last;9}", "3/1/-/12/-/yes"),
+        ("D{550;-;818041;last;9}", "3/2/-/12/-/yes"),
         # flags are those of codes taken
         ("D{555;-;4180;last;1}", "2/1/0041/0/-/no"),
         ("D{155;-;4180;last;1}", "0/2/0041/1/-/yes"),
@@ -750,10 +886,10 @@ def calls_script():
         ("D{555;-;838182;last;9}", "0/3/30FB30FB/4/-/yes"),
         ("D{555;-;A0FF7F;last;9}", "0/3/00A030FB007F/4/-/yes"),
         ("D{555;-;007F;last;9}", "0/2/0000007F/0/-/yes"),
-        # second bytes end at 7E
-        ("D{555;-;817F;last;9}", "0/2/30FB/4/-/yes"),
+        # second bytes are 40 to 7E
+        ("D{555;-;817F;last;9}", "0/2/30FB007F/4/-/yes"),
         ("D{555;-;817E;last;9}", "0/2/30FB/2/-/yes"),
-        ("D{555;-;813F;last;9}", "0/2/30FB/4/-/yes"),
+        ("D{555;-;813F;last;9}", "0/2/30FB003F/4/-/yes"),
         ("D{555;-;8140;last;9}", "0/2/3000/0/-/yes"),
         ("D{555;-;8240;last;9}", "0/2/30FB/2/-/yes"),
         # encoding: both bytes or none
@@ -772,6 +908,7 @@ def calls_script():
     )
     for asked, answered in cases:
         script.call(asked, answered)
+    bad_halves(script)
     script.note("a call marked last that answers 2 may be followed by one that is not: nothing is remembered of the mark")
     script.bytes("827C")
     script.start("D", 7, "555")
@@ -800,7 +937,7 @@ def calls_script():
     script.note("the class decides, never the presence of an entry")
     script.table("hidden.tbl", edited(hidden_entries))
     for asked, answered in (
-        ("D{555;-;810A;last;9}", "0/2/30FB/4/-/yes"),
+        ("D{555;-;810A;last;9}", "0/2/30FB000A/4/-/yes"),
         ("D{555;-;81;last;9}", "0/1/30FB/4/-/yes"),
         ("D{555;-;83;last;9}", "0/1/30FB/4/-/yes"),
     ):
@@ -1130,6 +1267,12 @@ def edges_script():
     script.expect("fillbytes 65536 83", "bytes 65536")
     script.expect("decode 0 65536 last 0", "decode 0 65536 0 - kept D 7 5 5 1 - 4 131071 0 over")
 
+    script.note("a carried lead that is a code alone, then 65,536 bytes: one unit more is written than bytes are handed in")
+    script.expect("fillbytes 65536 0A", "bytes 65536")
+    script.run("D 7 5 5 5 82 0 1 0 on")
+    script.expect("decode 0 65536 last 65537",
+                  f"decode 0 65536 65537 30FB{'000A' * 65536} kept D 7 5 5 5 - 4 65537 65537 over")
+
     script.note("the read total at the limit: 0 more and 1 more")
     script.bytes("4182")
     at_limit = f"D 7 5 5 5 - 0 {LIMIT} 0 on"
@@ -1148,6 +1291,18 @@ def edges_script():
     script.expect("decode 0 0 last 3", f"decode 0 0 1 30FB kept D 7 5 5 5 - 4 {LIMIT} 8 over")
     script.run(f"D 7 5 5 5 82 0 {LIMIT} {LIMIT - 1} on")
     script.expect("decode 0 0 last 3", f"decode 0 0 1 30FB kept D 7 5 5 5 - 4 {LIMIT} {LIMIT} over")
+    script.note("the same with a carried lead and a byte that is none of its code; 16 weighs a byte that would stay unread too")
+    script.bytes("0A")
+    script.run(f"D 7 5 5 5 82 0 {LIMIT - 1} {LIMIT - 2} on")
+    script.expect("decode 0 1 last 1", f"decode 2 0 1 30FB kept D 7 5 5 5 - 4 {LIMIT - 1} {LIMIT - 1} on")
+    script.expect("decode 0 1 last 1", f"decode 0 1 1 000A kept D 7 5 5 5 - 4 {LIMIT} {LIMIT} over")
+    script.run(f"D 7 5 5 5 82 0 {LIMIT - 1} {LIMIT - 2} on")
+    script.expect("decode 0 1 last 2", f"decode 0 1 2 30FB000A kept D 7 5 5 5 - 4 {LIMIT} {LIMIT} over")
+    script.run(f"D 7 5 5 0 82 0 {LIMIT} 0 on")
+    script.expect("decode 0 1 more 2", f"decode 16 0 0 - kept D 7 5 5 0 82 0 {LIMIT} 0 on")
+    script.run(f"D 7 5 5 0 82 0 {LIMIT - 1} 0 on")
+    script.expect("decode 0 1 more 2", f"decode 3 0 0 - kept D 7 5 5 0 - 12 {LIMIT - 1} 0 over")
+    script.note("the same in encoding")
     script.units("3000")
     script.run(f"E 7 5 5 5 - 0 {LIMIT - 1} 8589934588 on")
     script.expect("encode 0 1 last 2", f"encode 0 1 2 8140 kept E 7 5 5 5 - 0 {LIMIT} 8589934590 over")
@@ -1186,7 +1341,7 @@ def edges_script():
     )
     script.call("D{555;-;80FFFFFF;last;9}", "0/4/5000507F/0/-/yes")
     script.call("D{555;-;808180FF;last;9}", "0/4/30FB5000/2/-/yes")
-    script.call("D{555;-;800A80;more;9}", "1/3/30FB/4/80/no")
+    script.call("D{555;-;800A80;more;9}", "1/3/30FB000A/4/80/no")
 
     script.note("room 0: nothing is written, the empty text and skipped codes pass")
     script.sample()

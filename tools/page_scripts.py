@@ -12,7 +12,8 @@ other units on every page. So each unit 0000 to FFFF is encoded on each page.
 
 The expected answers come neither from our tables nor from second_converter.py. They are worked out from three things:
 the mapping of Java's charsets, changed in the entries that tables/DIFFERENCES.md lists; the shape of each page as it
-is published, written below; and the rules of document 01. Needs java (JDK 17).
+is published, written below; and the rules of documents 01 and 02. So a pair that is no code of the page is told by the
+rules, and what Java makes of it plays no part. Needs java (JDK 17).
 """
 
 import argparse
@@ -144,12 +145,14 @@ def read_single(byte, shape, characters):
 
 
 def read_pair(lead, second, shape, characters):
-    """Document 01 on a lead and the byte after it."""
-    if second not in shape.seconds:
-        return INVALID_UNIT, 4
-    if 256 * lead + second in characters:
-        return characters[256 * lead + second], 0
-    return UNDEFINED_PAIR_UNIT, 2
+    """Documents 01 and 02 (CR 2) on a lead and the byte after it: one code of both, or the lead alone and then the byte."""
+    if second in shape.seconds:
+        if 256 * lead + second in characters:
+            return [(characters[256 * lead + second], 0)]
+        return [(UNDEFINED_PAIR_UNIT, 2)]
+    if second < 0x80:
+        return [(INVALID_UNIT, 4), read_single(second, shape, characters)]
+    return [(INVALID_UNIT, 4)]
 
 
 def read_unit(unit, codes):
@@ -223,7 +226,7 @@ def page_script(page, mapping):
         script.note("every lead with every byte after it")
         pairs = [(lead, second) for lead in leads for second in range(256)]
         text = [byte for pair in pairs for byte in pair]
-        add_decode(script, page, text, [read_pair(*pair, shape, mapping.characters) for pair in pairs])
+        add_decode(script, page, text, [code for pair in pairs for code in read_pair(*pair, shape, mapping.characters)])
         script.note("every lead at the end of the text")
         script.add(f"bytes {hex_bytes(leads)}", f"bytes {len(leads)}")
         for place in range(len(leads)):

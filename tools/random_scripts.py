@@ -5,6 +5,7 @@ Kinds of script:
     lists_sample     lists of calls on the sample page: pieces cut anywhere, rooms of all sizes, lines saved and read back
     lists_small      the same on random small tables
     lists_damaged    the same on damaged tables, changing between them and good ones
+    lists_halves     the same on texts of leads and bytes of every kind after them, decoded only
     lists_long       lists on texts of up to 66,000 elements, with pieces over the limit
     runs             runs of random numbers, most of which break the rules, and the calls on them
     lists_fields     texts cut into fields: blocks cut anywhere, fields about the limit, buffers and states of all sizes
@@ -138,6 +139,24 @@ def random_bytes(chance, tables, count):
     return text[:count]
 
 
+def random_halves(chance, tables, count):
+    """A byte text of leads, each followed by a byte below 80 or from 80 on, that may be second or not."""
+    leads = byte_kinds(tables).get("lead", [0x81])
+    low_or_high = {"low": range(0x80), "high": range(0x80, 0x100)}
+    followers = {}
+    for name, members in low_or_high.items():
+        followers[name + " second"] = [byte for byte in members if tables.classes[byte] & SECOND]
+        followers[name] = [byte for byte in members if not tables.classes[byte] & SECOND]
+    kinds = [kind for kind in ("low", "low", "low", "high", "low second", "high second") if followers[kind]]
+    text = []
+    while len(text) < count:
+        if chance.random() < 0.8:
+            text.append(chance.choice(leads))
+        if chance.random() < 0.9:
+            text.append(chance.choice(followers[chance.choice(kinds)]))
+    return text[:count]
+
+
 def random_units(chance, tables, count):
     """A unit text: units with codes of one and two bytes, units without, surrogates."""
     known = []
@@ -265,19 +284,19 @@ class Player:
         return tuple(("\n".join(lines) + "\n").encode("ascii") for lines in (self.commands, self.answers))
 
 
-def set_text(player, chance, tables, direction, count):
+def set_text(player, chance, tables, direction, count, make_bytes):
     if direction == "D":
-        player.do(f"bytes {hex_text(random_bytes(chance, tables, count), 2)}")
+        player.do(f"bytes {hex_text(make_bytes(chance, tables, count), 2)}")
     else:
         player.do(f"units {hex_text(random_units(chance, tables, count), 4)}")
 
 
-def play_list(player, chance, names, tables, text_size, call_count):
+def play_list(player, chance, names, tables, text_size, call_count, directions="DDE", make_bytes=random_bytes):
     """One list: a start, then calls that go on from the run's own position, lines saved and read back."""
-    direction = chance.choice("DDE")
+    direction = chance.choice(directions)
     name = chance.choice(names)
     player.do(f"table {name}")
-    set_text(player, chance, tables[name], direction, text_size)
+    set_text(player, chance, tables[name], direction, text_size, make_bytes)
     page = tables[name].page or 7
     if chance.random() < 0.03:
         page = chance.choice((1, 7, 9, 65535))
@@ -493,6 +512,9 @@ def random_script(kind, seed, count, tables, folder):
         elif kind == "lists_damaged":
             names = [chance.choice(damaged_names), chance.choice(damaged_names), chance.choice(random_names), "sample.tbl"]
             play_list(player, chance, names, tables, size, calls)
+        elif kind == "lists_halves":
+            name = chance.choice(["sample.tbl", "sample.tbl", *random_names])
+            play_list(player, chance, [name], tables, size, calls, "D", random_halves)
         elif kind == "lists_long":
             play_long_list(player, chance, random_names + ["sample.tbl"], tables)
         elif kind == "lists_fields":

@@ -117,9 +117,10 @@ def read_code(table, first, second):
     # "Lead at the end of the whole text: invalid, one byte."
     if second is None:
         return Code(1, INVALID, [])
-    # "Lead followed by any other byte: invalid, two bytes"
     if table.classes[second] not in SECONDS:
-        return Code(2, INVALID, [])
+        # Document 02, CR 2: "When a lead is followed by a byte below 80 that may not be second, only the lead is the
+        # invalid code; the next byte is read afresh. A byte of 80 or more is still taken with it."
+        return Code(1 if second < 0x80 else 2, INVALID, [])
     # "Lead followed by a byte that may be second: two bytes. Its character, or undefined pair."
     # "the lead with j leads below it uses block j, at the second byte"
     leads_below = sum(1 for lower in table.classes[:first] if lower in LEADS)
@@ -232,13 +233,15 @@ def take_bytes(table, digits, carried, piece, last, room):
             writes = code.meaning
         else:
             writes = policy_output(DECODING, table, digit_for(digits, code.kind), first)
-        # "Stopping reads past the code, sets its flag and 8, writes nothing and ends the run."
+        # "Stopping reads past the code, sets its flag and 8, writes nothing and ends the run." A byte after a lead that is
+        # a code alone is not of that code (CR 2): "Under policy 0 the run ends with that next byte unread."
         if writes is STOP:
             return Taken(STOPPED_BY_POLICY, read + code.size - before, output, flags | code.kind | STOPPED, None)
         # "A code is taken only if everything it writes fits; otherwise none of it is written and its unread input
         # stays unread."
         if len(output) + len(writes) > room:
             return Taken(DOES_NOT_FIT, read, output, flags, carried)
+        # "If the lead was carried, a call may now settle it and read nothing" (CR 2): then nothing is added here
         read += code.size - before
         output += writes
         flags |= code.kind
