@@ -42,8 +42,11 @@ def random_journal(chance, size):
         if kind < 0.85:
             start = chance.randrange(len(TEXT))
             part = TEXT[start : start + chance.randrange(1, 30)].encode("cp932")
-        elif kind < 0.93:
+        elif kind < 0.92:
             part = bytes(chance.randrange(256) for _ in range(chance.randrange(1, 6)))
+        elif kind < 0.95:
+            # a broken first half before a line's end
+            part = bytes([chance.choice([0x81, 0x94, 0xFC])]) + b"\r\n"
         else:
             part = bytes([chance.choice([0x81, 0x83, 0x94, 0xE0, 0xFC, 0x80, 0xA0, 0xFF])])
         parts.append(part)

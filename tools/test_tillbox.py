@@ -3,7 +3,7 @@
 
     test_tillbox.py [--tillbox PROGRAM]
 
-Each test works in a folder of its own. Expected texts and lines are written by hand, from document 01 and README.md.
+Each test works in a folder of its own. Expected texts and lines are written by hand, from documents 01 and 02 and README.md.
 Prints 'N passed, M failed'; the exit status is 0 exactly if none failed.
 """
 
@@ -312,6 +312,67 @@ def test_first_half_waits():
     equal(read("checkpoint2"), line("D 932 555 - 4 2 2 over"), "the line")
 
 
+def test_a_broken_half_before_a_line_feed():
+    # two records stay two: the default of page 932, 30FB, for the half alone, then the line feed
+    write("journal", b"tea\x94\n120\n")
+    tillbox("decode", "cp932.tbl", "journal", "ledger", says=summary(9, 9, flags="invalid"))
+    equal(read("ledger"), "tea\u30fb\n120\n".encode("utf-16le"), "the ledger")
+    # a byte of 80 or more that may not be second is taken with the half: FD, and A0 on page 7
+    write("journal", b"tea\x94\xfd\n")
+    tillbox("decode", "cp932.tbl", "journal", "ledger", says=summary(6, 5, flags="invalid"))
+    equal(read("ledger"), "tea\u30fb\n".encode("utf-16le"), "the ledger")
+    write("journal", b"tea\x82\xa0\n")
+    tillbox("decode", "sample.tbl", "journal", "ledger", says=summary(6, 5, flags="invalid"))
+    equal(read("ledger"), "tea\u30fb\n".encode("utf-16le"), "the ledger")
+
+
+def test_a_waiting_half_before_a_line_feed():
+    half = "the byte 94, the first half of a character"
+    whole = b"tea\x94\n120\n"
+    for policy, units, flags in (("555", "tea\u30fb\n120\n", "4 9 9"), ("551", "tea\n120\n", "4 9 8"), ("553", "tea?\n120\n", "4 9 9")):
+        for name in ("ledger", "checkpoint"):
+            if os.path.exists(name):
+                os.remove(name)
+        write("journal", whole[:4])
+        goes = summary(4, 3, pending=half, state="the run goes on")
+        tillbox("decode", "policy", policy, "cp932.tbl", "journal", "ledger", "checkpoint", says=goes)
+        equal(read("checkpoint"), line(f"D 932 {policy} 94 0 4 3 on"), "the line")
+        write("journal", whole)
+        tillbox("decode", "last", "policy", policy, "cp932.tbl", "journal", "ledger", "checkpoint", says=summary(9, len(units), flags="invalid"))
+        equal(read("ledger"), units.encode("utf-16le"), f"the ledger under {policy}")
+        equal(read("checkpoint"), line(f"D 932 {policy} - {flags} over"), "the line")
+
+
+def test_a_run_stops_at_a_broken_half():
+    # the line feed is the next unread byte, whether the half waited or not
+    write("journal", b"tea\x94\n120\n")
+    stop = "stopped by policy; the next unread byte is at 4"
+    says = summary(4, 3, flags="invalid, stopped", state=stop) + ["the run has ended"]
+    tillbox("decode", "policy", "550", "cp932.tbl", "journal", "ledger", word="stopped", says=says)
+    equal(read("ledger"), "tea".encode("utf-16le"), "the ledger")
+    write("journal", b"tea\x94")
+    tillbox("decode", "policy", "550", "cp932.tbl", "journal", "ledger", "checkpoint")
+    write("journal", b"tea\x94\n120\n")
+    tillbox("decode", "cp932.tbl", "journal", "ledger", "checkpoint", word="stopped", says=says)
+    equal(read("ledger"), "tea".encode("utf-16le"), "the ledger")
+    equal(read("checkpoint"), line("D 932 550 - 12 4 3 over"), "the line")
+
+
+def test_a_broken_half_at_the_end_of_a_block():
+    # the half is the last of the first block's 512 bytes, and the second block gives a unit more than it has bytes
+    text = b"a" * 511 + b"\x94" + b"\n" + b"b" * 511 + b"c"
+    wanted = "a" * 511 + "\u30fb\n" + "b" * 511 + "c"
+    write("journal", text)
+    tillbox("decode", "cp932.tbl", "journal", "ledger", says=summary(1025, 1025, flags="invalid"))
+    equal(read("ledger"), wanted.encode("utf-16le"), "the ledger")
+    write("journal", text[:512])
+    tillbox("decode", "cp932.tbl", "journal", "ledger", "checkpoint")
+    equal(read("checkpoint"), line("D 932 555 94 0 512 511 on"), "the line")
+    write("journal", text)
+    tillbox("decode", "last", "cp932.tbl", "journal", "ledger", "checkpoint", says=summary(1025, 1025, flags="invalid"))
+    equal(read("ledger"), wanted.encode("utf-16le"), "the ledger")
+
+
 def test_flags_by_name():
     # page 7: 80 is an undefined single, 81 5A an undefined pair, 83 invalid
     write("journal", b"\x80\x81\x5a\x83A")
@@ -386,10 +447,8 @@ def test_a_left_over_new_file():
     equal(os.path.exists("checkpoint.new"), False, "the new file is there")
 
 
-def test_every_cut_of_a_text():
-    # every cut of a short text, in two calls, gives the same ledger; 5 page bytes, two of them pairs
-    text = b"a\x81\x40\x82\x7c\x83b"
-    wanted = "a\u3000\u4e00\u30fbb".encode("utf-16le")
+def every_cut(text, units):
+    """Every cut of a text of page 7, in two calls, gives the same ledger."""
     for place in range(len(text) + 1):
         for name in ("ledger", "checkpoint"):
             if os.path.exists(name):
@@ -397,8 +456,18 @@ def test_every_cut_of_a_text():
         write("journal", text[:place])
         tillbox("decode", "sample.tbl", "journal", "ledger", "checkpoint")
         write("journal", text)
-        tillbox("decode", "last", "sample.tbl", "journal", "ledger", "checkpoint", says=summary(7, 5, flags="invalid"))
-        equal(read("ledger"), wanted, f"the ledger of the cut at {place}")
+        says = summary(len(text), len(units), flags="invalid")
+        tillbox("decode", "last", "sample.tbl", "journal", "ledger", "checkpoint", says=says)
+        equal(read("ledger"), units.encode("utf-16le"), f"the ledger of the cut at {place}")
+
+
+def test_every_cut_of_a_text():
+    every_cut(b"a\x81\x40\x82\x7c\x83b", "a\u3000\u4e00\u30fbb")
+
+
+def test_every_cut_of_a_text_with_broken_halves():
+    # 81 before 0A, 82 before 7F and 82 at the end are codes alone; 81 82 and 82 80 are one code each
+    every_cut(b"\x81\n\x82\x7fa\x81\x82\x82\x80b\x82", "\u30fb\n\u30fb\x7fa\u30fb\u30fbb\u30fb")
 
 # ---------------------------------------------------------------------------------------------------------------
 # Import

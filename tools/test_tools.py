@@ -9,6 +9,7 @@ made anew if java is on the machine; else only the stored ones are played. Print
 
 import argparse
 import glob
+import itertools
 import os
 import random
 import re
@@ -170,12 +171,12 @@ def check_further_lists(options):
 
 
 # ---------------------------------------------------------------------------------------------------------------
-# The second converter against another way to put document 01's rules
+# The second converter against another way to put the documents' rules
 # ---------------------------------------------------------------------------------------------------------------
 
 
 def byte_reader(table):
-    """The codes of a byte text as one regular expression: another way to say 'Reading one code from bytes'."""
+    """The codes of a byte text as one regular expression: another way to say 'Reading one code from bytes', with CR 2."""
 
     def one_of(classes):
         members = [byte for byte in range(256) if table.classes[byte] in classes]
@@ -183,7 +184,7 @@ def byte_reader(table):
 
     lead, single, second = one_of((2, 6)), one_of((1, 5)), one_of((4, 5, 6))
     return re.compile(
-        b"(?P<single>%s)|(?P<pair>%s%s)|(?P<broken>%s.)|(?P<loose>%s\\Z)|(?P<never>.)" % (single, lead, second, lead, lead),
+        b"(?P<single>%s)|(?P<pair>%s%s)|(?P<broken>%s[\\x80-\\xff])|(?P<alone>%s)|(?P<never>.)" % (single, lead, second, lead, lead),
         re.DOTALL,
     )
 
@@ -230,8 +231,8 @@ def check_lists(options):
         direction = chance.choice("DE")
         digits = tuple(chance.choice((0, 1, 2, 3, 4, 5, 5)) for _ in range(3))
         size = chance.randrange(25)
-        make = random_scripts.random_bytes if direction == "D" else random_scripts.random_units
-        text = make(chance, tables, size)
+        makers = {"D": (random_scripts.random_bytes, random_scripts.random_halves), "E": (random_scripts.random_units,)}
+        text = chance.choice(makers[direction])(chance, tables, size)
         whole = whole_reading(table, direction, digits, text)
         run = converter.start_call(direction, table.page, digits)
         position, joined, ended = 0, [], False
@@ -256,7 +257,8 @@ def check_lists(options):
                 continue
             expect(out[outcome.written :] == [-1] * (room - outcome.written), f"list {number}: beyond what was written")
             if count > 0 and room >= (1 if direction == "D" else 2):
-                expect(outcome.read >= 1, f"list {number}: room for one, and nothing is read")
+                settled = run.carried is not None and outcome.run.carried is None
+                expect(outcome.read >= 1 or settled, f"list {number}: room for one, and nothing is read or settled")
             position += outcome.read
             joined += out[: outcome.written]
             ended = outcome.number == 3 or (outcome.number == 0 and last)
@@ -279,6 +281,43 @@ def check_lists(options):
         expect((joined, run.flags, run.read) == whole, f"list {number}: element by element")
         counted = converter.count_call(direction, digits, table, text)
         expect((counted.flags, counted.read, counted.written) == (whole[1], whole[2], len(whole[0])), "counting")
+
+
+def fed_in_pieces(table, digits, text, ends, room):
+    """The run after a text is fed, each piece from the first unread byte on, in calls that all have this room, until a call moves
+    nothing; the joined output. Each call keeps the reading promise."""
+    run, joined = converter.start_call("D", table.page, digits), []
+    for end in ends:
+        while not run.ended:
+            out = [-1] * room
+            piece = text[run.read : end]
+            after = converter.run_call("D", run, table, piece, end == len(text), out)
+            joined += out[: after.written]
+            settled = run.carried is not None and after.run.carried is None
+            expect(after.read >= 1 or settled or not piece or room == 0, f"{bytes(text).hex()}: nothing is read or settled")
+            moved = after.run != run
+            run = after.run
+            if not moved:
+                break
+    return run, joined
+
+
+def check_cut_halves(options):
+    """Every cutting of every short text of leads and bytes after them, with rooms 0 to 3, against the uncut reading."""
+    table = load_table("sample.tbl")
+    for count in range(5):
+        places = range(1, count)
+        cuttings = [(*cut, count) for number in range(max(count, 1)) for cut in itertools.combinations(places, number)]
+        for text in itertools.product((0x82, 0x0A, 0x7C, 0x80), repeat=count):
+            for digit in (0, 1, 5):
+                output, flags, total = whole_reading(table, "D", (5, 5, digit), text)
+                for ends, room in itertools.product(cuttings, (0, 1, 2, 3)):
+                    run, joined = fed_in_pieces(table, (5, 5, digit), text, ends, room)
+                    name = f"{bytes(text).hex()}, pieces up to {ends}, digit {digit}, room {room}"
+                    expect(joined == output[: len(joined)], f"{name}: output is no beginning of the uncut one")
+                    expect(run.ended or room == 0, f"{name}: not ended")
+                    if run.ended:
+                        expect((joined, run.flags, run.read) == (output, flags, total), f"{name}: another end")
 
 
 def check_return(options):
@@ -445,10 +484,6 @@ def wrong_converters():
             return converter.Code(2, 4, [])
         return code
 
-    def lead_then_other_takes_one(table, first, second):
-        code = right["read_code"](table, first, second)
-        return converter.Code(1, 4, []) if code.kind == 4 and code.size == 2 else code
-
     def surrogates_undefined(table, unit):
         return converter.Code(1, 1, []) if 0xD800 <= unit <= 0xDFFF else right["read_unit"](table, unit)
 
@@ -530,7 +565,6 @@ def wrong_converters():
         ("a table entry before the class", "read_code", entry_before_class),
         ("a character equal to the default unit is undefined", "read_code", default_is_undefined),
         ("a never byte takes a second one", "read_code", never_takes_two),
-        ("a lead before another byte takes one", "read_code", lead_then_other_takes_one),
         ("surrogates are not looked up", "read_unit", surrogates_undefined),
         ("a lead is carried only with room", "take_bytes", carry_with_room_only),
         ("a lead is carried in a last call", "take_bytes", carry_in_last_call),
@@ -549,6 +583,98 @@ def wrong_converters():
         ("6 is allowed for encoding", "digits_allowed", six_for_encoding),
         ("the second digit of an encoding run is not checked", "digits_allowed", first_digit_only),
     )
+
+
+def wrong_half_converters():
+    """The same for a lead and a byte that may not be second (document 02, CR 2)."""
+    read_code, take_bytes = converter.read_code, converter.take_bytes
+
+    def sized(size_of):
+        """Where a lead is followed by a byte that may not be second, the code has another size."""
+
+        def wrong(table, first, second):
+            code = read_code(table, first, second)
+            if table.classes[first] in (2, 6) and second is not None and table.classes[second] not in (4, 5, 6):
+                return converter.Code(size_of(table, second), 4, [])
+            return code
+
+        return wrong
+
+    def any_low_byte(table, first, second):
+        if table.classes[first] in (2, 6) and second is not None and second < 0x80:
+            return converter.Code(1, 4, [])
+        return read_code(table, first, second)
+
+    def low_is_pair(table, first, second):
+        code = read_code(table, first, second)
+        alone = table.classes[first] in (2, 6) and second is not None and code.size == 1
+        return converter.Code(1, 2, []) if alone else code
+
+    def settled_alone(table, carried, piece, taken):
+        """The carried lead was settled and the next byte is none of its code."""
+        return bool(carried is not None and piece and taken.carried is None and read_code(table, carried, piece[0]).size == 1)
+
+    def next_counted(table, digits, carried, piece, last, room):
+        taken = take_bytes(table, digits, carried, piece, last, room)
+        if settled_alone(table, carried, piece, taken):
+            return converter.replace(taken, read=min(taken.read + 1, len(piece)))
+        return taken
+
+    def stop_reads_next(table, digits, carried, piece, last, room):
+        taken = take_bytes(table, digits, carried, piece, last, room)
+        if taken.number == 3 and taken.flags & 4 and taken.read < len(piece) and piece[taken.read] < 0x80:
+            lead = piece[taken.read - 1] if taken.read else carried
+            if lead is not None and table.classes[lead] in (2, 6):
+                return converter.replace(taken, read=taken.read + 1)
+        return taken
+
+    def nothing_read_nothing_done(table, digits, carried, piece, last, room):
+        taken = take_bytes(table, digits, carried, piece, last, room)
+        if taken.number == 2 and taken.read == 0 and carried is not None:
+            return converter.Taken(2, 0, [], 0, carried)
+        return taken
+
+    def kept_if_nothing_written(table, digits, carried, piece, last, room):
+        taken = take_bytes(table, digits, carried, piece, last, room)
+        if taken.number == 2 and taken.read == 0 and not taken.output and carried is not None:
+            return converter.Taken(2, 0, [], 0, carried)
+        return taken
+
+    def all_read_when_settled(table, digits, carried, piece, last, room):
+        taken = take_bytes(table, digits, carried, piece, last, room)
+        if taken.number == 2 and taken.read == 0 and settled_alone(table, carried, piece, taken):
+            return converter.replace(taken, number=0)
+        return taken
+
+    def carried_takes_next(table, digits, carried, piece, last, room):
+        if carried is not None and piece and read_code(table, carried, piece[0]).size == 1:
+            # as after a byte of 80 or more, which may not be second on the sample page
+            return take_bytes(table, digits, carried, [0x80] + piece[1:], last, room)
+        return take_bytes(table, digits, carried, piece, last, room)
+
+    on_sample = (
+        ("a byte below 80 is taken with the lead", "read_code", sized(lambda table, second: 2)),
+        ("any bad second byte is left unread", "read_code", sized(lambda table, second: 1)),
+        ("80 is left unread too", "read_code", sized(lambda table, second: 1 if second <= 0x80 else 2)),
+        ("7F is taken with the lead", "read_code", sized(lambda table, second: 1 if second < 0x7F else 2)),
+        ("only control bytes are left unread", "read_code", sized(lambda table, second: 1 if second < 0x20 else 2)),
+        ("only a line feed is left unread", "read_code", sized(lambda table, second: 1 if second == 0x0A else 2)),
+        ("a byte that may be second is not asked for", "read_code", any_low_byte),
+        ("a lead that is a code alone is an undefined pair", "read_code", low_is_pair),
+        ("the next byte is counted as read when a carried lead is settled alone", "take_bytes", next_counted),
+        ("stopping reads the next byte too", "take_bytes", stop_reads_next),
+        ("a call that reads nothing does nothing", "take_bytes", nothing_read_nothing_done),
+        ("a call that reads and writes nothing does nothing", "take_bytes", kept_if_nothing_written),
+        ("a lead settled with nothing read is answered 0", "take_bytes", all_read_when_settled),
+        ("a carried lead takes the next byte", "take_bytes", carried_takes_next),
+    )
+    on_other_tables = (
+        ("only a single is left unread", "read_code",
+         sized(lambda table, second: 1 if second < 0x80 and table.classes[second] == 1 else 2)),
+        ("only a byte with a character is left unread", "read_code",
+         sized(lambda table, second: 1 if second < 0x80 and table.singles[second] != 0xFFFF else 2)),
+    )
+    return on_sample, on_other_tables
 
 
 class SeparatedByLowHalf(dict):
@@ -686,6 +812,10 @@ def expect_found_out(wrong_ones, names):
 def check_wrong_converters(options):
     """Each wrong converter is found out by at least one of the small fixed scripts."""
     expect_found_out(wrong_converters(), ("rows", "calls", "policies", "shapes", "lines", "refusals", "edges"))
+    on_sample, on_other_tables = wrong_half_converters()
+    for names in (("calls",), ("bad_halves",)):
+        expect_found_out(on_sample, names)
+    expect_found_out(on_other_tables, ("calls",))
     expect_found_out(wrong_field_converters(), ("fields",))
 
 
@@ -733,6 +863,7 @@ CHECKS = (
     ("numbers covered", check_coverage),
     ("further random lists", check_further_lists),
     ("lists of calls against the uncut reading", check_lists),
+    ("every cutting of leads and bytes after them", check_cut_halves),
     ("texts that come back", check_return),
     ("one line a run, one run a line", check_lines),
     ("lists of calls against the fields of the uncut text", check_fields),
