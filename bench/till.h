@@ -93,10 +93,12 @@ till_handed till_start(uint8_t direction, uint16_t page, uint8_t single, uint8_t
 /* One call of a decoding run: bytes to UTF-16 units. last: 0, or any other number for the text's last piece. Answers 0 to 3 or 10 to
  * 16, the refusals in that order; 12 is also the answer to a run whose direction, pending or ended is out of range. A refused call
  * gives back the run it was handed, reads and writes nothing, and leaves out as it was. After answer 2 call again with the rest of
- * the piece. */
+ * the piece, also where read is 0: a pending lead byte may have been settled alone (pending is then TILL_NOTHING). A piece of n bytes
+ * gives at most n units, or n + 1 where a lead byte was pending. */
 till_outcome till_decode(till_run run, TILL_TABLES, const uint8_t *piece, size_t piece_len, uint8_t last, uint16_t *out, size_t out_len);
 
-/* One call of an encoding run: UTF-16 units to bytes; as till_decode. */
+/* One call of an encoding run: UTF-16 units to bytes; as till_decode, but nothing is pending and a piece of n units gives at most
+ * 2 n bytes. */
 till_outcome till_encode(till_run run, TILL_TABLES, const uint16_t *piece, size_t piece_len, uint8_t last, uint8_t *out, size_t out_len);
 
 /* Writes the run's line at the front of out: 0 and its length, or 12 (the run breaks the rules), or 19 (no room; out is as it was). */
