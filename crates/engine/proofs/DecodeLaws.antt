@@ -11,7 +11,7 @@ use Rattle.codepage.specs.Reading.{byteAlone, unitOf, Reader, decoder, settled}
 use Rattle.codepage.specs.declared.Lookup.{Lookup}
 use Rattle.codepage.proofs.ShapeLaws.{block-there}
 use Rattle.codepage.proofs.ReadingLaws.{settled-first, more-le}
-use Rattle.lookup.specs.declared.LeadCode.{LeadCode}
+use Rattle.lookup.specs.declared.SettledCode.{SettledCode}
 use Rattle.lookup.specs.Profile.{SettledAs}
 use Rattle.engine.specs.declared.Policy.{Policy}
 use Rattle.engine.specs.declared.policies.CodeEffect.{CodeEffect}
@@ -67,10 +67,10 @@ unfolding converter decoder
 decoder-lead classes singles pairs policy default byte e = e
 
 -- ---- a lead that waits, settled by the byte after it
-pub settled-more : (r : Reader) (c b : ℕ) {k : LeadCode} → SettledAs (settled r c b) k → k .more ≤ 1
+pub settled-more : (r : Reader) (c b : ℕ) {k : SettledCode} → SettledAs (settled r c b) k → k .more ≤ 1
 settled-more r c b a = omega (arith, a .more, more-le r c b)
 
-module _ (classes singles pairs : List ℕ) (policy : Policy) (default lead byte : ℕ) {k : LeadCode} (a : SettledAs (settled (decoder classes singles pairs) lead byte) k) where
+module _ (classes singles pairs : List ℕ) (policy : Policy) (default lead byte : ℕ) {k : SettledCode} (a : SettledAs (settled (decoder classes singles pairs) lead byte) k) where
   pub decoded-settled : (d : CodeEffect) → unitEffect d ≡ effectOf unitOf policy default lead (k .means) → unitEffect d ≡ doesSettled (converter (decoder classes singles pairs) policy default) lead byte
   unfolding converter decoder
   decoded-settled d q =

@@ -6,7 +6,7 @@ use Prim.Native.Nat.{ℕ, _+_, _*_, _/_, _%_, _<_, _≤_}
 use lib.ListN.{length}
 use Rattle.codepage.specs.CodePage.{entry, isLead, leadsBelow}
 use Rattle.codepage.specs.Reading.{Code}
-use Rattle.lookup.specs.declared.LeadCode.{LeadCode}
+use Rattle.lookup.specs.declared.SettledCode.{SettledCode}
 use Rattle.lookup.specs.declared.profile.Leads.{Leads}
 use Rattle.lookup.specs.declared.profile.Half.{Half}
 
@@ -21,8 +21,8 @@ pub record LeadsAt (classes : List ℕ) (l : Leads) : Type 0 where
   pub low-half : l .regular ≡ true → (lead : ℕ) → lead < 0xC0 → isLead (entry classes lead) ≡ true → leadsBelow classes lead + l .low ≡ lead
   pub high-half : l .regular ≡ true → (lead : ℕ) → 0xC0 ≤ lead → isLead (entry classes lead) ≡ true → leadsBelow classes lead + l .high ≡ lead
 
--- a code of a lead: what it means, and how many units it takes after the first
-pub record SettledAs (k : Code) (r : LeadCode) : Type 0 where
+-- a code in numbers: what it means, and how many units it takes after the first
+pub record SettledAs (k : Code) (r : SettledCode) : Type 0 where
   pub means : r .means ≡ k .means
   pub more : r .more ≡ length (k .more)
 

@@ -57,14 +57,14 @@ fn pair_entry(classes: &[u8], pairs: &[u16], leads: Leads, lead: u8, byte: u8) -
     pairs[256 * block + (byte as usize)]
 }
 
-// The code of a lead byte: what it means, and how many bytes it takes after the lead, 0 or 1.
-pub struct LeadCode {
+// The code of a unit that waited, settled by the one after it: what it means, and how many units it takes after the first, 0 or 1.
+pub struct SettledCode {
     pub means: Lookup,
     pub more: usize,
 }
 
 // A lead byte, settled by the byte after it. A byte below 80 that may not be second is not taken with it.
-pub fn settle(classes: &[u8], pairs: &[u16], leads: Leads, lead: u8, byte: u8) -> LeadCode
+pub fn settle(classes: &[u8], pairs: &[u16], leads: Leads, lead: u8, byte: u8) -> SettledCode
     requires { ⌜ (length (now classes) ≡ 256) × (isLead (entry (now classes) lead) ≡ true) × (256 * leadsBelow (now classes) lead + 256 ≤ length (now pairs)) ⌝ }
     requires { ⌜ LeadsAt (now classes) leads ⌝ }
     ensures { λ r. ⌜ ((singles : List ℕ) → SettledAs (settled (decoder (now (classes .entry)) singles (now (pairs .entry))) lead byte) r) ⌝ }
@@ -76,13 +76,13 @@ pub fn settle(classes: &[u8], pairs: &[u16], leads: Leads, lead: u8, byte: u8) -
             Kind::UndefinedPair,
             pair_entry(classes, pairs, leads, lead, byte),
         );
-        return LeadCode { means, more: 1 };
+        return SettledCode { means, more: 1 };
     }
     let means = Lookup::Lacking(Kind::Invalid);
     if byte < 0x80 {
-        return LeadCode { means, more: 0 };
+        return SettledCode { means, more: 0 };
     }
-    LeadCode { means, more: 1 }
+    SettledCode { means, more: 1 }
 }
 
 // The character of a byte alone, or FFFF where it has none.
