@@ -27,44 +27,24 @@ der Betrag Karte bar Kunde danke bitte Rechnung Summe Datum Artikel Rabatt und d
 el precio la tarjeta cliente gracias por su visita fecha importe descuento cambio en efectivo""".split()
 
 
-def ascii_text(r):
-    lines = []
-    size = 0
-    while size < SIZE:
-        kind = r.randrange(4)
-        if kind == 0:
-            line = '%06d\t%02d:%02d\t%s\t%d.%02d\n' % (
-                r.randrange(1000000), r.randrange(24), r.randrange(60), r.choice(ENGLISH).upper(), r.randrange(200), r.randrange(100))
-        else:
-            line = ' '.join(r.choice(ENGLISH) for _ in range(r.randrange(5, 14))) + '.\n'
-        lines.append(line)
-        size += len(line)
-    return ''.join(lines)
+def ascii_line(r):
+    if r.randrange(4) == 0:
+        return '%06d\t%02d:%02d\t%s\t%d.%02d\n' % (
+            r.randrange(1000000), r.randrange(24), r.randrange(60), r.choice(ENGLISH).upper(), r.randrange(200), r.randrange(100))
+    return ' '.join(r.choice(ENGLISH) for _ in range(r.randrange(5, 14))) + '.\n'
 
 
-def japanese_text(r):
-    lines = []
-    size = 0
-    while size < SIZE:
-        if r.randrange(4) == 0:
-            line = '%s %d点 %d円\n' % (r.choice(JAPANESE), r.randrange(1, 20), r.randrange(10, 20000))
-        else:
-            line = ''.join(r.choice(JAPANESE) for _ in range(r.randrange(3, 9))) + '。\n'
-        lines.append(line)
-        size += len(line.encode('cp932'))
-    return ''.join(lines)
+def japanese_line(r):
+    if r.randrange(4) == 0:
+        return '%s %d点 %d円\n' % (r.choice(JAPANESE), r.randrange(1, 20), r.randrange(10, 20000))
+    return ''.join(r.choice(JAPANESE) for _ in range(r.randrange(3, 9))) + '。\n'
 
 
-def latin_text(r):
-    lines = []
-    size = 0
-    while size < SIZE:
-        line = ' '.join(r.choice(LATIN) for _ in range(r.randrange(5, 14)))
-        if r.randrange(5) == 0:
-            line += ' %d,%02d €' % (r.randrange(200), r.randrange(100))
-        lines.append(line + '\n')
-        size += len(line) + 1
-    return ''.join(lines)
+def latin_line(r):
+    line = ' '.join(r.choice(LATIN) for _ in range(r.randrange(5, 14)))
+    if r.randrange(5) == 0:
+        line += ' %d,%02d €' % (r.randrange(200), r.randrange(100))
+    return line + '\n'
 
 
 SHOPS = '港町支店 駅前店 本店 空港売店 中央市場店'.split()
@@ -72,41 +52,33 @@ SHOPS = '港町支店 駅前店 本店 空港売店 中央市場店'.split()
 CLERKS = '佐藤 鈴木 高橋 田中 伊藤 渡辺 山本 中村 小林 加藤'.split()
 
 
-def journal_text(r):
+def journal_line(r):
     """A till's journal, a sold article a record: time, shop, receipt, clerk, article, number, price, and a remark that is mostly empty."""
-    lines = []
-    size = 0
-    while size < SIZE:
-        article = ''.join(r.choice(JAPANESE) for _ in range(r.randrange(1, 4)))
-        remark = ''.join(r.choice(JAPANESE) for _ in range(3)) if r.randrange(8) == 0 else ''
-        line = '2026-11-%02d %02d:%02d:%02d|%s|No.%06d|%s|%s|%d点|%d円|%s\n' % (
-            r.randrange(1, 31), r.randrange(24), r.randrange(60), r.randrange(60), r.choice(SHOPS), r.randrange(1000000), r.choice(CLERKS), article,
-            r.randrange(1, 20), r.randrange(10, 20000), remark)
-        lines.append(line)
-        size += len(line.encode('cp932'))
-    return ''.join(lines)
+    article = ''.join(r.choice(JAPANESE) for _ in range(r.randrange(1, 4)))
+    remark = ''.join(r.choice(JAPANESE) for _ in range(3)) if r.randrange(8) == 0 else ''
+    return '2026-11-%02d %02d:%02d:%02d|%s|No.%06d|%s|%s|%d点|%d円|%s\n' % (
+        r.randrange(1, 31), r.randrange(24), r.randrange(60), r.randrange(60), r.choice(SHOPS), r.randrange(1000000), r.choice(CLERKS), article,
+        r.randrange(1, 20), r.randrange(10, 20000), remark)
 
 
-def figures_text(r):
+def figures_line(r):
     """A journal of figures alone, with short fields: number, time, article number, number, price."""
-    lines = []
-    size = 0
-    while size < SIZE:
-        line = '%06d|%02d:%02d|%d|%d|%d\n' % (
-            r.randrange(1000000), r.randrange(24), r.randrange(60), r.randrange(10000), r.randrange(1, 20), r.randrange(10, 20000))
-        lines.append(line)
-        size += len(line)
-    return ''.join(lines)
+    return '%06d|%02d:%02d|%d|%d|%d\n' % (
+        r.randrange(1000000), r.randrange(24), r.randrange(60), r.randrange(10000), r.randrange(1, 20), r.randrange(10, 20000))
 
 
-def notes_text(r):
+def notes_line(r):
     """A journal of few, long fields: English sentences of up to 250 units."""
+    return '|'.join(' '.join(r.choice(ENGLISH) for _ in range(40))[:r.randrange(40, 250)] for _ in range(3)) + '\n'
+
+
+def text_of(line, r, page):
+    """Lines until they have SIZE bytes on the page."""
     lines = []
     size = 0
     while size < SIZE:
-        fields = [' '.join(r.choice(ENGLISH) for _ in range(40))[:r.randrange(40, 250)] for _ in range(3)]
-        lines.append('|'.join(fields) + '\n')
-        size += len(lines[-1])
+        lines.append(line(r))
+        size += len(lines[-1].encode(page))
     return ''.join(lines)
 
 
@@ -119,9 +91,9 @@ def main():
         with open('%s/%s.units' % (folder, name), 'wb') as f:
             f.write(units)
 
-    for name, make, page in (('ascii', ascii_text, 'cp932'), ('japanese', japanese_text, 'cp932'), ('latin', latin_text, 'cp1252'),
-                             ('journal', journal_text, 'cp932'), ('figures', figures_text, 'cp932'), ('notes', notes_text, 'cp932')):
-        text = make(random.Random('till ' + name))
+    for name, line, page in (('ascii', ascii_line, 'cp932'), ('japanese', japanese_line, 'cp932'), ('latin', latin_line, 'cp1252'),
+                             ('journal', journal_line, 'cp932'), ('figures', figures_line, 'cp932'), ('notes', notes_line, 'cp932')):
+        text = text_of(line, random.Random('till ' + name), page)
         write(name, text.encode(page), text.encode('utf-16-le'))
     r = random.Random('till damaged')
     write('damaged', bytes(r.randrange(256) for _ in range(SIZE)),
