@@ -43,7 +43,10 @@ same-length-7 : tie.Need-same-length-7
 same-length-7 c = c .before .before .before .before .before .before .before .before .before .before .before .before .before .before .before .before .before .before .before .before .before .before .before .before .before .before .before .before .before .before .before .before .before .before .before .before .before .before .run-text .kept .1 .1 .1 .1 .0
 
 same-length-8 : tie.Need-same-length-8
-same-length-8 c = c .before .before .before .before .before .before .run-call .kept .1 .1 .1 .1 .1 .1 .1 .1 .1 .1 .0 ∙ c .before .before .before .before .before .before .before .before .before .before .before .before .before .before .before .before .before .before .before .before .before .before .before .before .before .before .before .before .before .run-run .kept .1 .1 .1 .0
+same-length-8 c =
+    let at-run-call = c .before .before .before .before .before .before in
+    let at-run-run = at-run-call .before .before .before .before .before .before .before .before .before .before .before .before .before .before .before .before .before .before .before .before .before .before .before in
+    at-run-call .run-call .kept .1 .1 .1 .1 .1 .1 .1 .1 .1 .1 .0 ∙ at-run-run .run-run .kept .1 .1 .1 .0
 
 same-length-9 : tie.Need-same-length-9
 same-length-9 c = search needs
@@ -52,7 +55,13 @@ same-length-10 : tie.Need-same-length-10
 same-length-10 c = c .before .before .before .before .before .before .before .before .before .before .before .before .before .before .before .before .before .before .before .before .before .run-fields .kept .1 .1 .1 .1 .0
 
 same-length-11 : tie.Need-same-length-11
-same-length-11 c = c .before .before .before .before .before .before .run-call .kept .1 .1 .1 .1 .1 .1 .1 .1 .1 .1 .1 .1 .0 ∙ c .before .before .before .before .before .before .before .before .before .before .before .before .before .before .before .before .before .before .before .before .before .run-fields .kept .1 .1 .1 .1 .1 .0 ∙ c .before .before .before .before .before .before .before .before .before .before .before .before .before .before .before .before .before .before .before .before .before .before .before .before .before .before .before .before .before .run-run .kept .1 .1 .1 .1 .0 ∙ c .before .before .before .before .before .before .before .before .before .before .before .before .before .before .before .before .before .before .before .before .before .before .before .before .before .before .before .before .before .before .before .before .before .before .before .before .before .before .run-text .kept .1 .1 .1 .1 .1 .0 ∙ c .before .before .before .before .before .before .before .before .before .before .before .before .before .before .before .before .before .before .before .before .before .before .before .before .before .before .before .before .before .before .before .before .before .before .before .before .before .before .before .before .before .before .before .before .before .before .before .before .before .before .before .before .before .before .run-table .kept .1 .1 .1 .1 .1 .1 .1 .1 .0
+same-length-11 c =
+    let at-run-call = c .before .before .before .before .before .before in
+    let at-run-fields = at-run-call .before .before .before .before .before .before .before .before .before .before .before .before .before .before .before in
+    let at-run-run = at-run-fields .before .before .before .before .before .before .before .before in
+    let at-run-text = at-run-run .before .before .before .before .before .before .before .before .before in
+    let at-run-table = at-run-text .before .before .before .before .before .before .before .before .before .before .before .before .before .before .before .before in
+    at-run-call .run-call .kept .1 .1 .1 .1 .1 .1 .1 .1 .1 .1 .1 .1 .0 ∙ at-run-fields .run-fields .kept .1 .1 .1 .1 .1 .0 ∙ at-run-run .run-run .kept .1 .1 .1 .1 .0 ∙ at-run-text .run-text .kept .1 .1 .1 .1 .1 .0 ∙ at-run-table .run-table .kept .1 .1 .1 .1 .1 .1 .1 .1 .0
 
 returns : tie.Need-returns
 returns c = search needs
