@@ -1,4 +1,5 @@
-/* The C interface at work: a journal piece that is cut in the middle of a two-byte character, with a save and a load between. */
+/* The C interface at work: a journal piece that is cut in the middle of a two-byte character, with a save and a load
+ * between; and a receipt that is cut in the middle of an emoji. */
 #include "common.h"
 
 static void print_units(const uint16_t *units, size_t n)
@@ -53,6 +54,15 @@ int main(int argc, char **argv)
         printf(" %02X", bytes[i]);
     printf("\n");
 
+    /* a receipt piece that is cut in the middle of an emoji (D83D DE00), which no page has: one replacement */
+    static const uint16_t cut[2] = {0x0041, 0xD83D}, rest[2] = {0xDE00, 0x0042};
+    till_outcome pair = till_encode(start.run, TABLES(&t), cut, 2, 0, bytes, 8);
+    printf("encode %u, read %zu, written %zu, pending %04X", pair.number, pair.read, pair.written, pair.run.pending);
+    saved = till_save(pair.run, line, sizeof line);
+    printf(", saved as %.*s", (int)saved.size, (const char *)line);
+    pair = till_encode(till_load(line, saved.size).run, TABLES(&t), rest, 2, 1, bytes, 8);
+    printf("encode %u, read %zu, written %zu, flags %u: %02X %02X\n", pair.number, pair.read, pair.written, pair.run.flags, bytes[0], bytes[1]);
+
     /* refusals: the run comes back as it was, and nothing is written */
     till_run bad = start.run;
     bad.direction = 2;
@@ -62,6 +72,9 @@ int main(int argc, char **argv)
     bad.pending = 257;
     printf("pending 257: save %u, decode %u\n", till_save(bad, line, sizeof line).number,
         till_decode(bad, TABLES(&t), first, 1, 1, units, 8).number);
+    bad.pending = 0xDC00;
+    printf("pending DC00: save %u, encode %u\n", till_save(bad, line, sizeof line).number,
+        till_encode(bad, TABLES(&t), text, 3, 1, bytes, 8).number);
     o = till_encode(start.run, TABLES(&t), text, 3, 2, bytes, 8);
     printf("last 2: encode %u, ended %u\n", o.number, o.run.ended);
     printf("room 3: save %u\n", till_save(start.run, line, 3).number);

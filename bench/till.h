@@ -4,8 +4,8 @@
  * does input or output. A slice is a pointer and a number of elements: the pointer is not NULL (also for 0 elements), aligned,
  * and good for that many elements, and a slice that is written overlaps no other. These are the caller's part; nothing checks them.
  *
- * Numbers of answers: 0 all read; 1 all read, a lead byte is carried; 2 the next code does not fit; 3 stopped by policy digit 0;
- * 10 bad shape; 11 piece over 65,536 units; 12 the run breaks the run rules; 13 run of the other direction or another page;
+ * Numbers of answers: 0 all read; 1 all read, a lead byte or a high surrogate is carried; 2 the next code does not fit; 3 stopped
+ * by policy digit 0; 10 bad shape; 11 piece over 65,536 units; 12 the run breaks the run rules; 13 run of the other direction or another page;
  * 14 the carried byte is no lead here; 15 the run has ended; 16 read total over 4,294,967,295; 17 start numbers not allowed;
  * 18 not a saved line; 19 the line does not fit the room. 10 and above are refusals. */
 #ifndef TILL_H
@@ -19,7 +19,7 @@ extern "C" {
 
 #define TILL_DECODING 0
 #define TILL_ENCODING 1
-#define TILL_NOTHING 256         /* pending: no byte is carried */
+#define TILL_NOTHING 256         /* pending: nothing is carried */
 #define TILL_PIECE_LIMIT 65536   /* the most units of input in one call */
 #define TILL_LINE_LIMIT 44       /* the most bytes of a saved line */
 
@@ -35,7 +35,7 @@ typedef struct {
     uint64_t read;     /* units of input read so far */
     uint64_t written;  /* units of output written so far */
     uint16_t page;
-    uint16_t pending;  /* the lead byte that is carried, or TILL_NOTHING */
+    uint16_t pending;  /* what is carried: a lead byte (decoding), a high surrogate (encoding), or TILL_NOTHING */
     uint8_t direction; /* TILL_DECODING or TILL_ENCODING */
     uint8_t single;    /* policy digits: undefined single, undefined pair, invalid */
     uint8_t pair;
@@ -91,14 +91,15 @@ typedef struct {
 till_handed till_start(uint8_t direction, uint16_t page, uint8_t single, uint8_t pair, uint8_t invalid);
 
 /* One call of a decoding run: bytes to UTF-16 units. last: 0, or any other number for the text's last piece. Answers 0 to 3 or 10 to
- * 16, the refusals in that order; 12 is also the answer to a run whose direction, pending or ended is out of range. A refused call
+ * 16, the refusals in that order; 12 is also the answer to a run whose direction or ended is over 1, or whose pending is
+ * neither a byte, TILL_NOTHING nor a high surrogate. A refused call
  * gives back the run it was handed, reads and writes nothing, and leaves out as it was. After answer 2 call again with the rest of
  * the piece, also where read is 0: a pending lead byte may have been settled alone (pending is then TILL_NOTHING). A piece of n bytes
  * gives at most n units, or n + 1 where a lead byte was pending. */
 till_outcome till_decode(till_run run, TILL_TABLES, const uint8_t *piece, size_t piece_len, uint8_t last, uint16_t *out, size_t out_len);
 
-/* One call of an encoding run: UTF-16 units to bytes; as till_decode, but nothing is pending and a piece of n units gives at most
- * 2 n bytes. */
+/* One call of an encoding run: UTF-16 units to bytes; as till_decode. What is pending is a high surrogate: with a low one it is one
+ * undefined single, else it is invalid. A piece of n units gives at most 2 n bytes, or 2 n + 1 where a unit was pending. */
 till_outcome till_encode(till_run run, TILL_TABLES, const uint16_t *piece, size_t piece_len, uint8_t last, uint8_t *out, size_t out_len);
 
 /* Writes the run's line at the front of out: 0 and its length, or 12 (the run breaks the rules), or 19 (no room; out is as it was). */

@@ -8,7 +8,8 @@ One call of a run is written in a short form:
 
     D{policy; carried; piece; last or more; room}    answer/read/output/flags/carried/ended
 
-as in `D{555;82;7C;last;9}` and `0/1/4E00/0/-/yes`. A run that carries a byte has read 1 and written 0 before the call.
+as in `D{555;82;7C;last;9}` and `0/1/4E00/0/-/yes`. A run that carries a byte or, in encoding, a unit has read 1 and written 0
+before the call.
 """
 
 import re
@@ -107,7 +108,7 @@ class Script:
         return found
 
 
-CALL = re.compile(r"([DE])\{(\d{3});(-|[0-9A-F]{2});(-|[0-9A-F]+);(last|more);(\d+)\}")
+CALL = re.compile(r"([DE])\{(\d{3});(-|[0-9A-F]{2}|[0-9A-F]{4});(-|[0-9A-F]+);(last|more);(\d+)\}")
 
 
 def fresh(direction, page, policy):
@@ -284,7 +285,7 @@ def default_as_character(tables):
 
 
 def odd_codes(tables):
-    """Codes at the edge of one byte and two; FFFF has a code; a surrogate has one."""
+    """Codes at the edge of one byte and two; FFFF has a code; a surrogate has one, which is not looked up."""
     tables.set_codes(
         {
             0x0100: 0x00FF,
@@ -294,6 +295,23 @@ def odd_codes(tables):
             0x0104: 0x0000,
             0xD83D: 0x0044,
             0xFFFF: 0x0041,
+        }
+    )
+
+
+def surrogate_codes(tables):
+    """The units around and at the ends of both ranges of surrogates have codes; only those of D7FF and E000 are looked up."""
+    tables.set_codes(
+        {
+            0x0041: 0x0041,
+            0xD7FF: 0x0042,
+            0xD800: 0x0043,
+            0xD83D: 0x0044,
+            0xDBFF: 0x8140,
+            0xDC00: 0x0045,
+            0xDE00: 0x8141,
+            0xDFFF: 0x0046,
+            0xE000: 0x827C,
         }
     )
 
@@ -341,6 +359,7 @@ OTHERS = {
     "low_bytes": low_bytes,
     "default_character": default_as_character,
     "odd_codes": odd_codes,
+    "surrogate_codes": surrogate_codes,
     "odd_defaults": odd_defaults,
     "default_ffff": default_ffff,
     "spread_leads": spread_leads,
@@ -427,7 +446,7 @@ def initial_script():
 
 def rows_script():
     script = Script()
-    script.note("The sixteen rows of document 01, the seventh as CR 2 of document 02 has it")
+    script.note("The sixteen rows of document 01, the seventh as CR 2 of document 02 has it, the fifteenth as CR 5")
     script.sample()
     script.expect("shape", "shape good")
     rows = (
@@ -445,7 +464,7 @@ def rows_script():
         (12, "E{555;-;3000;last;1}", "2/0/-/0/-/no"),
         (13, "E{555;-;3000;last;2}", "0/1/8140/0/-/yes"),
         (14, "E{555;-;00A0;last;9}", "0/1/20/0/-/yes"),
-        (15, "E{555;-;D83DDE00;last;9}", "0/2/3F3F/1/-/yes"),
+        (15, "E{555;-;D83DDE00;last;9}", "0/2/3F/1/-/yes"),
     )
     for number, asked, answered in rows:
         script.note(f"row {number}")
@@ -548,6 +567,10 @@ def grammar_script():
         "run D 7 256 5 5 - 0 0 0 on", "run D 7 5 256 5 - 0 0 0 on", "run D 7 5 5 256 - 0 0 0 on",
         "run D 65536 5 5 5 - 0 0 0 on", "run D 7 5 5 5 - 256 0 0 on", "run D 7 5 5 5 8 0 1 0 on",
         "run D 7 5 5 5 082 0 1 0 on", "run D 7 5 5 5 8a 0 1 0 on", "run D 7 5 5 5 -- 0 1 0 on",
+        "run D 7 5 5 5 0082 0 1 0 on", "run D 7 5 5 5 D83D 0 1 0 on", "run E 7 5 5 5 82 0 1 0 on",
+        "run E 7 5 5 5 D8 0 1 0 on", "run E 7 5 5 5 D83 0 1 0 on", "run E 7 5 5 5 0D83D 0 1 0 on",
+        "run E 7 5 5 5 D83DDE00 0 2 0 on", "run E 7 5 5 5 d83d 0 1 0 on", "run E 7 5 5 5 D83G 0 1 0 on",
+        "run E 7 5 5 5 -- 0 1 0 on", "run E 7 5 5 5 ---- 0 1 0 on",
         "run D 7 5 5 5 - 0 18446744073709551616 0 on", "run D 7 5 5 5 - 0 0 18446744073709551616 on",
         "run D 7 5 5 5 - 0 18446744073709551617 0 on", "run D 7 5 5 5 - 0 99999999999999999999 0 on",
         "run D 7 5 5 5 - 0 00 0 on", "run D 7 05 5 5 - 0 0 0 on", "run D 7 5 5 5 - 00 0 0 on",
@@ -604,10 +627,12 @@ def grammar_script():
     script.expect("start E 65535 000", "start 0 E 65535 0 0 0 - 0 0 0 on")
     script.expect("start E 7 999", "start 17")
     most = "18446744073709551615"
-    script.run(f"E 65535 255 255 255 FF 255 {most} {most} over")
-    script.expect("encode 0 0 last 140000", f"encode 12 0 0 - kept E 65535 255 255 255 FF 255 {most} {most} over")
+    script.run(f"E 65535 255 255 255 FFFF 255 {most} {most} over")
+    script.expect("encode 0 0 last 140000", f"encode 12 0 0 - kept E 65535 255 255 255 FFFF 255 {most} {most} over")
     script.expect("save 140000", "save 12 kept")
     script.run("D 0 0 0 0 00 0 0 0 over")
+    script.expect("save 0", "save 12 kept")
+    script.run("E 0 0 0 0 0000 0 0 0 over")
     script.expect("save 0", "save 12 kept")
     return script
 
@@ -680,15 +705,27 @@ def policies_script():
         ("D{005;-;810A;last;0}", "2/0/-/0/-/no"),
     ):
         script.call(*answered)
-    script.note("encoding: the first digit only")
+    script.note("encoding: the first digit for a unit without a code and for a surrogate pair, the third for any other surrogate")
     for digit, output in ((1, "-"), (2, "00"), (3, "3F"), (4, "5F"), (5, "3F")):
         script.call(f"E{{{digit}00;-;1234;last;3}}", f"0/1/{output}/1/-/yes")
+        script.call(f"E{{{digit}00;-;D83DDE00;last;3}}", f"0/2/{output}/1/-/yes")
+        script.call(f"E{{00{digit};-;D83D;last;3}}", f"0/1/{output}/4/-/yes")
+        script.call(f"E{{00{digit};-;DE00;last;3}}", f"0/1/{output}/4/-/yes")
+    script.call("E{055;-;D83DDE00;last;3}", "3/2/-/9/-/yes")
+    script.call("E{055;-;D83DDE00;more;0}", "3/2/-/9/-/yes")
+    script.call("E{550;-;D83D;last;0}", "3/1/-/12/-/yes")
+    script.call("E{550;-;DE00;more;0}", "3/1/-/12/-/yes")
+    script.call("E{500;-;D83DDE00;last;0}", "2/0/-/0/-/no")
+    script.call("E{100;-;D83DDE00;last;0}", "0/2/-/1/-/yes")
+    script.call("E{005;-;D83D;last;0}", "2/0/-/0/-/no")
+    script.call("E{001;-;D83D;last;0}", "0/1/-/4/-/yes")
     script.call("E{055;-;1234;last;3}", "3/1/-/9/-/yes")
     script.call("E{055;-;12340041;more;0}", "3/1/-/9/-/yes")
     script.call("E{500;-;1234;last;0}", "2/0/-/0/-/no")
     script.call("E{100;-;1234;last;0}", "0/1/-/1/-/yes")
     script.table("odd_defaults.tbl", edited(odd_defaults))
     script.call("E{555;-;1234;last;3}", "0/1/81/1/-/yes")
+    script.call("E{555;-;D83DDE00DE00;last;3}", "0/3/8181/5/-/yes")
     script.call("D{555;-;80815A83;last;3}", "0/4/D800D800D800/7/-/yes")
     script.table("default_ffff.tbl", edited(default_ffff))
     script.call("D{555;-;83;last;3}", "0/1/FFFF/4/-/yes")
@@ -902,7 +939,7 @@ def calls_script():
         ("E{155;-;12341234;more;0}", "0/2/-/1/-/no"),
         ("E{155;-;123430001234;last;1}", "2/1/-/1/-/no"),
         ("E{055;-;004112340042;last;9}", "3/2/41/9/-/yes"),
-        ("E{555;-;FFFFD800DFFF00A0;last;9}", "0/4/3F3F3F20/1/-/yes"),
+        ("E{555;-;FFFFD800DFFF00A0;last;9}", "0/4/3F3F20/1/-/yes"),
         ("E{555;-;007F0080;last;9}", "0/2/7F3F/1/-/yes"),
         ("E{555;-;4E003001;last;4}", "0/2/827C8141/0/-/yes"),
     )
@@ -960,7 +997,7 @@ def calls_script():
     script.table("default_character.tbl", edited(default_as_character))
     script.call("D{155;-;41;last;1}", "0/1/30FB/0/-/yes")
     script.call("D{000;-;418141;last;2}", "0/3/30FB30FB/0/-/yes")
-    script.note("codes up to 00FF are one byte, larger ones two; no class is looked at; FFFF and surrogates are ordinary units")
+    script.note("codes up to 00FF are one byte, larger ones two; no class is looked at; FFFF is looked up, a surrogate is not")
     script.table("odd_codes.tbl", edited(odd_codes))
     for asked, answered in (
         ("E{555;-;0100;last;1}", "0/1/FF/0/-/yes"),
@@ -970,7 +1007,9 @@ def calls_script():
         ("E{555;-;0103;last;2}", "0/1/FFFE/0/-/yes"),
         ("E{555;-;0104;last;1}", "0/1/00/0/-/yes"),
         ("E{555;-;FFFF;last;1}", "0/1/41/0/-/yes"),
-        ("E{555;-;D83DDE00;last;2}", "0/2/443F/1/-/yes"),
+        ("E{555;-;D83DDE00;last;2}", "0/2/3F/1/-/yes"),
+        ("E{555;-;D83D;last;2}", "0/1/3F/4/-/yes"),
+        ("E{555;-;D83DFFFF;last;2}", "0/2/3F41/4/-/yes"),
         ("E{555;-;0041;last;2}", "0/1/3F/1/-/yes"),
     ):
         script.call(asked, answered)
@@ -1000,10 +1039,10 @@ def refusals_script():
                 if (10 in held) != table_is_bad or not held:
                     continue
                 if 14 in held and (direction == "E" or 15 in held) and 12 not in held:
-                    continue  # such a carried byte breaks the run rules
+                    continue  # such a carried byte or unit breaks the run rules
                 count = 65537 if 11 in held else 1
                 page = 9 if 13 in held else 7
-                carried = "41" if 14 in held else "-"
+                carried = {"D": "41", "E": "0041"}[direction] if 14 in held else "-"
                 flags = 16 if 12 in held else 0
                 read = LIMIT if 16 in held else 5
                 word = "over" if 15 in held else "on"
@@ -1012,6 +1051,26 @@ def refusals_script():
                 script.run(run)
                 script.expect(f"{name} 0 {count} {mark} {chosen % 5}", f"{name} {min(held)} 0 0 - kept {run}")
     script.sample()
+    script.note("an encoding run that carries a high surrogate: 10, 11, 13 and 16, never 14")
+    run = "E 7 5 5 5 D83D 0 5 2 on"
+    script.run(run)
+    script.expect("encode 0 65537 last 3", f"encode 11 0 0 - kept {run}")
+    script.expect("encode 0 0 more 0", f"encode 1 0 0 - kept {run}")
+    script.table("index_255.tbl", bad)
+    script.expect("encode 0 65537 last 3", f"encode 10 0 0 - kept {run}")
+    script.sample()
+    script.expect("decode 0 65537 last 3", f"decode 11 0 0 - kept {run}")
+    script.expect("decode 0 1 last 3", f"decode 13 0 0 - kept {run}")
+    script.expect("decode 0 0 more 0", f"decode 13 0 0 - kept {run}")
+    run = "E 9 5 5 5 D83D 0 5 2 on"
+    script.run(run)
+    script.expect("encode 0 1 last 3", f"encode 13 0 0 - kept {run}")
+    run = f"E 7 5 5 5 D83D 0 {LIMIT} 2 on"
+    script.run(run)
+    script.expect("encode 0 1 last 3", f"encode 16 0 0 - kept {run}")
+    run = f"E 9 5 5 5 D83D 0 {LIMIT} 2 on"
+    script.run(run)
+    script.expect("encode 0 1 last 3", f"encode 13 0 0 - kept {run}")
     script.note("13: a run of the other direction")
     for direction, name in (("D", "encode"), ("E", "decode")):
         run = f"{direction} 7 5 5 5 - 0 5 2 on"
@@ -1127,8 +1186,21 @@ BROKEN_RUNS = (
     "D 7 5 5 5 - 8 1 0 on",
     "D 7 5 5 5 - 15 1 0 on",
     "E 7 5 5 5 - 9 1 0 on",
-    "E 7 5 5 5 81 0 1 0 on",
-    "E 7 5 5 5 00 0 1 0 on",
+    "E 7 5 5 5 0081 0 1 0 on",
+    "E 7 5 5 5 0000 0 1 0 on",
+    "E 7 5 5 5 D7FF 0 1 0 on",
+    "E 7 5 5 5 DC00 0 1 0 on",
+    "E 7 5 5 5 DFFF 0 1 0 on",
+    "E 7 5 5 5 FFFF 0 1 0 on",
+    "E 7 5 5 5 D83D 0 1 0 over",
+    "E 7 5 5 5 D83D 0 0 0 on",
+    "E 7 5 5 5 D83D 0 1 1 on",
+    "E 7 5 5 5 D83D 0 1 2 on",
+    "E 7 5 5 5 D83D 0 5 9 on",
+    "E 7 5 5 5 D83D 0 0 18446744073709551614 on",
+    "E 7 5 5 5 D83D 0 1 18446744073709551615 on",
+    "E 7 5 5 5 D83D 0 4294967295 8589934589 on",
+    "E 7 5 5 5 D83D 8 5 4 on",
     "D 7 5 5 5 81 0 1 0 over",
     "D 7 5 5 5 81 0 0 0 on",
     "D 7 5 5 5 81 0 1 1 on",
@@ -1154,6 +1226,10 @@ KEPT_RUNS = (
     ("D 65535 6 5 5 0A 7 4294967295 4294967294 on", "D>65535>655>0A>7>4294967295>4294967294>on"),
     ("E 7 5 5 5 - 2 1 2 on", "E>7>555>->2>1>2>on"),
     ("E 7 5 5 5 - 0 5 10 on", "E>7>555>->0>5>10>on"),
+    ("E 7 5 5 5 D83D 0 1 0 on", "E>7>555>D83D>0>1>0>on"),
+    ("E 7 0 1 0 D800 0 1 0 on", "E>7>010>D800>0>1>0>on"),
+    ("E 7 5 5 5 DBFF 7 5 8 on", "E>7>555>DBFF>7>5>8>on"),
+    ("E 65535 5 5 5 DABC 7 4294967295 8589934588 on", "E>65535>555>DABC>7>4294967295>8589934588>on"),
     ("E 65535 5 5 5 - 15 4294967295 8589934590 over", "E>65535>555>->15>4294967295>8589934590>over"),
     ("D 65535 5 5 5 - 15 4294967295 4294967295 over", "D>65535>555>->15>4294967295>4294967295>over"),
     ("D 932 5 5 5 83 0 512 300 on", "D>932>555>83>0>512>300>on"),
@@ -1180,7 +1256,14 @@ NOT_LINES = (
     # carried
     "D>7>555>8a>0>1>0>on;", "D>7>555>8>0>1>0>on;", "D>7>555>082>0>1>0>on;", "D>7>555>0082>0>1>0>on;",
     "D>7>555>G1>0>1>0>on;", "D>7>555>-->0>1>0>on;", "D>7>555>82>0>0>0>on;", "D>7>555>82>0>1>1>on;",
-    "D>7>555>82>0>1>0>over;", "E>7>555>82>0>1>0>on;", "E>7>555>D83D>0>1>0>on;", "D>7>555> >0>1>0>on;",
+    "D>7>555>82>0>1>0>over;", "D>7>555> >0>1>0>on;", "D>7>555>D83D>0>1>0>on;",
+    "E>7>555>82>0>1>0>on;", "E>7>555>D8>0>1>0>on;", "E>7>555>D83>0>1>0>on;", "E>7>555>0D83D>0>1>0>on;",
+    "E>7>555>D83DDE00>0>2>0>on;", "E>7>555>d83d>0>1>0>on;", "E>7>555>D83d>0>1>0>on;", "E>7>555>D83G>0>1>0>on;",
+    "E>7>555>-->0>1>0>on;", "E>7>555>---->0>1>0>on;", "E>7>555>>0>1>0>on;", "E>7>555>0082>0>1>0>on;",
+    "E>7>555>D7FF>0>1>0>on;", "E>7>555>DC00>0>1>0>on;", "E>7>555>DFFF>0>1>0>on;", "E>7>555>E000>0>1>0>on;",
+    "E>7>555>D83D>0>0>0>on;", "E>7>555>D83D>0>1>1>on;", "E>7>555>D83D>0>1>2>on;", "E>7>555>D83D>0>5>9>on;",
+    "E>7>555>D83D>0>1>0>over;", "E>7>555>D83D>8>1>0>over;", "E>7>555>D83D>8>1>0>on;",
+    "E>7>555>D83D>0>4294967295>8589934589>on;",
     # flags
     "D>7>555>->8>1>0>on;", "D>7>555>->15>1>0>on;", "D>7>555>->16>1>0>over;", "D>7>555>->256>1>0>over;",
     "D>7>555>->264>1>0>over;", "D>7>555>->18446744073709551617>1>0>over;",
@@ -1214,10 +1297,10 @@ def lines_script():
     script.run("E 3 1 2 3 - 1 9 4 on")
     for text in NOT_LINES:
         script.expect(f"load {line_hex(text)}", "load 18")
-    for place in range(26):
-        line = "D>932>555>83>0>512>300>on;"
-        script.expect(f"load {line_hex(line[:place])}", "load 18")
-        script.expect(f"load {line_hex(line[:place] + '>' + line[place:])}", "load 18")
+    for line in ("D>932>555>83>0>512>300>on;", "E>932>555>D83D>0>512>300>on;"):
+        for place in range(len(line)):
+            script.expect(f"load {line_hex(line[:place])}", "load 18")
+            script.expect(f"load {line_hex(line[:place] + '>' + line[place:])}", "load 18")
     script.expect(f"load {line_hex('D>7>555>8>0>0>0;')}", "load 18")
     script.expect(f"load {line_hex('D>7>555>->0>0>0>on')}00", "load 18")
     script.expect(f"load {line_hex('D>7>555>->0>0>0>on')}0D0A", "load 18")
@@ -1229,6 +1312,9 @@ def lines_script():
     script.note("a line of another page or direction: 13")
     script.expect(f"load {line_hex('D>932>555>83>0>512>300>on;')}", "load 0 D 932 5 5 5 83 0 512 300 on")
     script.expect("decode 0 0 last 1", "decode 13 0 0 - kept D 932 5 5 5 83 0 512 300 on")
+    script.expect(f"load {line_hex('E>932>555>D83D>0>512>300>on;')}", "load 0 E 932 5 5 5 D83D 0 512 300 on")
+    script.expect("encode 0 0 last 1", "encode 13 0 0 - kept E 932 5 5 5 D83D 0 512 300 on")
+    script.expect("decode 0 0 last 1", "decode 13 0 0 - kept E 932 5 5 5 D83D 0 512 300 on")
     return script
 
 
@@ -1309,6 +1395,28 @@ def edges_script():
     script.run(f"E 7 5 5 5 - 0 {LIMIT} 8589934590 on")
     script.expect("encode 0 1 last 2", f"encode 16 0 0 - kept E 7 5 5 5 - 0 {LIMIT} 8589934590 on")
     script.expect("encode 0 0 last 2", f"encode 0 0 0 - kept E 7 5 5 5 - 0 {LIMIT} 8589934590 over")
+    script.note("the same with a carried high surrogate: a pair, one alone, and the last unit that can be carried")
+    script.units("DE003000D83D")
+    script.run(f"E 7 5 5 5 D83D 0 {LIMIT - 1} 8589934586 on")
+    script.expect("encode 0 1 last 2", f"encode 0 1 1 3F kept E 7 5 5 5 - 1 {LIMIT} 8589934587 over")
+    script.run(f"E 7 5 5 5 D83D 0 {LIMIT - 1} 8589934586 on")
+    script.expect("encode 1 1 last 2", f"encode 2 0 1 3F kept E 7 5 5 5 - 4 {LIMIT - 1} 8589934587 on")
+    script.expect("encode 1 1 last 2", f"encode 0 1 2 8140 kept E 7 5 5 5 - 4 {LIMIT} 8589934589 over")
+    script.run(f"E 7 5 5 0 D83D 0 {LIMIT} 0 on")
+    script.expect("encode 1 1 last 2", f"encode 16 0 0 - kept E 7 5 5 0 D83D 0 {LIMIT} 0 on")
+    script.expect("encode 1 0 last 2", f"encode 3 0 0 - kept E 7 5 5 0 - 12 {LIMIT} 0 over")
+    script.run(f"E 7 5 5 5 D83D 0 {LIMIT} 8589934588 on")
+    script.expect("encode 1 0 more 0", f"encode 1 0 0 - kept E 7 5 5 5 D83D 0 {LIMIT} 8589934588 on")
+    script.expect("encode 1 0 last 1", f"encode 0 0 1 3F kept E 7 5 5 5 - 4 {LIMIT} 8589934589 over")
+    script.run(f"E 7 5 5 5 - 0 {LIMIT - 1} 8589934588 on")
+    script.expect("encode 2 1 more 0", f"encode 1 1 0 - kept E 7 5 5 5 D83D 0 {LIMIT} 8589934588 on")
+    script.note("65,536 units after a carried high surrogate, and one at their end")
+    script.expect("fillunits 65536 DE00D83D", "units 65536")
+    script.run("E 7 1 5 1 D83D 0 1 0 on")
+    script.expect("encode 0 65536 more 0", "encode 1 65536 0 - kept E 7 1 5 1 D83D 1 65537 0 on")
+    script.expect("encode 0 65535 last 0", "encode 0 65535 0 - kept E 7 1 5 1 - 1 131072 0 over")
+    script.expect("count E 151 1 65535", "count 0 5 65535 0")
+    script.expect("count E 555 0 65536", "count 0 5 65536 32769")
     script.expect("fillbytes 65536 83", "bytes 65536")
     script.run("D 7 5 5 1 - 4 4294901759 0 on")
     script.expect("decode 0 65536 last 0", f"decode 0 65536 0 - kept D 7 5 5 1 - 4 {LIMIT} 0 over")

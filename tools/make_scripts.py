@@ -5,10 +5,10 @@
     make_scripts.py --check                               makes them in memory and compares them with the stored files
     make_scripts.py --seed N --lists M --out FOLDER       writes M further lists of each random kind, from seed N, into FOLDER
 
-NAME.out has the answers of second_converter.py. In the fixed scripts (fixed_scripts.py, bad_half_scripts.py, field_scripts.py)
-an expected answer is written by hand, from the documents and the readings of them, for every command, and making the scripts
-fails where second_converter.py answers otherwise. The random scripts (random_scripts.py) are the same for the same seed.
-join_scripts.py joins all scripts for the console.
+NAME.out has the answers of second_converter.py. In the fixed scripts (fixed_scripts.py, bad_half_scripts.py,
+surrogate_scripts.py, field_scripts.py) an expected answer is written by hand, from the documents and the readings of them, for
+every command, and making the scripts fails where second_converter.py answers otherwise. The random scripts (random_scripts.py)
+are the same for the same seed. join_scripts.py joins all scripts for the console.
 """
 
 import argparse
@@ -21,6 +21,7 @@ import field_scripts
 import fixed_scripts
 import random_scripts
 import second_converter
+import surrogate_scripts
 
 ROOT = os.path.dirname(os.path.dirname(os.path.abspath(__file__)))
 SCRIPTS = os.path.join(ROOT, "scripts")
@@ -32,6 +33,7 @@ LISTS = {
     "lists_small": 800,
     "lists_damaged": 150,
     "lists_halves": 200,
+    "lists_surrogates": 150,
     "lists_long": 20,
     "runs": 120,
     "lists_fields": 25,
@@ -50,6 +52,7 @@ def scripts_by_hand():
     return {
         **fixed_scripts.scripts(),
         "bad_halves": bad_half_scripts.bad_halves_script(),
+        "surrogates": surrogate_scripts.surrogates_script(),
         "fields": field_scripts.fields_script(),
         "field_cuttings": field_scripts.cuttings_script(),
     }

@@ -64,10 +64,11 @@ SHAPES = {
 DECODE_POLICY = "642"
 UNDEFINED_PAIR_UNIT = 0x005F
 INVALID_UNIT = 0x0000
-# Encoding policies: an undefined unit is NUL in the dense part; it is skipped where no unit has a code.
+# Encoding policies: an undefined unit is NUL in the dense part; where no unit has a code it is skipped, and so is a surrogate.
 ENCODE_POLICY = "255"
 UNDEFINED_UNIT_BYTES = [0x00]
-SKIP_POLICY = "155"
+SKIP_POLICY = "151"
+SURROGATES = range(0xD800, 0xE000)
 # A stretch of at least this many units without a code is left to the script undefined_units.
 GAP = 12
 
@@ -156,7 +157,9 @@ def read_pair(lead, second, shape, characters):
 
 
 def read_unit(unit, codes):
-    """Document 01 on a unit: its bytes under ENCODE_POLICY and the flag it sets."""
+    """Document 01 on a unit that is no surrogate: its bytes under ENCODE_POLICY and the flag it sets."""
+    if unit in SURROGATES:
+        raise PageError(f"{unit:04X}, a surrogate, is near a unit that has a code")
     if unit not in codes:
         return UNDEFINED_UNIT_BYTES, 1
     code = codes[unit]
@@ -254,6 +257,18 @@ def page_script(page, mapping):
     return script
 
 
+def undefined_flags(first, count):
+    """Document 02, CR 5, on a stretch of rising units without a code. Each of its surrogates is invalid (4), but DBFF and DC00,
+    which are a pair: one undefined single (1), as is every other unit."""
+    stretch = range(first, first + count)
+    surrogates = [unit for unit in SURROGATES if unit in stretch]
+    if not surrogates:
+        return 1
+    if len(surrogates) < len(SURROGATES):
+        raise PageError(f"the stretch from {first:04X} on has some surrogates and not all of them")
+    return 1 | 4
+
+
 def undefined_script(mappings):
     script = Script()
     script.note("The units without a code, on every page: they are skipped, so that nothing is written.")
@@ -262,7 +277,8 @@ def undefined_script(mappings):
         script.add(f"table cp{page}.tbl", table_answer(page, mapping))
         for is_dense, first, count in stretches(mapping.codes):
             if not is_dense:
-                script.add(f"convert E {SKIP_POLICY} {first} {count} 1", f"convert 0 1 {count} 0 - kept")
+                flags = undefined_flags(first, count)
+                script.add(f"convert E {SKIP_POLICY} {first} {count} 1", f"convert 0 {flags} {count} 0 - kept")
     return script
 
 

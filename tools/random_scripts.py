@@ -6,6 +6,7 @@ Kinds of script:
     lists_small      the same on random small tables
     lists_damaged    the same on damaged tables, changing between them and good ones
     lists_halves     the same on texts of leads and bytes of every kind after them, decoded only
+    lists_surrogates the same on texts of surrogates, in pairs and alone, and other units between, encoded only
     lists_long       lists on texts of up to 66,000 elements, with pieces over the limit
     runs             runs of random numbers, most of which break the rules, and the calls on them
     lists_fields     texts cut into fields: blocks cut anywhere, fields about the limit, buffers and states of all sizes
@@ -21,6 +22,10 @@ from make_sample import sample_tables
 from table_image import LEAD, NEVER, NONE, SECOND, SINGLE, Tables
 
 LIMIT = 4294967295
+
+# Surrogates, the first and the last of each range often.
+HIGH = (0xD800, 0xDBFF, 0xD83D, *range(0xD800, 0xDC00, 0x55))
+LOW = (0xDC00, 0xDFFF, 0xDE00, *range(0xDC00, 0xE000, 0x55))
 
 
 # ---------------------------------------------------------------------------------------------------------------
@@ -158,7 +163,7 @@ def random_halves(chance, tables, count):
 
 
 def random_units(chance, tables, count):
-    """A unit text: units with codes of one and two bytes, units without, surrogates."""
+    """A unit text: units with codes of one and two bytes, units without, surrogates in pairs and alone."""
     known = []
     for high, block in enumerate(tables.index):
         codes = tables.blocks[256 * block : 256 * block + 256]
@@ -169,19 +174,35 @@ def random_units(chance, tables, count):
         if code > 0xFF:
             long_ones.append(unit)
     text = []
-    for _ in range(count):
+    while len(text) < count:
         turn = chance.random()
         if known and turn < 0.45:
             text.append(chance.choice(known))
-        elif long_ones and turn < 0.75:
+        elif long_ones and turn < 0.7:
             text.append(chance.choice(long_ones))
-        elif turn < 0.8:
-            text.append(chance.randrange(0xD800, 0xE000))
         elif turn < 0.85:
+            text += chance.choice(([], [chance.choice(HIGH)])) + chance.choice(([], [chance.choice(LOW)]))
+        elif turn < 0.9:
             text.append(0xFFFF)
         else:
             text.append(chance.randrange(0x10000))
-    return text
+    return text[:count]
+
+
+def random_surrogates(chance, tables, count):
+    """A unit text of surrogates, in pairs, alone and in the wrong order, and other units between them."""
+    text = []
+    while len(text) < count:
+        kind = chance.choice(("pair", "pair", "high", "high", "high", "low", "edge", "unit", "unit"))
+        if kind in ("pair", "high"):
+            text.append(chance.choice(HIGH))
+        if kind in ("pair", "low"):
+            text.append(chance.choice(LOW))
+        if kind == "edge":
+            text.append(chance.choice((0xD7FF, 0xD800, 0xDBFF, 0xDC00, 0xDFFF, 0xE000)))
+        if kind == "unit":
+            text += random_units(chance, tables, 1)
+    return text[:count]
 
 
 def random_policy(chance, direction):
@@ -229,6 +250,16 @@ def damaged_line(chance, line):
         joined(b"D", page, b"555", b"82", b"0", b"5", b"5", b"on"),
         joined(b"D", page, b"555", b"82", b"0", b"5", b"4", b"over"),
         joined(b"E", page, b"555", b"82", b"0", b"5", b"4", b"on"),
+        joined(b"E", page, b"555", b"0082", b"0", b"5", b"4", b"on"),
+        joined(b"E", page, b"555", b"DC00", b"0", b"5", b"4", b"on"),
+        joined(b"E", page, b"555", b"D7FF", b"0", b"5", b"4", b"on"),
+        joined(b"E", page, b"555", b"d83d", b"0", b"5", b"4", b"on"),
+        joined(b"E", page, b"555", b"D83", b"0", b"5", b"4", b"on"),
+        joined(b"E", page, b"555", b"D83D", b"0", b"0", b"0", b"on"),
+        joined(b"E", page, b"555", b"D83D", b"0", b"5", b"9", b"on"),
+        joined(b"E", page, b"555", b"D83D", b"0", b"5", b"4", b"over"),
+        joined(b"D", page, b"555", b"D83D", b"0", b"5", b"4", b"on"),
+        joined(b"D", page, b"555", b"0082", b"0", b"5", b"4", b"on"),
         joined(direction, page, digits, b"-", b"8", read, written, b"on"),
         joined(direction, page, digits, b"-", b"16", read, written, b"over"),
         joined(direction, page, digits, b"-", flags, b"4294967296", b"0", b"over"),
@@ -284,19 +315,19 @@ class Player:
         return tuple(("\n".join(lines) + "\n").encode("ascii") for lines in (self.commands, self.answers))
 
 
-def set_text(player, chance, tables, direction, count, make_bytes):
-    if direction == "D":
-        player.do(f"bytes {hex_text(make_bytes(chance, tables, count), 2)}")
-    else:
-        player.do(f"units {hex_text(random_units(chance, tables, count), 4)}")
+# The directions of a list's run, each with what makes its text.
+PLAIN = (("D", random_bytes), ("D", random_bytes), ("E", random_units))
+HALVES = (("D", random_halves),)
+SURROGATES = (("E", random_surrogates),)
 
 
-def play_list(player, chance, names, tables, text_size, call_count, directions="DDE", make_bytes=random_bytes):
+def play_list(player, chance, names, tables, text_size, call_count, makers=PLAIN):
     """One list: a start, then calls that go on from the run's own position, lines saved and read back."""
-    direction = chance.choice(directions)
+    direction, make_text = chance.choice(makers)
     name = chance.choice(names)
     player.do(f"table {name}")
-    set_text(player, chance, tables[name], direction, text_size, make_bytes)
+    text, digits = {"D": ("bytes", 2), "E": ("units", 4)}[direction]
+    player.do(f"{text} {hex_text(make_text(chance, tables[name], text_size), digits)}")
     page = tables[name].page or 7
     if chance.random() < 0.03:
         page = chance.choice((1, 7, 9, 65535))
@@ -406,14 +437,20 @@ def random_total(chance):
     )
 
 
+# What a run may carry by the run rules, and what else is tried.
+CARRIED = {"D": ("-", "81", "82", "41"), "E": ("-", "D83D", "D800", "DBFF")}
+OTHERS_CARRIED = {"D": ("83", "00", "FF"), "E": ("D7FF", "DC00", "0082")}
+
+
 def random_run(chance):
     """The ten words of a run: one that keeps the rules, then at most two fields changed to anything."""
     direction = chance.choice("DE")
     read = chance.choice((0, 1, 2, 9, chance.randrange(1000), LIMIT - 2, LIMIT - 1, LIMIT, chance.randrange(LIMIT)))
     most = read if direction == "D" else 2 * read
-    carried = chance.choice(("-", "81", "82", "41")) if direction == "D" and most > 0 else "-"
+    carried = chance.choice(CARRIED[direction]) if most > 0 else "-"
     word = chance.choice(("on", "on", "over")) if carried == "-" else "on"
-    written = chance.choice((0, most, most // 2)) if carried == "-" else chance.choice((0, most - 1))
+    least_left = 1 if direction == "D" else 2
+    written = chance.choice((0, most, most // 2)) if carried == "-" else chance.choice((0, most - least_left))
     digits = [chance.choice("1234505") for _ in range(3)]
     flags = chance.choice((0, 1, 4, 7)) if word == "on" else chance.choice((0, 7, 9, 15))
     words = [direction, "7", *digits, carried, str(flags), str(read), str(written), word]
@@ -421,7 +458,7 @@ def random_run(chance):
         (0, chance.choice("DE")),
         (1, chance.choice(("0", "9", "65535"))),
         (2 + chance.randrange(3), chance.choice(("6", "7", "255"))),
-        (5, chance.choice(("-", "81", "82", "41", "83", "00", "FF"))),
+        (5, chance.choice(CARRIED[direction] + OTHERS_CARRIED[direction])),
         (6, chance.choice(("8", "12", "15", "16", "255"))),
         (7, str(random_total(chance))),
         (8, str(min(chance.choice((read + 1, 2 * read + 1, max(read - 1, 0), random_total(chance))), 2**64 - 1))),
@@ -430,6 +467,9 @@ def random_run(chance):
     for _ in range(chance.choice((0, 0, 1, 1, 1, 2))):
         place, word = chance.choice(changes)
         words[place] = word
+    # a byte in a decoding run, a unit in an encoding one: a run with another number of digits is no command
+    if words[5] != "-":
+        words[5] = words[5][-2:] if words[0] == "D" else words[5].rjust(4, "0")
     return " ".join(words)
 
 
@@ -437,11 +477,11 @@ def play_runs(player, chance):
     """Runs of random numbers, and what each call says to them."""
     player.do("table sample.tbl")
     player.do("bytes 4182807C81408341815A")
-    player.do("units 004130001234D83D4E00")
+    player.do("units 0041DE003000D83DDE001234D83D4E00")
     for _ in range(6):
         player.do(f"run {random_run(chance)}")
         before = player.do("save 44")
-        name, size = {"D": ("decode", 10), "E": ("encode", 5)}[player.run.direction]
+        name, size = {"D": ("decode", 10), "E": ("encode", 8)}[player.run.direction]
         for _ in range(2):
             start = chance.randrange(size + 1)
             count = chance.choice((0, 1, 2, chance.randrange(size + 1)))
@@ -514,7 +554,10 @@ def random_script(kind, seed, count, tables, folder):
             play_list(player, chance, names, tables, size, calls)
         elif kind == "lists_halves":
             name = chance.choice(["sample.tbl", "sample.tbl", *random_names])
-            play_list(player, chance, [name], tables, size, calls, "D", random_halves)
+            play_list(player, chance, [name], tables, size, calls, HALVES)
+        elif kind == "lists_surrogates":
+            name = chance.choice(["sample.tbl", "sample.tbl", *random_names])
+            play_list(player, chance, [name], tables, size, calls, SURROGATES)
         elif kind == "lists_long":
             play_long_list(player, chance, random_names + ["sample.tbl"], tables)
         elif kind == "lists_fields":

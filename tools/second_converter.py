@@ -135,8 +135,21 @@ def read_code(table, first, second):
 # ---------------------------------------------------------------------------------------------------------------
 
 
-def read_unit(table, unit):
-    """The code of one unit: "Each unit alone is looked up; surrogates are ordinary units"."""
+HIGH_SURROGATES = range(0xD800, 0xDBFF + 1)
+LOW_SURROGATES = range(0xDC00, 0xDFFF + 1)
+
+
+def read_unit(table, unit, following):
+    """The code that begins with a unit; following is the unit after it, None at the end of the whole text."""
+    # Document 02, CR 5: "A high surrogate (D800 to DBFF) followed by a low one (DC00 to DFFF) is one undefined single of two
+    # units."
+    if unit in HIGH_SURROGATES and following is not None and following in LOW_SURROGATES:
+        return Code(2, UNDEFINED_SINGLE, [])
+    # "A surrogate otherwise is invalid, one unit, under the third digit, flag 4, and the unit after it is read afresh. No
+    # surrogate is looked up."
+    if unit in HIGH_SURROGATES or unit in LOW_SURROGATES:
+        return Code(1, INVALID, [])
+    # "Each unit alone is looked up"
     block = table.index[unit // 256]
     code = table.blocks[256 * block + unit % 256]
     # "No code: undefined single."
@@ -195,7 +208,7 @@ PIECE_LIMIT = 65536  # 11: "input over 65,536 units"
 READ_LIMIT = 4294967295  # 16: "read total plus this input exceeds 4,294,967,295"
 
 ALL_READ = 0
-LEAD_CARRIED = 1
+CARRIED = 1
 DOES_NOT_FIT = 2
 STOPPED_BY_POLICY = 3
 
@@ -213,12 +226,26 @@ class Taken:
     carried: Optional[int]
 
 
-def take_bytes(table, digits, carried, piece, last, room):
-    """Takes code after code from the carried byte and the piece."""
+def read_next(direction, table, first, second):
+    """The code that begins with first; second is the byte or unit after it, None at the end of the whole text."""
+    if direction == DECODING:
+        return read_code(table, first, second)
+    return read_unit(table, first, second)
+
+
+def may_be_carried(direction, table, first):
+    """A lead; in encoding a high surrogate: "Encoding runs now carry a high surrogate between pieces as decoding runs a lead"."""
+    if direction == DECODING:
+        return table.classes[first] in LEADS
+    return first in HIGH_SURROGATES
+
+
+def take_codes(direction, table, digits, carried, piece, last, room):
+    """Takes code after code from what is carried and the piece."""
     read, output, flags = 0, [], 0
     while carried is not None or read < len(piece):
         if carried is not None:
-            before = 1  # the first byte of the code was read by an earlier call
+            before = 1  # the first byte or unit of the code was read by an earlier call
             first = carried
         else:
             before = 0
@@ -226,45 +253,28 @@ def take_bytes(table, digits, carried, piece, last, room):
         next_place = read + 1 - before
         second = piece[next_place] if next_place < len(piece) else None
         # "In a call not marked last, a lead that is the final byte is read and carried, even with no room."
-        if not last and second is None and table.classes[first] in LEADS:
-            return Taken(LEAD_CARRIED, len(piece), output, flags, first)
-        code = read_code(table, first, second)
+        if not last and second is None and may_be_carried(direction, table, first):
+            return Taken(CARRIED, len(piece), output, flags, first)
+        code = read_next(direction, table, first, second)
         if code.kind == 0:
             writes = code.meaning
         else:
-            writes = policy_output(DECODING, table, digit_for(digits, code.kind), first)
-        # "Stopping reads past the code, sets its flag and 8, writes nothing and ends the run." A byte after a lead that is
-        # a code alone is not of that code (CR 2): "Under policy 0 the run ends with that next byte unread."
+            writes = policy_output(direction, table, digit_for(digits, code.kind), first)
+        # "Stopping reads past the code, sets its flag and 8, writes nothing and ends the run." A byte or unit after a code
+        # that is a lead or a high surrogate alone is not of that code (CR 2, CR 5): "Under policy 0 the run ends with that
+        # next byte unread."
         if writes is STOP:
             return Taken(STOPPED_BY_POLICY, read + code.size - before, output, flags | code.kind | STOPPED, None)
         # "A code is taken only if everything it writes fits; otherwise none of it is written and its unread input
         # stays unread."
         if len(output) + len(writes) > room:
             return Taken(DOES_NOT_FIT, read, output, flags, carried)
-        # "If the lead was carried, a call may now settle it and read nothing" (CR 2): then nothing is added here
+        # "If the lead was carried, a call may now settle it and read nothing" (CR 2; "The reading promise of CR 2 covers it",
+        # CR 5): then nothing is added here
         read += code.size - before
         output += writes
         flags |= code.kind
         carried = None
-    return Taken(ALL_READ, read, output, flags, None)
-
-
-def take_units(table, digits, piece, room):
-    """Takes unit after unit. "Encoding uses the first digit only." """
-    read, output, flags = 0, [], 0
-    while read < len(piece):
-        code = read_unit(table, piece[read])
-        if code.kind == 0:
-            writes = code.meaning
-        else:
-            writes = policy_output(ENCODING, table, digits[0], None)
-        if writes is STOP:
-            return Taken(STOPPED_BY_POLICY, read + 1, output, flags | code.kind | STOPPED, None)
-        if len(output) + len(writes) > room:
-            return Taken(DOES_NOT_FIT, read, output, flags, None)
-        read += 1
-        output += writes
-        flags |= code.kind
     return Taken(ALL_READ, read, output, flags, None)
 
 
@@ -278,7 +288,8 @@ def run_call_refusal(run, direction, table, piece):
         return 12
     if run.direction != direction or run.page != table.page:
         return 13
-    if run.carried is not None and table.classes[run.carried] not in LEADS:
+    # "14 is for decoding" (CR 5)
+    if direction == DECODING and run.carried is not None and table.classes[run.carried] not in LEADS:
         return 14
     if run.ended:
         return 15
@@ -301,10 +312,7 @@ def run_call(direction, run, table, piece, last, out):
     # "A refused run call returns the run it was handed, read 0, written 0."
     if refusal is not None:
         return Outcome(refusal, 0, 0, run)
-    if direction == DECODING:
-        taken = take_bytes(table, run.digits, run.carried, piece, last, len(out))
-    else:
-        taken = take_units(table, run.digits, piece, len(out))
+    taken = take_codes(direction, table, run.digits, run.carried, piece, last, len(out))
     for place, element in enumerate(taken.output):
         out[place] = element
     # "In a call marked last the run ends when all is read and no byte is carried"; stopping ends it too
@@ -333,9 +341,7 @@ def one_go_refusal(direction, digits, table, text):
 
 def take_whole_text(direction, digits, table, text, room):
     """ "as one call marked last on a fresh run of the set's page" """
-    if direction == DECODING:
-        return take_bytes(table, digits, None, text, True, room)
-    return take_units(table, digits, text, room)
+    return take_codes(direction, table, digits, None, text, True, room)
 
 
 @dataclass
@@ -376,7 +382,7 @@ class Run:
     direction: str
     page: int
     digits: tuple
-    carried: Optional[int]
+    carried: Optional[int]  # "the run's carried field holds a byte or a unit" (CR 5): a byte in decoding, a unit in encoding
     flags: int
     read: int
     written: int
@@ -407,10 +413,26 @@ def keeps_run_rules(run):
     # "flag 8 only if ended"
     if run.flags & STOPPED and not run.ended:
         return False
+    if run.carried is None:
+        return True
     # "a carried byte only if decoding, not ended, written below read"
-    if run.carried is not None:
-        return run.direction == DECODING and not run.ended and run.written < run.read
-    return True
+    if run.direction == DECODING:
+        return not run.ended and run.written < run.read
+    # CR 5: "a carried unit is also allowed in an encoding run if it is a high surrogate, the run is not ended, and written
+    # plus 2 is at most 2 x read"
+    return run.carried in HIGH_SURROGATES and not run.ended and run.written + 2 <= 2 * run.read
+
+
+# "carried byte as two capital hex digits or `-`"; CR 5: "an `E` line has four hex digits or `-` there"
+CARRIED_DIGITS = {DECODING: 2, ENCODING: 4}
+
+
+def carried_field(run):
+    return "-" if run.carried is None else f"{run.carried:0{CARRIED_DIGITS[run.direction]}X}"
+
+
+def is_carried_field(direction, field):
+    return re.fullmatch(rb"-|[0-9A-F]{%d}" % CARRIED_DIGITS[direction], field) is not None
 
 
 def line_of(run):
@@ -419,7 +441,7 @@ def line_of(run):
         run.direction,
         str(run.page),
         "".join(str(digit) for digit in run.digits),
-        "-" if run.carried is None else f"{run.carried:02X}",
+        carried_field(run),
         str(run.flags),
         str(run.read),
         str(run.written),
@@ -447,7 +469,8 @@ def load_call(line):
         return 18
     if not re.fullmatch(rb"[0-9]{3}", digits):
         return 18
-    if not re.fullmatch(rb"-|[0-9A-F]{2}", carried):
+    direction = direction.decode("ascii")
+    if not is_carried_field(direction, carried):
         return 18
     numbers = [plain_number(field) for field in (page, flags, read, written)]
     if None in numbers:
@@ -456,7 +479,7 @@ def load_call(line):
     if page > 65535:  # "page (1 to 65,535)"
         return 18
     run = Run(
-        direction.decode("ascii"),
+        direction,
         page,
         tuple(int(digit) for digit in digits.decode("ascii")),
         None if carried == b"-" else int(carried, 16),
@@ -607,12 +630,11 @@ def policy_word(word):
     return tuple(int(digit) for digit in word.decode("ascii"))
 
 
-def carried_word(word):
-    if word == b"-":
-        return None
-    if not re.fullmatch(rb"[0-9A-F]{2}", word):
+def carried_word(direction, word):
+    """ "CARRIED in `run` and in RUN has four digits in an encoding run." """
+    if not is_carried_field(direction, word):
         raise NotACommand
-    return int(word, 16)
+    return None if word == b"-" else int(word, 16)
 
 
 def hex_text(elements, digits):
@@ -623,10 +645,9 @@ def hex_text(elements, digits):
 
 def run_text(run):
     """RUN: ten words."""
-    carried = "-" if run.carried is None else f"{run.carried:02X}"
     digits = " ".join(str(digit) for digit in run.digits)
     word = "over" if run.ended else "on"
-    return f"{run.direction} {run.page} {digits} {carried} {run.flags} {run.read} {run.written} {word}"
+    return f"{run.direction} {run.page} {digits} {carried_field(run)} {run.flags} {run.read} {run.written} {word}"
 
 
 def kept_text(out, written, fill):
@@ -772,11 +793,12 @@ class Console:
         return f"start 0 {run_text(self.run)}"
 
     def do_run(self, direction, page, single, pair, invalid, carried, flags, read, written, word):
+        direction = direction_word(direction)
         self.run = Run(
-            direction_word(direction),
+            direction,
             number_word(page, 65535),
             (number_word(single, 255), number_word(pair, 255), number_word(invalid, 255)),
-            carried_word(carried),
+            carried_word(direction, carried),
             number_word(flags, 255),
             number_word(read, 2**64 - 1),
             number_word(written, 2**64 - 1),

@@ -31,15 +31,15 @@ use Rattle.capi.specs.declared.TillHanded.{TillHanded}
 use Rattle.capi.specs.declared.TillSaved.{TillSaved}
 use Rattle.capi.specs.Interface.{directionIn, directionOut, isRun, runIn, runOut, calledOut, isLast, tillCall, TillAnswered, handed, startOut, tillStart, loadOut, tillSave, TillSavedAs}
 use Rattle.capi.specs.Lists.{outcomeOut, TillResult, fed, saved, loaded, TillEntry, TillMeets, tillHandAfter, AllTillMeet, tillCalls, TillTrace, InNumbers, AllInNumbers}
-use Rattle.capi.proofs.InterfaceLaws.{run-returns, call-named}
+use Rattle.capi.proofs.InterfaceLaws.{HighPending, valid-high, run-returns, call-named}
 
 -- ---- one call
-module _ (s : Setting) (run : Run) (fits : Representable run) where
+module _ (s : Setting) (run : Run) (fits : Representable run) (high : HighPending (run .pending)) where
   named : isRun (runOut run) ≡ true
-  named = run-returns run fits .1
+  named = run-returns run fits high .1
 
   returns : runIn (runOut run) ≡ run
-  returns = run-returns run fits .0
+  returns = run-returns run fits high .0
 
   -- what C sees of an answered call
   same-outcome : (piece : List ℕ) (last : Bool) (mark : ℕ) (before : List ℕ) (r : TillOutcome) (lent : List ℕ) (o : Outcome) (after : List ℕ) → last ≡ isLast mark
@@ -122,7 +122,7 @@ module _ (s : Setting) (h : Proper s) where
   traced (x ∷ es) m hand e g ok w =
       let (r, a) = result-exists s (m .run) (x .call) in
       let here : TillMeets s (runOut (m .run)) (x .call) (x .mark) (x .result) = subst (λ (n : TillRun). TillMeets s n (x .call) (x .mark) (x .result)) e (w .0) in
-      let same = in-numbers s (m .run) (fits m g) (x .call) (x .mark) (x .result) r here a in
+      let same = in-numbers s (m .run) (fits m g) (valid-high (m .run) (g .fair .valid)) (x .call) (x .mark) (x .result) r here a in
       let model = hand-next s m (m .run) (x .call) r refl (ok .0) a in
       let then = ap (λ (n : TillRun). tillHandAfter n (x .result)) e ∙ hand-numbers (m .run) (x .result) r same ∙ ap runOut model in
       let rest = traced es (next s m (x .call)) (tillHandAfter hand (x .result)) then (kept-next s h m g (x .call) (ok .0)) (ok .1) (w .1) in

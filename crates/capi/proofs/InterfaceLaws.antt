@@ -1,30 +1,32 @@
 -- Laws of the C interface: a run's numbers return, and what the calls behind the interface promise is what it promises.
-use mathlib.Core.Bool.{Bool, true, false, _&&_}
+use mathlib.Core.Bool.{Bool, true, false, _&&_, _||_}
 use mathlib.Core.List.{List}
 use mathlib.Core.Path.{_≡_, refl, sym, ap, _∙_, subst}
 use Prim.Native.Nat.{ℕ, _<_, _≤_}
 use lib.Dec.{leb, ltb, eqb}
 use lib.ListN.{length}
 use native.Mathlib.Omega.{arith}
-use borrow.Author.Tests.{eqb-true, eqb-false, ltb-true, ltb-false, leb-true, lt-ltb, le-leb, ne-eqb}
+use borrow.Author.Tests.{eqb-true, eqb-false, ltb-true, ltb-false, leb-true, lt-ltb, le-ltb, le-leb, lt-leb, ne-eqb}
 use Rattle.codepage.specs.CodePage.{CodePage, pick, firstFault, isGood}
 use Rattle.engine.specs.declared.Direction.{Direction}
 use Rattle.engine.specs.declared.Direction.the-variants.{Decoding, Encoding}
 use Rattle.codepage.specs.Lent.{over}
+use Rattle.codepage.specs.Reading.{isHigh}
 use Rattle.engine.proofs.EffectLaws.{and-left, and-right}
 use Rattle.convert.specs.declared.Pending.{Pending}
-use Rattle.convert.specs.declared.Pending.the-variants.{Nothing, Byte}
+use Rattle.convert.specs.declared.Pending.the-variants.{Nothing, Byte, High}
 use Rattle.convert.specs.declared.Run.{Run}
 use Rattle.convert.specs.declared.Outcome.{Outcome}
 use Rattle.convert.specs.Runs.{pieceLimit, validRun}
 use Rattle.convert.specs.Calls.{numberOf, check, refusal, Called, refusedCall, runCall, Answered}
+use Rattle.convert.proofs.CallLaws.{PendingIn, valid-in, valid-facts}
 use Rattle.convert.proofs.RunLaws.{refused-same}
 use Rattle.checkpoint.specs.declared.Written.{Written}
 use Rattle.checkpoint.specs.Line.{writeOf, writtenAs, Saved, CarriedFits, Representable}
 use Rattle.capi.specs.declared.TillRun.{TillRun}
 use Rattle.capi.specs.declared.TillOutcome.{TillOutcome}
 use Rattle.capi.specs.declared.TillSaved.{TillSaved}
-use Rattle.capi.specs.Interface.{directionIn, directionOut, pendingIn, pendingOut, flagOut, isRun, runOn, runIn, runOut, TillCalled, calledOut, tillRefusal, tillRefused, isLast, tillCall, TillAnswered, pageNamed, answerOut, tillSave, TillSavedAs}
+use Rattle.capi.specs.Interface.{directionIn, directionOut, isPending, pendingIn, pendingOut, flagOut, isRun, runOn, runIn, runOut, TillCalled, calledOut, tillRefusal, tillRefused, isLast, tillCall, TillAnswered, pageNamed, answerOut, tillSave, TillSavedAs}
 
 -- ---- a run and its numbers
 direction-returns : (n : ℕ) → n ≤ 1 → directionOut (directionIn n) ≡ n
@@ -34,12 +36,13 @@ direction-returns n h = by-test (eqb n 0) refl
     by-test true e = omega (arith, eqb-true n 0 e)
     by-test false e = omega (arith, eqb-false n 0 e, h)
 
-pending-returns : (n : ℕ) → n ≤ 256 → pendingOut (pendingIn n) ≡ n
-pending-returns n h = by-test (ltb n 256) refl
+pending-returns : (n : ℕ) → pendingOut (pendingIn n) ≡ n
+pending-returns n = by-test (ltb n 256) (eqb n 256) refl
   where
-    by-test : (t : Bool) → ltb n 256 ≡ t → pendingOut (pick t (Byte n) Nothing) ≡ n
-    by-test true e = refl
-    by-test false e = omega (arith, ltb-false n 256 e, h)
+    by-test : (t u : Bool) → eqb n 256 ≡ u → pendingOut (pick t (Byte n) (pick u Nothing (High n))) ≡ n
+    by-test true u e = refl
+    by-test false true e = omega (arith, eqb-true n 256 e)
+    by-test false false e = refl
 
 ended-returns : (n : ℕ) → n ≤ 1 → flagOut (eqb n 1) ≡ n
 ended-returns n h = by-test (eqb n 1) refl
@@ -55,18 +58,31 @@ numbers-return run e =
     let rest = and-right (leb (run .direction) 1) _ e in
     rw (
       direction-returns (run .direction) (leb-true _ _ (and-left (leb (run .direction) 1) _ e)),
-      pending-returns (run .pending) (leb-true _ _ (and-left (leb (run .pending) 256) _ rest)),
-      ended-returns (run .ended) (leb-true _ _ (and-right (leb (run .pending) 256) _ rest)),
+      pending-returns (run .pending),
+      ended-returns (run .ended) (leb-true _ _ (and-right (isPending (run .pending)) _ rest)),
     )
 
--- EVERY RUN that the program can hold is the one that its numbers name, and its numbers are those of a run.
+-- EVERY RUN that the program can hold is the one that its numbers name, and its numbers are those of a run; where a unit is
+-- pending, if it is a high surrogate, as the run rules ask.
+abbrev pub HighPending : Pending → Type 0
+HighPending Nothing = Unit {0}
+HighPending (Byte byte) = Unit {0}
+HighPending (High unit) = isHigh unit ≡ true
+
 direction-named : (d : Direction) → directionIn (directionOut d) ≡ d
 direction-named Decoding = refl
 direction-named Encoding = refl
 
-pending-named : (p : Pending) → CarriedFits p → pendingIn (pendingOut p) ≡ p
-pending-named Nothing h = refl
-pending-named (Byte byte) h = rw (lt-ltb byte 256 h)
+high-large : (unit : ℕ) → isHigh unit ≡ true → 256 < unit
+unfolding isHigh
+high-large unit e = omega (arith, leb-true 0xD800 unit (and-left (leb 0xD800 unit) _ e))
+
+pending-named : (p : Pending) → CarriedFits p → HighPending p → pendingIn (pendingOut p) ≡ p
+pending-named Nothing h i = refl
+pending-named (Byte byte) h i = rw (lt-ltb byte 256 h)
+pending-named (High unit) h i =
+    let large : 256 < unit = high-large unit i in
+    rw (le-ltb unit 256 (omega arith), ne-eqb unit 256 (λ z. omega arith))
 
 ended-named : (t : Bool) → eqb (flagOut t) 1 ≡ t
 ended-named true = refl
@@ -76,20 +92,32 @@ direction-is : (d : Direction) → leb (directionOut d) 1 ≡ true
 direction-is Decoding = refl
 direction-is Encoding = refl
 
-pending-is : (p : Pending) → CarriedFits p → leb (pendingOut p) 256 ≡ true
-pending-is Nothing h = refl
-pending-is (Byte byte) h = le-leb byte 256 (omega (arith, h))
+pending-is : (p : Pending) → CarriedFits p → HighPending p → isPending (pendingOut p) ≡ true
+unfolding isPending
+pending-is Nothing h i = refl
+pending-is (Byte byte) h i = rw (le-leb byte 256 (omega (arith, h)))
+pending-is (High unit) h i = rw (lt-leb unit 256 (high-large unit i), i)
 
 ended-is : (t : Bool) → leb (flagOut t) 1 ≡ true
 ended-is true = refl
 ended-is false = refl
 
-pub run-returns : (run : Run) → Representable run → (runIn (runOut run) ≡ run) × (isRun (runOut run) ≡ true)
+pub run-returns : (run : Run) → Representable run → HighPending (run .pending) → (runIn (runOut run) ≡ run) × (isRun (runOut run) ≡ true)
 unfolding isRun runOn runOut
-run-returns run fits = (
-  rw (direction-named (run .direction), pending-named (run .pending) (fits .pending), ended-named (run .ended)),
-  rw (direction-is (run .direction), pending-is (run .pending) (fits .pending), ended-is (run .ended)),
+run-returns run fits high = (
+  rw (direction-named (run .direction), pending-named (run .pending) (fits .pending) high, ended-named (run .ended)),
+  rw (direction-is (run .direction), pending-is (run .pending) (fits .pending) high, ended-is (run .ended)),
 )
+
+-- a run that keeps the rules
+pub valid-high : (run : Run) → validRun run ≡ true → HighPending (run .pending)
+valid-high run v = by-pending (run .direction) (run .pending) (valid-in run (run .direction) refl (valid-facts run v))
+  where
+    by-pending : (direction : Direction) (pending : Pending) → PendingIn direction pending → HighPending pending
+    by-pending direction Nothing i = tt
+    by-pending direction (Byte byte) i = tt
+    by-pending Decoding (High unit) i = absurd i
+    by-pending Encoding (High unit) i = i
 
 -- ---- run calls
 

@@ -1,5 +1,5 @@
 -- The C interface: runs and answers as numbers, and what each exported call gives.
-use mathlib.Core.Bool.{Bool, true, false, not, _&&_}
+use mathlib.Core.Bool.{Bool, true, false, not, _&&_, _||_}
 use mathlib.Core.List.{List, []}
 use mathlib.Core.Option.{Option, none, some}
 use mathlib.Core.Path.{_≡_}
@@ -7,6 +7,7 @@ use Prim.Native.Nat.{ℕ}
 use lib.Dec.{leb, ltb, eqb}
 use lib.ListN.{length}
 use Rattle.codepage.specs.CodePage.{CodePage, codePage, pick, firstFault, isGood}
+use Rattle.codepage.specs.Reading.{isHigh}
 use Rattle.codepage.specs.declared.Numbers.{Numbers}
 use Rattle.codepage.specs.declared.Fault.{Fault}
 use Rattle.codepage.specs.declared.Fault.the-variants.{Good, Page, ClassesSize, SinglesSize, PairsSize, IndexSize, BlocksSize, Class, Lead, Number}
@@ -15,7 +16,7 @@ use Rattle.engine.specs.declared.Direction.the-variants.{Decoding, Encoding}
 use Rattle.engine.specs.declared.Policy.{Policy}
 use Rattle.codepage.specs.Lent.{over}
 use Rattle.convert.specs.declared.Pending.{Pending}
-use Rattle.convert.specs.declared.Pending.the-variants.{Nothing, Byte}
+use Rattle.convert.specs.declared.Pending.the-variants.{Nothing, Byte, High}
 use Rattle.convert.specs.declared.Run.{Run}
 use Rattle.convert.specs.declared.Outcome.{Outcome}
 use Rattle.convert.specs.Runs.{pieceLimit, Start, startOf}
@@ -37,22 +38,27 @@ abbrev pub directionOut : Direction → ℕ
 directionOut Decoding = 0
 directionOut Encoding = 1
 
--- pending: the carried byte, or 256 for none
+-- pending: the carried byte, the carried high surrogate, or 256 for none
 abbrev pub pendingIn : ℕ → Pending
-pendingIn n = pick (ltb n 256) (Byte n) Nothing
+pendingIn n = pick (ltb n 256) (Byte n) (pick (eqb n 256) Nothing (High n))
 
 abbrev pub pendingOut : Pending → ℕ
 pendingOut Nothing = 256
 pendingOut (Byte byte) = byte
+pendingOut (High unit) = unit
+
+-- the numbers that say what is pending: no other unit than a high surrogate is carried
+unfoldable pub isPending : ℕ → Bool
+isPending n = leb n 256 || isHigh n
 
 -- ended: 0 or 1
 abbrev pub flagOut : Bool → ℕ
 flagOut true = 1
 flagOut false = 0
 
--- The numbers are those of a run: direction 0 or 1, pending at most 256, ended 0 or 1.
+-- The numbers are those of a run: direction 0 or 1, pending at most 256 or a high surrogate, ended 0 or 1.
 unfoldable pub isRun : TillRun → Bool
-isRun r = leb (r .direction) 1 && (leb (r .pending) 256 && leb (r .ended) 1)
+isRun r = leb (r .direction) 1 && (isPending (r .pending) && leb (r .ended) 1)
 
 abbrev pub policyOf : (single pair invalid : ℕ) → Policy
 policyOf single pair invalid = record { single = single; pair = pair; invalid = invalid }

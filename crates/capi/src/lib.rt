@@ -7,7 +7,7 @@ ghost use Rattle.codepage.specs.CodePage.{firstFault};
 ghost use Rattle.engine.specs.declared.Direction.the-variants.{Decoding, Encoding};
 ghost use Rattle.convert.specs.Runs.{startedAs};
 ghost use Rattle.checkpoint.specs.Line.{readOf, restoredAs, writtenAs};
-ghost use Rattle.capi.specs.Interface.{directionIn, directionOut, pendingIn, pendingOut, flagOut, isRun, runOn, runOut, noRun, tillPage, isLast, tillCall, TillAnswered, pageNamed, answerOut, startOut, tillStart, loadOut, tillSave, TillSavedAs, faultOut};
+ghost use Rattle.capi.specs.Interface.{directionIn, directionOut, isPending, pendingIn, pendingOut, flagOut, isRun, runOn, runOut, noRun, tillPage, isLast, tillCall, TillAnswered, pageNamed, answerOut, startOut, tillStart, loadOut, tillSave, TillSavedAs, faultOut};
 
 pub mod cutting;
 
@@ -22,7 +22,8 @@ use convert::Started;
 use engine::Direction;
 use engine::Policy;
 
-// A run as C sees it. direction: 0 decoding, 1 encoding; pending: the carried byte, or 256 for none; ended: 0 or 1.
+// A run as C sees it. direction: 0 decoding, 1 encoding; pending: the carried byte, the
+// carried high surrogate, or 256 for none; ended: 0 or 1.
 #[repr(C)]
 pub struct TillRun {
     pub read: u64,
@@ -67,6 +68,16 @@ pub struct TillFault {
     pub number: u8,
 }
 
+// Whether a number is one of what is pending.
+fn is_pending(number: u16) -> bool
+    ensures { λ r. ⌜ r ≡ isPending number ⌝ }
+{
+    if number <= 256 {
+        return true;
+    }
+    lookup::is_high(number)
+}
+
 // Whether numbers are those of a run.
 fn is_run(run: TillRun) -> bool
     ensures { λ r. ⌜ r ≡ isRun run ⌝ }
@@ -74,7 +85,7 @@ fn is_run(run: TillRun) -> bool
     if 1 < run.direction {
         return false;
     }
-    if 256 < run.pending {
+    if !is_pending(run.pending) {
         return false;
     }
     run.ended <= 1
@@ -111,7 +122,10 @@ fn pending_in(number: u16) -> Pending
     if number < 256 {
         return Pending::Byte(number as u8);
     }
-    Pending::Nothing
+    if number == 256 {
+        return Pending::Nothing;
+    }
+    Pending::High(number)
 }
 
 fn pending_out(pending: Pending) -> u16
@@ -120,6 +134,7 @@ fn pending_out(pending: Pending) -> u16
     match pending {
         Pending::Nothing => 256,
         Pending::Byte(byte) => byte as u16,
+        Pending::High(unit) => unit,
     }
 }
 

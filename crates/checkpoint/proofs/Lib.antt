@@ -5,3 +5,4 @@ pub mod LineLaws
 pub mod PlaceLaws
 pub mod ReadLaws
 pub mod WriteLaws
+pub mod OlderLines

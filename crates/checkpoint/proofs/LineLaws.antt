@@ -1,5 +1,5 @@
 -- Laws of the saved line: each run that keeps the rules has one line and each line one run; nothing else is read.
-use mathlib.Core.Bool.{Bool, true, false, not, _&&_, false≢true}
+use mathlib.Core.Bool.{Bool, true, false, not, _&&_, _||_, false≢true}
 use mathlib.Core.List.{List, [], _∷_, _++_, append-assoc}
 use mathlib.Core.Logic.{_↔_}
 use mathlib.Core.Option.{Option, none, some}
@@ -11,22 +11,23 @@ use lib.ListN.{length, take, drop, length-append}
 use lib.Seq.{take-append-seam}
 use borrow.Author.Tests.{le-leb, leb-true, lt-ltb, le-ltb, ltb-true, ltb-false}
 use Rattle.codepage.specs.CodePage.{pick}
+use Rattle.codepage.specs.Reading.{isHigh}
 use Rattle.engine.specs.declared.Direction.{Direction}
 use Rattle.engine.specs.declared.Direction.the-variants.{Decoding, Encoding}
 use Rattle.engine.specs.declared.Policy.{Policy}
 use Rattle.convert.specs.declared.Pending.{Pending}
-use Rattle.convert.specs.declared.Pending.the-variants.{Nothing, Byte}
+use Rattle.convert.specs.declared.Pending.the-variants.{Nothing, Byte, High}
 use Rattle.convert.specs.declared.Run.{Run}
-use Rattle.convert.specs.Runs.{validRun, mostWritten, isDecoding, ifPending}
+use Rattle.convert.specs.Runs.{validRun, isDecoding, isEncoding, pendingAllowed}
 use Rattle.engine.specs.Policies.{policyAllowed, highestSingle}
 use Rattle.codepage.specs.Lent.{over}
-use Rattle.convert.proofs.CallLaws.{Valid, valid-facts}
+use Rattle.convert.proofs.CallLaws.{Valid, valid-facts, most-twice}
 use Rattle.checkpoint.specs.declared.Written.{Written}
-use Rattle.checkpoint.specs.Line.{tab, lineOf, fieldOf, closingOf, decimal, decimalFrom, runOf, kept, fields, field, letter, number, moreDigits, threeDigits, carried, hexPair, closing, one, orElse, return, _>>=_, Parsed, Parser, Representable, Restores, CarriedFits, letterOf, digitsOf, carriedOf, Saving, unwritten, writeOf, writtenAs, Saved, Loading, loaded, readOf}
-use Rattle.checkpoint.specs.Sample.{sampleRun, sampleLine, longestRun}
+use Rattle.checkpoint.specs.Line.{tab, lineOf, fieldOf, closingOf, decimal, runOf, kept, fieldsBy, fields, field, letter, number, threeDigits, carried, closing, one, return, _>>=_, Parsed, Parser, Representable, Restores, CarriedFits, letterOf, digitsOf, carriedOf, Saving, unwritten, writeOf, writtenAs, Saved, Loading, loaded, readOf}
+use Rattle.checkpoint.specs.Sample.{sampleRun, sampleLine, carryingRun, carryingLine, longestRun, longestCarrying, notLines, AllAnswered}
 use Rattle.checkpoint.proofs.Computing.{lineRules}
 use Rattle.checkpoint.proofs.DecimalLaws.{decimal-short}
-use Rattle.checkpoint.proofs.ParserLaws.{got, none-some, some-eq, and-left, and-right, Reads, then-some, then-back, Digits, letter-reads, number-reads, digits-read, carried-reads, field-forth, field-back, closing-forth, closing-back}
+use Rattle.checkpoint.proofs.ParserLaws.{got, none-some, some-eq, and-left, and-right, Reads, CarriedIn, then-some, then-back, Digits, letter-reads, number-reads, digits-read, carried-reads, field-forth, field-back, closing-forth, closing-back}
 
 -- ---- the fields of a line
 line-fields : (run : Run) → lineOf run ≡
@@ -41,24 +42,24 @@ line-fields : (run : Run) → lineOf run ≡
 unfolding lineOf
 line-fields run = simp append-assoc
 
-pub fields-forth : (run : Run) → Digits (run .policy) → CarriedFits (run .pending) → fields (lineOf run) ≡ got run []
-unfolding fields return
+pub fields-forth : (run : Run) → Digits (run .policy) → CarriedIn (run .direction) (run .pending) → fields (lineOf run) ≡ got run []
+unfolding fields fieldsBy return
 fields-forth run d c =
     ap fields (line-fields run)
     ∙ then-some (field letter) _ _ _ _ (field-forth letter-reads (run .direction) _ tt)
     ∙ then-some (field number) _ _ _ _ (field-forth number-reads (run .page) _ tt)
     ∙ then-some (field threeDigits) _ _ _ _ (field-forth digits-read (run .policy) _ d)
-    ∙ then-some (field carried) _ _ _ _ (field-forth carried-reads (run .pending) _ c)
+    ∙ then-some (field (carried (run .direction))) _ _ _ _ (field-forth (carried-reads (run .direction)) (run .pending) _ c)
     ∙ then-some (field number) _ _ _ _ (field-forth number-reads (run .flags) _ tt)
     ∙ then-some (field number) _ _ _ _ (field-forth number-reads (run .read) _ tt)
     ∙ then-some (field number) _ _ _ _ (field-forth number-reads (run .written) _ tt)
     ∙ then-some closing _ _ _ _ (closing-forth (run .ended))
 
--- what was read is the line of the run, whose digits and carried byte are such
-pub record Spelled (line : List ℕ) (run : Run) : Type 0 where
+-- what was read is the line of the run, whose digits and what is carried are such
+pub record Spelled (Good : Direction → Pending → Type 0) (line : List ℕ) (run : Run) : Type 0 where
   pub line-is : line ≡ lineOf run
   pub digits : Digits (run .policy)
-  pub pending : CarriedFits (run .pending)
+  pub pending : Good (run .direction) (run .pending)
 
 -- the next field of what was read
 peel : {A : Type 0} {p : Parser A} {written : A → List ℕ} {Good : A → Type 0} {Goal : Type 0} → Reads p written Good → (next : A → Parser Run) (bytes : List ℕ) (r : Parsed Run)
@@ -68,13 +69,15 @@ peel {p} w next bytes r e goal =
     let b = field-back w bytes (v .0) (v .1) in
     goal (v .0 .value) (v .0 .rest) (b .0) (b .1) (v .2)
 
-pub fields-back : (line : List ℕ) (r : Parsed Run) → fields line ≡ some r → Spelled line (r .value)
-unfolding fields return
-fields-back line r e =
+-- over any parser of what is carried
+pub spelled-by : (carried : Direction → Parser Pending) (Good : Direction → Pending → Type 0) → ((direction : Direction) → Reads (carried direction) carriedOf (Good direction))
+    → (line : List ℕ) (r : Parsed Run) → fieldsBy carried line ≡ some r → Spelled Good line (r .value)
+unfolding fieldsBy return
+spelled-by carried Good reads line r e =
     peel letter-reads _ line r e λ direction l₁ s₁ g₁ e₁.
     peel number-reads _ l₁ r e₁ λ page l₂ s₂ g₂ e₂.
     peel digits-read _ l₂ r e₂ λ policy l₃ s₃ g₃ e₃.
-    peel carried-reads _ l₃ r e₃ λ pending l₄ s₄ g₄ e₄.
+    peel (reads direction) _ l₃ r e₃ λ pending l₄ s₄ g₄ e₄.
     peel number-reads _ l₄ r e₄ λ flags l₅ s₅ g₅ e₅.
     peel number-reads _ l₅ r e₅ λ read l₆ s₆ g₆ e₆.
     peel number-reads _ l₆ r e₆ λ written l₇ s₇ g₇ e₇.
@@ -91,7 +94,26 @@ fields-back line r e =
     (s₆ ∙ ap (λ (l : List ℕ). fieldOf (decimal read) ++ l)
     (s₇ ∙ ap (λ (l : List ℕ). fieldOf (decimal written) ++ l) s₈))))))
     ∙ sym (line-fields run) in
-    subst (Spelled line) same (record { line-is = spelled; digits = g₃; pending = g₄ })
+    subst (Spelled Good line) same (record { line-is = spelled; digits = g₃; pending = g₄ })
+
+pub fields-back : (line : List ℕ) (r : Parsed Run) → fields line ≡ some r → Spelled CarriedIn line (r .value)
+unfolding fields
+fields-back line r e = spelled-by carried CarriedIn carried-reads line r e
+
+-- what is carried in a line of its direction fits, and what a run that keeps the rules carries is of its direction
+pub carried-fits : (direction : Direction) (pending : Pending) → CarriedIn direction pending → CarriedFits pending
+carried-fits direction Nothing c = tt
+carried-fits Decoding (Byte byte) c = c
+carried-fits Encoding (Byte byte) c = absurd c
+carried-fits Decoding (High unit) c = absurd c
+carried-fits Encoding (High unit) c = c
+
+carried-in : (direction : Direction) (pending : Pending) (ended : Bool) (written read : ℕ) → pendingAllowed pending direction ended written read ≡ true → CarriedFits pending → CarriedIn direction pending
+carried-in direction Nothing ended written read e c = tt
+carried-in Decoding (Byte byte) ended written read e c = c
+carried-in Encoding (Byte byte) ended written read e c = absurd (false≢true e)
+carried-in Decoding (High unit) ended written read e c = absurd (false≢true e)
+carried-in Encoding (High unit) ended written read e c = c
 
 -- ---- a run that keeps the rules
 allowed-digits : (direction : Direction) (policy : Policy) → policyAllowed direction policy ≡ true → Digits policy
@@ -107,10 +129,6 @@ allowed-digits direction policy e =
     highest : (direction : Direction) → highestSingle direction ≤ 6
     highest Decoding = omega arith
     highest Encoding = omega arith
-
-most-twice : (direction : Direction) (read : ℕ) → mostWritten direction read ≤ 2 * read
-most-twice Decoding read = omega arith
-most-twice Encoding read = omega arith
 
 -- what a valid run holds
 pub record Bounded (run : Run) : Type 0 where
@@ -129,7 +147,7 @@ bounded run e =
       written = omega (arith, v .read, v .written, most-twice (run .direction) (run .read));
     }
 
--- of a valid run only the page and the carried byte are still to be bounded
+-- of a valid run only the page and what is carried are still to be bounded
 pub representable : (run : Run) → validRun run ≡ true → run .page < 2 ^ 16 → CarriedFits (run .pending) → Representable run
 representable run e h c =
     let b : Bounded run = bounded run e in
@@ -151,7 +169,9 @@ kept-some run rest h e = rw (le-leb (run .page) 65535 h, e)
 -- ---- each run that keeps the rules has one line and each line one run
 pub write-read : (run : Run) → Representable run → validRun run ≡ true → runOf (lineOf run) ≡ some run
 unfolding runOf
-write-read run w e = ap kept (fields-forth run (bounded run e .digits) (w .pending)) ∙ kept-some run [] (omega (arith, w .page)) e
+write-read run w e =
+    let c : CarriedIn (run .direction) (run .pending) = carried-in (run .direction) (run .pending) (run .ended) (run .written) (run .read) (valid-facts run e .pending) (w .pending) in
+    ap kept (fields-forth run (bounded run e .digits) c) ∙ kept-some run [] (omega (arith, w .page)) e
 
 pub read-write : (line : List ℕ) (run : Run) → runOf line ≡ some run → Restores line run
 unfolding runOf kept
@@ -162,12 +182,12 @@ read-write line run e = by-fields (fields line) refl
     by-test r q true u =
         let same : r .value ≡ run = some-eq (rw (q, u) at e) in
         let v : validRun (r .value) ≡ true = and-right (leb (r .value .page) 65535) _ u in
-        let w : Spelled line (r .value) = fields-back line r q in
+        let w : Spelled CarriedIn line (r .value) = fields-back line r q in
         subst (Restores line) same
         (record {
           line-is = sym (w .line-is);
           valid = v;
-          fits = representable (r .value) v (omega (arith, leb-true (r .value .page) 65535 (and-left (leb (r .value .page) 65535) _ u))) (w .pending);
+          fits = representable (r .value) v (omega (arith, leb-true (r .value .page) 65535 (and-left (leb (r .value .page) 65535) _ u))) (carried-fits (r .value .direction) (r .value .pending) (w .pending));
         })
 
     by-fields : (o : Option (Parsed Run)) → fields line ≡ o → Restores line run
@@ -204,26 +224,33 @@ pub letter-length : (direction : Direction) → length (letterOf direction) ≡ 
 letter-length Decoding = refl
 letter-length Encoding = refl
 
--- a carried byte only if not ended
-ends-length : (pending : Pending) (ended a b : Bool) → ifPending pending (a && (not ended && b)) ≡ true → length (carriedOf pending) + length (closingOf ended) ≤ 6
+-- what is carried only if not ended, and flag 8 only if ended
+ends-length : (pending : Pending) (direction : Direction) (ended : Bool) (written read flags : ℕ) → pendingAllowed pending direction ended written read ≡ true → (ltb flags 8 || ended) ≡ true → flags ≤ 15
+    → length (carriedOf pending) + length (closingOf ended) + length (decimal flags) ≤ 8
 unfolding closingOf
-ends-length Nothing true a b e = omega arith
-ends-length Nothing false a b e = omega arith
-ends-length (Byte byte) true a b e = absurd (false≢true (and-right a (not true && b) e))
-ends-length (Byte byte) false a b e = omega arith
+ends-length Nothing direction true written read flags e s h = omega (arith, decimal-short 1 flags (omega arith))
+ends-length Nothing direction false written read flags e s h = omega (arith, decimal-short 1 flags (omega arith))
+ends-length (Byte byte) direction true written read flags e s h = absurd (false≢true (and-right (isDecoding direction) false e))
+ends-length (Byte byte) direction false written read flags e s h = omega (arith, decimal-short 1 flags (omega arith))
+ends-length (High unit) direction true written read flags e s h = absurd (false≢true (and-right (isHigh unit) false (and-right (isEncoding direction) (isHigh unit && false) e)))
+ends-length (High unit) direction false written read flags e s h = omega (arith, decimal-short 0 flags (omega (arith, ltb-true flags 8 (low (ltb flags 8) s))))
+  where
+    low : (t : Bool) → (t || false) ≡ true → t ≡ true
+    low true q = refl
+    low false q = q
 
 pub at-most-44 : (run : Run) → Representable run → validRun run ≡ true → length (lineOf run) ≤ 44
 at-most-44 run w e =
     let b : Bounded run = bounded run e in
+    let v : Valid run = valid-facts run e in
     omega (
       arith,
       line-length run,
       letter-length (run .direction),
       decimal-short 4 (run .page) (omega (arith, w .page)),
-      decimal-short 1 (run .flags) (omega (arith, b .flags)),
       decimal-short 9 (run .read) (omega (arith, b .read)),
       decimal-short 9 (run .written) (omega (arith, b .written)),
-      ends-length (run .pending) (run .ended) (isDecoding (run .direction)) (ltb (run .written) (run .read)) (valid-facts run e .pending),
+      ends-length (run .pending) (run .direction) (run .ended) (run .written) (run .read) (run .flags) (v .pending) (v .stopped) (b .flags),
     )
 
 -- and one has 44
@@ -238,6 +265,15 @@ longest-fits = record { page = omega arith; single = omega arith; pair = omega a
 pub longest-has-44 : length (lineOf longestRun) ≡ 44
 unfolding lineRules
 longest-has-44 = refl
+
+-- as has one that carries a unit
+pub longest-carrying-valid : validRun longestCarrying ≡ true
+unfolding lineRules
+longest-carrying-valid = refl
+
+pub longest-carrying-44 : length (lineOf longestCarrying) ≡ 44
+unfolding lineRules
+longest-carrying-44 = refl
 
 -- ---- the answers, each exactly in its case
 saves : (valid full : Bool) → List ℕ → Saving
@@ -354,3 +390,17 @@ sample-saved = refl
 pub sample-restored : readOf sampleLine ≡ record { number = 0; run = some sampleRun }
 unfolding lineRules
 sample-restored = refl
+
+-- ---- a line that carries a unit (document 02, CR 5), written and read back
+pub carrying-saved : writeOf carryingRun 22 ≡ record { number = 0; line = carryingLine }
+unfolding lineRules
+carrying-saved = refl
+
+pub carrying-restored : readOf carryingLine ≡ record { number = 0; run = some carryingRun }
+unfolding lineRules
+carrying-restored = refl
+
+-- 18 for what a carried unit may not be
+pub not-lines : AllAnswered 18 notLines
+unfolding lineRules
+not-lines = (refl, (refl, (refl, (refl, (refl, (refl, tt))))))

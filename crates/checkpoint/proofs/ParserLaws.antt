@@ -3,7 +3,7 @@ use mathlib.Core.Bool.{Bool, true, false, _&&_, false≢true}
 use mathlib.Core.List.{List, [], _∷_, _++_, append-assoc}
 use mathlib.Core.Option.{Option, none, some}
 use mathlib.Core.Path.{_≡_, refl, sym, ap, _∙_, subst}
-use Prim.Native.Nat.{ℕ, zero, suc, _+_, _-_, _*_, _/_, _%_, _<_, _≤_}
+use Prim.Native.Nat.{ℕ, zero, suc, _+_, _-_, _*_, _/_, _%_, _^_, _<_, _≤_}
 use native.Mathlib.Omega.{arith}
 use lib.Dec.{ltb, leb, eqb}
 use borrow.Author.Tests.{lt-ltb, le-ltb, le-leb, lt-leb, ne-eqb, ltb-true, ltb-false, leb-true, eqb-true}
@@ -12,8 +12,8 @@ use Rattle.engine.specs.declared.Direction.{Direction}
 use Rattle.engine.specs.declared.Direction.the-variants.{Decoding, Encoding}
 use Rattle.engine.specs.declared.Policy.{Policy}
 use Rattle.convert.specs.declared.Pending.{Pending}
-use Rattle.convert.specs.declared.Pending.the-variants.{Nothing, Byte}
-use Rattle.checkpoint.specs.Line.{tab, digitByte, hexByte, decimal, letterOf, digitsOf, carriedOf, fieldOf, closingOf, Parsed, Parser, return, _>>=_, orElse, one, isByte, digitValue, hexValue, moreDigits, number, letterValue, letter, threeDigits, hexPair, carried, field, sameBytes, closing, CarriedFits}
+use Rattle.convert.specs.declared.Pending.the-variants.{Nothing, Byte, High}
+use Rattle.checkpoint.specs.Line.{tab, digitByte, hexByte, hexOf, decimal, letterOf, digitsOf, carriedOf, fieldOf, closingOf, Parsed, Parser, return, _>>=_, orElse, one, isByte, digitValue, hexValue, moreDigits, number, letterValue, letter, threeDigits, hexPair, hexCarried, carried, field, sameBytes, closing}
 use Rattle.checkpoint.proofs.DecimalLaws.{decimal-few, decimal-many, decimal-step}
 
 -- a value and the bytes behind it
@@ -366,67 +366,123 @@ digits-read = record { forth = digits-forth; back = digits-back }
         let good : Digits (read .value) = record { single = x .1; pair = y .1; invalid = z .1 } in
         subst (λ (f : Parsed Policy). (bytes ≡ digitsOf (f .value) ++ f .rest) × Digits (f .value)) same (spelled, good)
 
--- the carried byte
-pub carried-empty : carried [] ≡ none
-unfolding carried hexPair
-carried-empty = else-second (one (isByte 0x2D Nothing)) hexPair [] (one-empty (isByte 0x2D Nothing)) ∙ then-none (one hexValue) _ [] (one-empty hexValue)
-
-pub dash-first : (bytes : List ℕ) → carried (0x2D ∷ bytes) ≡ got Nothing bytes
-unfolding carried
-dash-first bytes = else-first (one (isByte 0x2D Nothing)) hexPair (0x2D ∷ bytes) _ (one-some (isByte 0x2D Nothing) 0x2D bytes Nothing refl)
-
-pub no-dash : (byte : ℕ) (bytes : List ℕ) → (byte ≡ 0x2D → ⊥) → carried (byte ∷ bytes) ≡ hexPair (byte ∷ bytes)
-unfolding carried
-no-dash byte bytes ne = else-second (one (isByte 0x2D Nothing)) hexPair (byte ∷ bytes) (one-none (isByte 0x2D Nothing) byte bytes (rw (ne-eqb byte 0x2D ne)))
-
-hex-pair : (a b high low : ℕ) (rest : List ℕ) → hexValue a ≡ some high → hexValue b ≡ some low → hexPair (a ∷ b ∷ rest) ≡ got (Byte (16 * high + low)) rest
+-- what is carried
+pair-empty : hexPair [] ≡ none
 unfolding hexPair
-hex-pair a b high low rest x y = one-then hexValue _ a (b ∷ rest) high x ∙ one-then hexValue _ b rest low y ∙ return-some (Byte (16 * high + low)) rest
+pair-empty = then-none (one hexValue) _ [] (one-empty hexValue)
 
-hexPair-back : (bytes : List ℕ) (r : Parsed Pending) → hexPair bytes ≡ some r → (bytes ≡ carriedOf (r .value) ++ r .rest) × CarriedFits (r .value)
+hex-empty : (direction : Direction) → hexCarried direction [] ≡ none
+unfolding hexCarried
+hex-empty Decoding = then-none hexPair _ [] pair-empty
+hex-empty Encoding = then-none hexPair _ [] pair-empty
+
+pair-forth : (byte : ℕ) (rest : List ℕ) → byte < 2 ^ 8 → hexPair (hexOf byte ++ rest) ≡ got byte rest
 unfolding hexPair
-hexPair-back bytes r e =
+pair-forth byte rest h =
+    let e : 16 * (byte / 16) + byte % 16 ≡ byte = omega arith in
+    one-then hexValue _ (hexByte (byte / 16)) (hexByte (byte % 16) ∷ rest) (byte / 16) (hex-of (byte / 16) (omega arith))
+    ∙ one-then hexValue _ (hexByte (byte % 16)) rest (byte % 16) (hex-of (byte % 16) (omega arith))
+    ∙ return-some (16 * (byte / 16) + byte % 16) rest
+    ∙ ap (λ (b : ℕ). got b rest) e
+
+pair-back : (bytes : List ℕ) (r : Parsed ℕ) → hexPair bytes ≡ some r → (bytes ≡ hexOf (r .value) ++ r .rest) × (r .value < 2 ^ 8)
+unfolding hexPair
+pair-back bytes r e =
     let a = one-then-back hexValue _ bytes r e in
     let b = one-then-back hexValue _ (a .1 .rest) r (a .4) in
     let byte : ℕ = 16 * a .1 .value + b .1 .value in
-    let read : Parsed Pending = record { value = Byte byte; rest = b .1 .rest } in
+    let read : Parsed ℕ = record { value = byte; rest = b .1 .rest } in
     let same : read ≡ r = some-eq (return-back (read .value) (read .rest) r (b .4)) in
     let x = hex-back (a .0) (a .1 .value) (a .3) in
     let y = hex-back (b .0) (b .1 .value) (b .3) in
     let high : a .1 .value ≡ byte / 16 = omega (arith, y .1) in
     let low : b .1 .value ≡ byte % 16 = omega (arith, y .1) in
-    let spelled : bytes ≡ carriedOf (read .value) ++ read .rest = cons-eq (x .0 ∙ ap hexByte high) (a .2) ∙ ap (λ (l : List ℕ). hexByte (byte / 16) ∷ l) (cons-eq (y .0 ∙ ap hexByte low) (b .2)) in
-    subst (λ (f : Parsed Pending). (bytes ≡ carriedOf (f .value) ++ f .rest) × CarriedFits (f .value)) same (spelled, omega (arith, x .1, y .1))
+    let spelled : bytes ≡ hexOf (read .value) ++ read .rest = cons-eq (x .0 ∙ ap hexByte high) (a .2) ∙ ap (λ (l : List ℕ). hexByte (byte / 16) ∷ l) (cons-eq (y .0 ∙ ap hexByte low) (b .2)) in
+    subst (λ (f : Parsed ℕ). (bytes ≡ hexOf (f .value) ++ f .rest) × (f .value < 2 ^ 8)) same (spelled, omega (arith, x .1, y .1))
+
+-- a byte is carried in a `D` line, a unit in an `E` line
+abbrev pub CarriedIn : Direction → Pending → Type 0
+CarriedIn direction Nothing = Unit {0}
+CarriedIn Decoding (Byte byte) = byte < 2 ^ 8
+CarriedIn Encoding (Byte byte) = ⊥
+CarriedIn Decoding (High unit) = ⊥
+CarriedIn Encoding (High unit) = unit < 2 ^ 16
+
+pub carried-empty : (direction : Direction) → carried direction [] ≡ none
+unfolding carried
+carried-empty direction = else-second (one (isByte 0x2D Nothing)) (hexCarried direction) [] (one-empty (isByte 0x2D Nothing)) ∙ hex-empty direction
+
+pub dash-first : (direction : Direction) (bytes : List ℕ) → carried direction (0x2D ∷ bytes) ≡ got Nothing bytes
+unfolding carried
+dash-first direction bytes = else-first (one (isByte 0x2D Nothing)) (hexCarried direction) (0x2D ∷ bytes) _ (one-some (isByte 0x2D Nothing) 0x2D bytes Nothing refl)
+
+pub no-dash : (direction : Direction) (byte : ℕ) (bytes : List ℕ) → (byte ≡ 0x2D → ⊥) → carried direction (byte ∷ bytes) ≡ hexCarried direction (byte ∷ bytes)
+unfolding carried
+no-dash direction byte bytes ne = else-second (one (isByte 0x2D Nothing)) (hexCarried direction) (byte ∷ bytes) (one-none (isByte 0x2D Nothing) byte bytes (rw (ne-eqb byte 0x2D ne)))
+
+-- a hex digit is no dash
+hex-no-dash : (value : ℕ) → value < 16 → hexByte value ≡ 0x2D → ⊥
+hex-no-dash value h z = none-some (ap hexValue (sym z) ∙ hex-of value h)
+
+hex-carried-back : (direction : Direction) (bytes : List ℕ) (r : Parsed Pending) → hexCarried direction bytes ≡ some r → (bytes ≡ carriedOf (r .value) ++ r .rest) × CarriedIn direction (r .value)
+unfolding hexCarried
+hex-carried-back Decoding bytes r e =
+    let v = then-back hexPair _ bytes r e in
+    let x = pair-back bytes (v .0) (v .1) in
+    let read : Parsed Pending = record { value = Byte (v .0 .value); rest = v .0 .rest } in
+    let same : read ≡ r = some-eq (return-back (read .value) (read .rest) r (v .2)) in
+    subst (λ (f : Parsed Pending). (bytes ≡ carriedOf (f .value) ++ f .rest) × CarriedIn Decoding (f .value)) same x
+hex-carried-back Encoding bytes r e =
+    let v = then-back hexPair _ bytes r e in
+    let w = then-back hexPair _ (v .0 .rest) r (v .2) in
+    let x = pair-back bytes (v .0) (v .1) in
+    let y = pair-back (v .0 .rest) (w .0) (w .1) in
+    let unit : ℕ = 256 * v .0 .value + w .0 .value in
+    let read : Parsed Pending = record { value = High unit; rest = w .0 .rest } in
+    let same : read ≡ r = some-eq (return-back (read .value) (read .rest) r (w .2)) in
+    let high : v .0 .value ≡ unit / 256 = omega (arith, y .1) in
+    let low : w .0 .value ≡ unit % 256 = omega (arith, y .1) in
+    let spelled : bytes ≡ hexOf (unit / 256) ++ (hexOf (unit % 256) ++ w .0 .rest) =
+    x .0 ∙ ap (λ (l : List ℕ). hexOf (v .0 .value) ++ l) (y .0 ∙ ap (λ (n : ℕ). hexOf n ++ w .0 .rest) low) ∙ ap (λ (n : ℕ). hexOf n ++ (hexOf (unit % 256) ++ w .0 .rest)) high in
+    subst (λ (f : Parsed Pending). (bytes ≡ carriedOf (f .value) ++ f .rest) × CarriedIn Encoding (f .value)) same (spelled, omega (arith, x .1, y .1))
 
 pub is-byte-back : {A : Type 0} (byte b : ℕ) (a v : A) → isByte byte a b ≡ some v → (b ≡ byte) × (a ≡ v)
 is-byte-back byte b a v e =
     let w = pick-some (eqb b byte) a v e in
     (eqb-true b byte (w .0), w .1)
 
-pub carried-reads : Reads carried carriedOf CarriedFits
+carried-back : (direction : Direction) (bytes : List ℕ) (r : Parsed Pending) → carried direction bytes ≡ some r → (bytes ≡ carriedOf (r .value) ++ r .rest) × CarriedIn direction (r .value)
 unfolding carried
-carried-reads = record { forth = carried-forth; back = carried-back }
+carried-back direction bytes r e = by-dash (one (isByte 0x2D Nothing) bytes) refl
   where
-    carried-forth : (pending : Pending) (rest : List ℕ) → CarriedFits pending → carried (carriedOf pending ++ (tab ∷ rest)) ≡ got pending (tab ∷ rest)
-    carried-forth Nothing rest g = dash-first (tab ∷ rest)
-    carried-forth (Byte byte) rest g =
-        let high : hexValue (hexByte (byte / 16)) ≡ some (byte / 16) = hex-of (byte / 16) (omega arith) in
-        let low : hexValue (hexByte (byte % 16)) ≡ some (byte % 16) = hex-of (byte % 16) (omega arith) in
-        let e : 16 * (byte / 16) + byte % 16 ≡ byte = omega arith in
-        no-dash (hexByte (byte / 16)) (hexByte (byte % 16) ∷ tab ∷ rest) (λ z. none-some (ap hexValue (sym z) ∙ high))
-        ∙ hex-pair (hexByte (byte / 16)) (hexByte (byte % 16)) (byte / 16) (byte % 16) (tab ∷ rest) high low
-        ∙ ap (λ (b : ℕ). got (Byte b) (tab ∷ rest)) e
+    by-dash : (o : Option (Parsed Pending)) → one (isByte 0x2D Nothing) bytes ≡ o → (bytes ≡ carriedOf (r .value) ++ r .rest) × CarriedIn direction (r .value)
+    by-dash none q = hex-carried-back direction bytes r (sym (else-second (one (isByte 0x2D Nothing)) (hexCarried direction) bytes q) ∙ e)
+    by-dash (some f) q =
+        let same : some f ≡ some r = sym (else-first (one (isByte 0x2D Nothing)) (hexCarried direction) bytes f q) ∙ e in
+        let w = one-back (isByte 0x2D Nothing) bytes r (q ∙ same) in
+        let z = is-byte-back 0x2D (w .0) Nothing (r .value) (w .2) in
+        subst (λ (v : Pending). (bytes ≡ carriedOf v ++ r .rest) × CarriedIn direction v) (z .1) (cons-eq (z .0) (w .1), tt)
 
-    carried-back : (bytes : List ℕ) (r : Parsed Pending) → carried bytes ≡ some r → (bytes ≡ carriedOf (r .value) ++ r .rest) × CarriedFits (r .value)
-    carried-back bytes r e = by-dash (one (isByte 0x2D Nothing) bytes) refl
-      where
-        by-dash : (o : Option (Parsed Pending)) → one (isByte 0x2D Nothing) bytes ≡ o → (bytes ≡ carriedOf (r .value) ++ r .rest) × CarriedFits (r .value)
-        by-dash none q = hexPair-back bytes r (sym (else-second (one (isByte 0x2D Nothing)) hexPair bytes q) ∙ e)
-        by-dash (some f) q =
-            let same : some f ≡ some r = sym (else-first (one (isByte 0x2D Nothing)) hexPair bytes f q) ∙ e in
-            let w = one-back (isByte 0x2D Nothing) bytes r (q ∙ same) in
-            let z = is-byte-back 0x2D (w .0) Nothing (r .value) (w .2) in
-            subst (λ (v : Pending). (bytes ≡ carriedOf v ++ r .rest) × CarriedFits v) (z .1) (cons-eq (z .0) (w .1), tt)
+carried-forth : (direction : Direction) (pending : Pending) (rest : List ℕ) → CarriedIn direction pending → carried direction (carriedOf pending ++ (tab ∷ rest)) ≡ got pending (tab ∷ rest)
+unfolding hexCarried
+carried-forth direction Nothing rest g = dash-first direction (tab ∷ rest)
+carried-forth Decoding (Byte byte) rest g =
+    no-dash Decoding (hexByte (byte / 16)) (hexByte (byte % 16) ∷ tab ∷ rest) (hex-no-dash (byte / 16) (omega arith))
+    ∙ then-some hexPair _ (hexOf byte ++ (tab ∷ rest)) byte (tab ∷ rest) (pair-forth byte (tab ∷ rest) g)
+    ∙ return-some (Byte byte) (tab ∷ rest)
+carried-forth Encoding (Byte byte) rest g = absurd g
+carried-forth Decoding (High unit) rest g = absurd g
+carried-forth Encoding (High unit) rest g =
+    let e : 256 * (unit / 256) + unit % 256 ≡ unit = omega arith in
+    let behind : List ℕ = hexOf (unit % 256) ++ (tab ∷ rest) in
+    no-dash Encoding (hexByte (unit / 256 / 16)) (hexByte (unit / 256 % 16) ∷ behind) (hex-no-dash (unit / 256 / 16) (omega arith))
+    ∙ then-some hexPair _ (hexOf (unit / 256) ++ behind) (unit / 256) behind (pair-forth (unit / 256) behind (omega arith))
+    ∙ then-some hexPair _ behind (unit % 256) (tab ∷ rest) (pair-forth (unit % 256) (tab ∷ rest) (omega arith))
+    ∙ return-some (High (256 * (unit / 256) + unit % 256)) (tab ∷ rest)
+    ∙ ap (λ (u : ℕ). got (High u) (tab ∷ rest)) e
+
+pub carried-reads : (direction : Direction) → Reads (carried direction) carriedOf (CarriedIn direction)
+carried-reads direction = record { forth = carried-forth direction; back = carried-back direction }
 
 -- a field and its tab
 module _ {A : Type 0} {p : Parser A} {written : A → List ℕ} {Good : A → Type 0} (w : Reads p written Good) where

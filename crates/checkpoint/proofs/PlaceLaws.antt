@@ -10,8 +10,9 @@ use lib.Dec.{leb, eqb}
 use lib.ListN.{length, getD, drop, drop-of-length-le}
 use lib.Seq.{drop-cons, drop-length}
 use borrow.Author.Tests.{le-leb, lt-leb, eq-eqb, ne-eqb, leb-true, leb-false}
+use Rattle.engine.specs.declared.Direction.{Direction}
 use Rattle.convert.specs.declared.Pending.the-variants.{Nothing}
-use Rattle.checkpoint.specs.Line.{tab, Parsed, Parser, return, _>>=_, one, isByte, digitValue, hexValue, moreDigits, number, carried, hexPair, field, closingOf, sameBytes, closing}
+use Rattle.checkpoint.specs.Line.{tab, Parsed, Parser, return, _>>=_, one, isByte, digitValue, hexValue, moreDigits, number, carried, hexCarried, field, closingOf, sameBytes, closing}
 use Rattle.checkpoint.specs.Places.{from, readAt, foundAt, behindTab, atMost, upTo}
 use Rattle.checkpoint.proofs.ParserLaws.{got, none-some, then-some, then-none, one-some, one-none, one-empty, digit-back, hex-back, return-some, carried-empty, dash-first, no-dash, more-digit, more-other, more-end, number-empty, number-zero, number-first, number-none}
 
@@ -163,20 +164,20 @@ module _ {A : Type 0} (p : Parser A) (line : List ℕ) (at : ℕ) where
   unfolding field
   field-none e = read-then-none p (λ x. one (isByte tab x)) line at e
 
--- ---- the carried byte
-module _ (line : List ℕ) (at : ℕ) where
-  pub carried-end : length line ≤ at → readAt carried line at ≡ none
-  carried-end h = read-end line at carried carried-empty h
+-- ---- what is carried
+module _ (direction : Direction) (line : List ℕ) (at : ℕ) where
+  pub carried-end : length line ≤ at → readAt (carried direction) line at ≡ none
+  carried-end h = read-end line at (carried direction) (carried-empty direction) h
 
-  pub carried-dash : at < length line → getD line at 0 ≡ 0x2D → foundAt Nothing line (at + 1) ≡ readAt carried line at
+  pub carried-dash : at < length line → getD line at 0 ≡ 0x2D → foundAt Nothing line (at + 1) ≡ readAt (carried direction) line at
   carried-dash h e =
       found-in line (at + 1) Nothing (omega arith)
-      ∙ sym (dash-first (drop (at + 1) line))
-      ∙ ap (λ (b : ℕ). carried (b ∷ drop (at + 1) line)) (sym e)
-      ∙ sym (read-cons line at carried h)
+      ∙ sym (dash-first direction (drop (at + 1) line))
+      ∙ ap (λ (b : ℕ). carried direction (b ∷ drop (at + 1) line)) (sym e)
+      ∙ sym (read-cons line at (carried direction) h)
 
-  pub carried-hex : at < length line → (getD line at 0 ≡ 0x2D → ⊥) → readAt carried line at ≡ readAt hexPair line at
-  carried-hex h e = read-cons line at carried h ∙ no-dash (getD line at 0) (drop (at + 1) line) e ∙ sym (read-cons line at hexPair h)
+  pub carried-hex : at < length line → (getD line at 0 ≡ 0x2D → ⊥) → readAt (carried direction) line at ≡ readAt (hexCarried direction) line at
+  carried-hex h e = read-cons line at (carried direction) h ∙ no-dash direction (getD line at 0) (drop (at + 1) line) e ∙ sym (read-cons line at (hexCarried direction) h)
 
 -- ---- numbers up to a limit
 pub same-then : {A B : Type 0} (p q : Parser A) (k : A → Parser B) (bytes rest : List ℕ) → p bytes ≡ q rest → (p >>= k) bytes ≡ (q >>= k) rest

@@ -10,7 +10,7 @@ use lib.ListN.{length, drop}
 use borrow.Author.Tests.{leb-true, leb-false}
 use Rattle.convert.specs.declared.Run.{Run}
 use Rattle.convert.specs.Runs.{validRun}
-use Rattle.checkpoint.specs.Line.{Parsed, Parser, return, _>>=_, letter, number, threeDigits, carried, field, tab, isByte, one, closing, fields, kept, runOf, loaded, readOf}
+use Rattle.checkpoint.specs.Line.{Parsed, Parser, return, _>>=_, letter, number, threeDigits, carried, field, tab, isByte, one, closing, fieldsBy, fields, kept, runOf, loaded, readOf}
 use Rattle.checkpoint.specs.Places.{readAt, foundAt, atMost, upTo}
 use Rattle.checkpoint.proofs.ParserLaws.{got, then-some, then-none, one-back, is-byte-back, return-some}
 use Rattle.checkpoint.proofs.LineLaws.{bounded, kept-some}
@@ -22,7 +22,7 @@ limited = do
   direction ← field letter
   page ← field (upTo 65535 number)
   policy ← field threeDigits
-  pending ← field carried
+  pending ← field (carried direction)
   flags ← field (upTo 255 number)
   read ← field (upTo 4294967295 number)
   written ← field (upTo 8589934590 number)
@@ -114,13 +114,13 @@ broken run rest e = by-test (leb (run .page) 65535) refl (validRun run) refl
     by-test false q u v = rw q
 
 kept-limited : (line : List ℕ) → kept (fields line) ≡ kept (limited line)
-unfolding fields limited
+unfolding fields fieldsBy limited
 kept-limited line =
     kept-then (field letter) line _ _ λ direction l₁.
     kept-limit 65535 l₁ _ _
     (λ page l₂.
     kept-then (field threeDigits) l₂ _ _ λ policy l₃.
-    kept-then (field carried) l₃ _ _ λ pending l₄.
+    kept-then (field (carried direction)) l₃ _ _ λ pending l₄.
     kept-limit 255 l₄ _ _
     (λ flags l₅.
     kept-limit 4294967295 l₅ _ _
@@ -136,7 +136,7 @@ kept-limited line =
     never-then closing l₇ _ λ ended l₈. broken _ l₈ λ p v. omega (arith, h, bounded _ v .flags)))
     (λ page l₂ h.
     never-then (field threeDigits) l₂ _ λ policy l₃.
-    never-then (field carried) l₃ _ λ pending l₄.
+    never-then (field (carried direction)) l₃ _ λ pending l₄.
     never-then (field number) l₄ _ λ flags l₅.
     never-then (field number) l₅ _ λ read l₆.
     never-then (field number) l₆ _ λ written l₇.
@@ -147,7 +147,7 @@ pub all-found : (line : List ℕ) (run : Run) (n₁ n₂ n₃ n₄ n₅ n₆ n�
     → foundAt (run .direction) line n₁ ≡ readAt (field letter) line 0
     → foundAt (run .page) line n₂ ≡ readAt (field (upTo 65535 number)) line n₁
     → foundAt (run .policy) line n₃ ≡ readAt (field threeDigits) line n₂
-    → foundAt (run .pending) line n₄ ≡ readAt (field carried) line n₃
+    → foundAt (run .pending) line n₄ ≡ readAt (field (carried (run .direction))) line n₃
     → foundAt (run .flags) line n₅ ≡ readAt (field (upTo 255 number)) line n₄
     → foundAt (run .read) line n₆ ≡ readAt (field (upTo 4294967295 number)) line n₅
     → foundAt (run .written) line n₇ ≡ readAt (field (upTo 8589934590 number)) line n₆
@@ -158,7 +158,7 @@ all-found line run n₁ n₂ n₃ n₄ n₅ n₆ n₇ n₈ e₁ e₂ e₃ e₄ e
     read-then (field letter) _ line 0 n₁ (run .direction) e₁
     ∙ read-then (field (upTo 65535 number)) _ line n₁ n₂ (run .page) e₂
     ∙ read-then (field threeDigits) _ line n₂ n₃ (run .policy) e₃
-    ∙ read-then (field carried) _ line n₃ n₄ (run .pending) e₄
+    ∙ read-then (field (carried (run .direction))) _ line n₃ n₄ (run .pending) e₄
     ∙ read-then (field (upTo 255 number)) _ line n₄ n₅ (run .flags) e₅
     ∙ read-then (field (upTo 4294967295 number)) _ line n₅ n₆ (run .read) e₆
     ∙ read-then (field (upTo 8589934590 number)) _ line n₆ n₇ (run .written) e₇

@@ -10,12 +10,10 @@ use lib.ListN.{length, getD, take, drop, set, length-append}
 use lib.Seq.{sets, length-sets, sets-eq, set-comm, take-suc, length-take-le, take-length}
 use borrow.Author.Tests.{lt-ltb, le-ltb}
 use Rattle.engine.specs.declared.Direction.{Direction}
-use Rattle.convert.specs.declared.Pending.{Pending}
-use Rattle.convert.specs.declared.Pending.the-variants.{Nothing, Byte}
 use Rattle.convert.specs.declared.Run.{Run}
 use Rattle.convert.specs.Runs.{validRun}
 use Rattle.codepage.specs.Lent.{over}
-use Rattle.checkpoint.specs.Line.{tab, hexByte, decimal, letterOf, carriedOf, fieldOf, closingOf, lineOf, writeOf, Saved}
+use Rattle.checkpoint.specs.Line.{tab, hexByte, decimal, letterOf, hexOf, carriedOf, fieldOf, closingOf, lineOf, writeOf, Saved}
 use Rattle.checkpoint.specs.declared.Written.the-variants.{Line, InvalidRun, NoRoom}
 use Rattle.checkpoint.specs.Places.{startFields, totalFields, Put}
 use Rattle.checkpoint.proofs.DecimalLaws.{places, places-length, places-suc, places-decimal}
@@ -54,11 +52,11 @@ front-room xs ys at n h = omega (arith, h, length-append xs ys)
 
 -- bytes that are written out
 module _ (bytes before : List ℕ) (at : ℕ) where
+  pub put-one : (a : ℕ) → bytes ≡ a ∷ [] → Put bytes before at (at + 1) (set before at a)
+  put-one a e = record { next-is = ap (λ (l : List ℕ). at + length l) (sym e); lent = rw e }
+
   pub put-two : (a b : ℕ) → bytes ≡ a ∷ b ∷ [] → Put bytes before at (at + 2) (set (set before at a) (at + 1) b)
   put-two a b e = record { next-is = ap (λ (l : List ℕ). at + length l) (sym e); lent = rw (e, add-one at) }
-
-  pub put-three : (a b d : ℕ) → bytes ≡ a ∷ b ∷ d ∷ [] → Put bytes before at (at + 3) (set (set (set before at a) (at + 1) b) (at + 2) d)
-  put-three a b d e = record { next-is = ap (λ (l : List ℕ). at + length l) (sym e); lent = rw (e, add-one at, add-two at) }
 
   pub put-four : (a b d f : ℕ) → bytes ≡ a ∷ b ∷ d ∷ f ∷ [] → Put bytes before at (at + 4) (set (set (set (set before at a) (at + 1) b) (at + 2) d) (at + 3) f)
   put-four a b d f e = record { next-is = ap (λ (l : List ℕ). at + length l) (sym e); lent = rw (e, add-one at, add-two at, add-three at) }
@@ -68,16 +66,13 @@ pub letter-field : (direction : Direction) (byte : ℕ) → letterOf direction �
 unfolding fieldOf
 letter-field direction byte e = ap (λ (l : List ℕ). l ++ (tab ∷ [])) e
 
-pub dash-field : (pending : Pending) → pending ≡ Nothing → fieldOf (carriedOf pending) ≡ 0x2D ∷ tab ∷ []
-unfolding fieldOf
-dash-field pending e = rw e
+pub hex-digits : (byte high low : ℕ) → high ≡ hexByte (byte / 16) → low ≡ hexByte (byte % 16) → hexOf byte ≡ high ∷ low ∷ []
+hex-digits byte high low h l = rw (h, l)
 
-pub hex-field : (pending : Pending) (byte high low : ℕ) → pending ≡ Byte byte → high ≡ hexByte (byte / 16) → low ≡ hexByte (byte % 16) → fieldOf (carriedOf pending) ≡ high ∷ low ∷ tab ∷ []
+-- some bytes, and the tab behind them
+pub put-tab : {bytes before mid : List ℕ} {at next : ℕ} → Put bytes before at next mid → Put (fieldOf bytes) before at (next + 1) (set mid next tab)
 unfolding fieldOf
-hex-field pending byte high low e h l = rw (e, h, l)
-
-pub hex-length : (pending : Pending) (byte : ℕ) → pending ≡ Byte byte → length (fieldOf (carriedOf pending)) ≡ 3
-hex-length pending byte e = ap length (hex-field pending byte (hexByte (byte / 16)) (hexByte (byte % 16)) e refl refl)
+put-tab {mid} {next} p = put-then p (put-one (tab ∷ []) mid next tab refl)
 
 pub closing-is : (ended value : Bool) → ended ≡ value → {before after : List ℕ} {at next : ℕ} → Put (closingOf value) before at next after → Put (closingOf ended) before at next after
 closing-is ended value e p = rw e p

@@ -1,3 +1,4 @@
 pub mod Line
 pub mod Sample
 pub mod Places
+pub mod Base

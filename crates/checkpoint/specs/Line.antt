@@ -1,4 +1,4 @@
--- Document 01, "The run and its saved line": the saved line, its writing and its reading.
+-- Document 01, "The run and its saved line", as amended by CR 5: the saved line, its writing and its reading.
 use mathlib.Core.Bool.{Bool, true, false, not, _&&_}
 use mathlib.Core.List.{List, [], _∷_, _++_}
 use mathlib.Core.Option.{Option, none, some}
@@ -11,7 +11,7 @@ use Rattle.engine.specs.declared.Direction.{Direction}
 use Rattle.engine.specs.declared.Direction.the-variants.{Decoding, Encoding}
 use Rattle.engine.specs.declared.Policy.{Policy}
 use Rattle.convert.specs.declared.Pending.{Pending}
-use Rattle.convert.specs.declared.Pending.the-variants.{Nothing, Byte}
+use Rattle.convert.specs.declared.Pending.the-variants.{Nothing, Byte, High}
 use Rattle.convert.specs.declared.Run.{Run}
 use Rattle.convert.specs.Runs.{validRun}
 use Rattle.codepage.specs.Lent.{over}
@@ -56,10 +56,15 @@ letterOf Encoding = 0x45 ∷ []
 abbrev pub digitsOf : Policy → List ℕ
 digitsOf policy = digitByte (policy .single) ∷ digitByte (policy .pair) ∷ digitByte (policy .invalid) ∷ []
 
--- the carried byte as two capital hex digits, or `-`
+-- a byte as two capital hex digits
+abbrev pub hexOf : ℕ → List ℕ
+hexOf byte = hexByte (byte / 16) ∷ hexByte (byte % 16) ∷ []
+
+-- the carried byte as two capital hex digits, the carried unit as four, or `-`
 abbrev pub carriedOf : Pending → List ℕ
 carriedOf Nothing = 0x2D ∷ []
-carriedOf (Byte byte) = hexByte (byte / 16) ∷ hexByte (byte % 16) ∷ []
+carriedOf (Byte byte) = hexOf byte
+carriedOf (High unit) = hexOf (unit / 256) ++ hexOf (unit % 256)
 
 -- the word `on` or `over`
 abbrev pub wordOf : (ended : Bool) → List ℕ
@@ -74,8 +79,8 @@ fieldOf bytes = bytes ++ (tab ∷ [])
 unfoldable pub closingOf : (ended : Bool) → List ℕ
 closingOf ended = wordOf ended ++ (lineFeed ∷ [])
 
--- Fields parted by one tab, closed by a line feed: `D` or `E`, page, three digits, carried byte as two capital hex digits or
--- `-`, flags, read, written, then the word `on` or `over`.
+-- Fields parted by one tab, closed by a line feed: `D` or `E`, page, three digits, what is carried as two (`D`) or four (`E`)
+-- capital hex digits or `-`, flags, read, written, then the word `on` or `over`.
 unfoldable pub lineOf : Run → List ℕ
 lineOf run =
     fieldOf (letterOf (run .direction))
@@ -150,15 +155,26 @@ threeDigits = do
   invalid ← one digitValue
   return (record { single = single; pair = pair; invalid = invalid })
 
-unfoldable pub hexPair : Parser Pending
+-- two capital hex digits
+unfoldable pub hexPair : Parser ℕ
 hexPair = do
   high ← one hexValue
   low ← one hexValue
-  return (Byte (16 * high + low))
+  return (16 * high + low)
 
--- the carried byte as two capital hex digits, or `-`
-unfoldable pub carried : Parser Pending
-carried = orElse (one (isByte 0x2D Nothing)) hexPair
+-- a byte in a `D` line, a unit in an `E` line, its high half first
+unfoldable pub hexCarried : Direction → Parser Pending
+hexCarried Decoding = do
+  byte ← hexPair
+  return (Byte byte)
+hexCarried Encoding = do
+  high ← hexPair
+  low ← hexPair
+  return (High (256 * high + low))
+
+-- what is carried, as two (`D`) or four (`E`) capital hex digits, or `-`
+unfoldable pub carried : Direction → Parser Pending
+carried direction = orElse (one (isByte 0x2D Nothing)) (hexCarried direction)
 
 -- a field and the tab behind it
 unfoldable pub field : {A : Type 0} → Parser A → Parser A
@@ -174,13 +190,13 @@ sameBytes (a ∷ rest) (b ∷ bs) = eqb a b && sameBytes rest bs
 unfoldable pub closing : Parser Bool
 closing bytes = pick (sameBytes bytes (closingOf false)) (return false []) (pick (sameBytes bytes (closingOf true)) (return true []) none)
 
--- The fields in their order, with numbers of any size.
-unfoldable pub fields : Parser Run
-fields = do
+-- The fields in their order, with numbers of any size; what is carried is read as a line of its direction has it.
+unfoldable pub fieldsBy : (carried : Direction → Parser Pending) → Parser Run
+fieldsBy carried = do
   direction ← field letter
   page ← field number
   policy ← field threeDigits
-  pending ← field carried
+  pending ← field (carried direction)
   flags ← field number
   read ← field number
   written ← field number
@@ -197,6 +213,9 @@ fields = do
         ended = ended;
       })
 
+unfoldable pub fields : Parser Run
+fields = fieldsBy carried
+
 -- A line is read as the run of its fields, if the page is at most 65,535 and the run keeps the run rules. Nothing else is read.
 unfoldable pub kept : Option (Parsed Run) → Option Run
 kept none = none
@@ -205,10 +224,12 @@ kept (some r) = pick (leb (r .value .page) 65535 && validRun (r .value)) (some (
 unfoldable pub runOf : List ℕ → Option Run
 runOf line = kept (fields line)
 
--- A run that the program can hold: a page is two bytes wide, a digit, a carried byte and the flags one, a total eight.
+-- A run that the program can hold: a page and a carried unit are two bytes wide, a digit, a carried byte and the flags one, a
+-- total eight.
 abbrev pub CarriedFits : Pending → Type 0
 CarriedFits Nothing = Unit {0}
 CarriedFits (Byte byte) = byte < 2 ^ 8
+CarriedFits (High unit) = unit < 2 ^ 16
 
 pub record Representable (run : Run) : Type 0 where
   pub page : run .page < 2 ^ 16

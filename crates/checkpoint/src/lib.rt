@@ -1,4 +1,4 @@
-// The saved line of a run: writing and reading. (Document 01, "The run and its saved line".)
+// The saved line of a run: writing and reading. (Document 01, "The run and its saved line", as amended by CR 5.)
 mod reader;
 mod words;
 mod writer;
@@ -50,7 +50,8 @@ pub fn read(line: &[u8]) -> Restored
     let letter = reader::letter_at(line, 0);
     let page = reader::number_at(line, letter.next, 65535);
     let digits = reader::digits_at(line, page.next);
-    let carried = reader::carried_at(line, digits.next);
+    let direction = letter.value;
+    let carried = reader::carried_at(line, digits.next, direction);
     let flags = reader::number_at(line, carried.next, 255);
     let read = reader::number_at(line, flags.next, Run::READ_LIMIT);
     let written = reader::number_at(line, read.next, 2 * Run::READ_LIMIT);
@@ -58,7 +59,6 @@ pub fn read(line: &[u8]) -> Restored
     if line.len() < ending.next {
         return Restored::Refused;
     }
-    let direction = letter.value;
     let policy = digits.value;
     let pending = carried.value;
     let run = Run {

@@ -4,7 +4,7 @@ ghost use mathlib.Core.Path.{_≡_};
 ghost use mathlib.Core.Option.{Option·getD};
 ghost use Prim.Native.Nat.{ℕ, _+_, _≤_, _<_, _^_};
 ghost use lib.ListN.{length, drop};
-ghost use Rattle.checkpoint.specs.Line.{digitValue, hexValue, one, letter, number, moreDigits, threeDigits, carried, field, sameBytes, closing};
+ghost use Rattle.checkpoint.specs.Line.{digitValue, hexValue, one, letter, number, moreDigits, threeDigits, hexPair, hexCarried, carried, field, sameBytes, closing};
 ghost use Rattle.checkpoint.specs.Places.{from, readAt, foundAt, behindTab, upTo};
 use crate::words;
 use convert::Direction;
@@ -241,9 +241,55 @@ pub fn digits_at(line: &[u8], at: usize) -> Digits
     }
 }
 
-// The carried byte, or none, and its tab.
-pub fn carried_at(line: &[u8], at: usize) -> Carried
-    ensures { λ r. ⌜ foundAt (r .value) (now (line .entry)) (r .next) ≡ readAt (field carried) (now (line .entry)) at ⌝ }
+// Two capital hex digits.
+fn pair_at(line: &[u8], at: usize) -> Digit
+    ensures { λ r. ⌜ foundAt (r .value) (now (line .entry)) (r .next) ≡ readAt hexPair (now (line .entry)) at ⌝ }
+{
+    let high = hex_at(line, at);
+    let low = hex_at(line, high.next);
+    Digit {
+        value: 16 * high.value + low.value,
+        next: low.next,
+    }
+}
+
+// The carried byte of a `D` line.
+fn byte_at(line: &[u8], at: usize) -> Carried
+    ensures { λ r. ⌜ foundAt (r .value) (now (line .entry)) (r .next) ≡ readAt (hexCarried Direction.Decoding) (now (line .entry)) at ⌝ }
+{
+    let byte = pair_at(line, at);
+    Carried {
+        value: Pending::Byte(byte.value),
+        next: byte.next,
+    }
+}
+
+// The carried unit of an `E` line, its high half first.
+fn unit_at(line: &[u8], at: usize) -> Carried
+    ensures { λ r. ⌜ foundAt (r .value) (now (line .entry)) (r .next) ≡ readAt (hexCarried Direction.Encoding) (now (line .entry)) at ⌝ }
+{
+    let high = pair_at(line, at);
+    let low = pair_at(line, high.next);
+    let unit = 256 * (high.value as u16) + (low.value as u16);
+    Carried {
+        value: Pending::High(unit),
+        next: low.next,
+    }
+}
+
+// The carried byte or unit, as a line of its direction has it.
+fn hex_carried_at(line: &[u8], at: usize, direction: Direction) -> Carried
+    ensures { λ r. ⌜ foundAt (r .value) (now (line .entry)) (r .next) ≡ readAt (hexCarried direction) (now (line .entry)) at ⌝ }
+{
+    match direction {
+        Direction::Decoding => byte_at(line, at),
+        Direction::Encoding => unit_at(line, at),
+    }
+}
+
+// What is carried, or none, and its tab.
+pub fn carried_at(line: &[u8], at: usize, direction: Direction) -> Carried
+    ensures { λ r. ⌜ foundAt (r .value) (now (line .entry)) (r .next) ≡ readAt (field (carried direction)) (now (line .entry)) at ⌝ }
 {
     if line.len() <= at {
         return Carried {
@@ -257,12 +303,11 @@ pub fn carried_at(line: &[u8], at: usize) -> Carried
             next: tab_at(line, at + 1),
         };
     }
-    let high = hex_at(line, at);
-    let low = hex_at(line, high.next);
-    let byte = 16 * high.value + low.value;
+    let found = hex_carried_at(line, at, direction);
+    let value = found.value;
     Carried {
-        value: Pending::Byte(byte),
-        next: tab_at(line, low.next),
+        value,
+        next: tab_at(line, found.next),
     }
 }
 

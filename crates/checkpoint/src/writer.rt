@@ -1,11 +1,11 @@
 // Writing a line, field by field. Each function writes at a place of the output and returns the place behind what it wrote.
 ghost use mathlib.Core.Path.{_≡_};
 ghost use mathlib.Core.Bool.{true};
-ghost use mathlib.Core.List.{[], _∷_};
-ghost use Prim.Native.Nat.{ℕ, _+_, _≤_, _<_};
+ghost use mathlib.Core.List.{[], _∷_, _++_};
+ghost use Prim.Native.Nat.{ℕ, _+_, _/_, _%_, _≤_, _<_};
 ghost use lib.ListN.{length};
 ghost use Rattle.convert.specs.Runs.{validRun};
-ghost use Rattle.checkpoint.specs.Line.{hexByte, decimal, letterOf, digitsOf, carriedOf, fieldOf, closingOf, lineOf};
+ghost use Rattle.checkpoint.specs.Line.{hexByte, decimal, letterOf, digitsOf, hexOf, carriedOf, fieldOf, closingOf, lineOf};
 ghost use Rattle.checkpoint.specs.Places.{startFields, totalFields, Put};
 use crate::words;
 use convert::Direction;
@@ -29,11 +29,12 @@ fn decimal_len(number: u64) -> usize
 
 fn carried_len(pending: Pending) -> usize
     ensures { λ r. ⌜ r ≡ length (carriedOf pending) ⌝ }
-    ensures { λ r. ⌜ r ≤ 2 ⌝ }
+    ensures { λ r. ⌜ r ≤ 4 ⌝ }
 {
     match pending {
         Pending::Nothing => 1,
         Pending::Byte(_) => 2,
+        Pending::High(_) => 4,
     }
 }
 
@@ -135,24 +136,50 @@ fn hex_byte(value: u8) -> u8
     b'A' + (value - 10)
 }
 
-// The carried byte, or `-`, and its tab.
-fn put_carried(pending: Pending, at: usize, out: &mut [u8]) -> usize
-    requires { ⌜ at + length (fieldOf (carriedOf pending)) ≤ length (now out) ⌝ }
-    ensures { λ r. ⌜ Put (fieldOf (carriedOf pending)) (now (out .entry)) at r (now (out .exit)) ⌝ }
+// A byte as two capital hex digits.
+fn put_hex(byte: u8, at: usize, out: &mut [u8]) -> usize
+    requires { ⌜ at + 2 ≤ length (now out) ⌝ }
+    ensures { λ r. ⌜ Put (hexOf byte) (now (out .entry)) at r (now (out .exit)) ⌝ }
+{
+    out[at] = hex_byte(byte / 16);
+    out[at + 1] = hex_byte(byte % 16);
+    at + 2
+}
+
+// A unit as four capital hex digits, its high half first.
+fn put_unit(unit: u16, at: usize, out: &mut [u8]) -> usize
+    requires { ⌜ at + 4 ≤ length (now out) ⌝ }
+    ensures { λ r. ⌜ Put (hexOf (unit / 256) ++ hexOf (unit % 256)) (now (out .entry)) at r (now (out .exit)) ⌝ }
+{
+    let high = (unit / 256) as u8;
+    let low = (unit % 256) as u8;
+    let low_at = put_hex(high, at, out);
+    put_hex(low, low_at, out)
+}
+
+// What is carried, or `-`.
+fn put_pending(pending: Pending, at: usize, out: &mut [u8]) -> usize
+    requires { ⌜ at + length (carriedOf pending) ≤ length (now out) ⌝ }
+    ensures { λ r. ⌜ Put (carriedOf pending) (now (out .entry)) at r (now (out .exit)) ⌝ }
 {
     match pending {
         Pending::Nothing => {
             out[at] = b'-';
-            out[at + 1] = b'\t';
-            at + 2
+            at + 1
         }
-        Pending::Byte(byte) => {
-            out[at] = hex_byte(byte / 16);
-            out[at + 1] = hex_byte(byte % 16);
-            out[at + 2] = b'\t';
-            at + 3
-        }
+        Pending::Byte(byte) => put_hex(byte, at, out),
+        Pending::High(unit) => put_unit(unit, at, out),
     }
+}
+
+// What is carried and its tab.
+fn put_carried(pending: Pending, at: usize, out: &mut [u8]) -> usize
+    requires { ⌜ at + length (fieldOf (carriedOf pending)) ≤ length (now out) ⌝ }
+    ensures { λ r. ⌜ Put (fieldOf (carriedOf pending)) (now (out .entry)) at r (now (out .exit)) ⌝ }
+{
+    let end = put_pending(pending, at, out);
+    out[end] = b'\t';
+    end + 1
 }
 
 // The closing word and the line feed.

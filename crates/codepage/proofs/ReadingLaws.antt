@@ -1,16 +1,17 @@
 -- Laws of the codes of a call, over any reader.
-use mathlib.Core.Bool.{Bool, true, false, _||_}
+use mathlib.Core.Bool.{Bool, true, false, _&&_, _||_}
 use mathlib.Core.List.{List, [], _∷_, _++_}
 use mathlib.Core.Option.{Option, none, some}
 use mathlib.Core.Path.{_≡_, refl, sym, ap, _∙_}
-use Prim.Native.Nat.{ℕ, _+_, _≤_}
+use Prim.Native.Nat.{ℕ, _+_, _<_, _≤_}
 use native.Mathlib.Omega.{arith}
 use lib.Dec.{leb}
 use lib.ListN.{length, drop, length-append}
+use borrow.Author.Tests.{le-leb, lt-leb, leb-true, leb-false}
 use Rattle.codepage.specs.CodePage.{pick, entry, isTrail}
 use Rattle.codepage.specs.declared.Kind.the-variants.{Invalid}
 use Rattle.codepage.specs.declared.Lookup.the-variants.{Found, Lacking}
-use Rattle.codepage.specs.Reading.{byteJoins, bytePair, Reader, Code, unitsOf, sizeOf, alone, together, settled, completed, waitsThen, codesAtEnd, callCodes, waitingUnit, waitingUnits}
+use Rattle.codepage.specs.Reading.{byteJoins, bytePair, isHigh, isLow, isSurrogate, unitCode, unitAlone, Reader, Code, unitsOf, sizeOf, alone, together, settled, completed, waitsThen, codesAtEnd, callCodes, waitingUnit, waitingUnits}
 
 -- ---- one unit more: it waits, it is a code alone, or it settles the one that waits: they are one code, or that one is a code
 -- alone and it is read afresh
@@ -161,3 +162,45 @@ pair-joins classes pairs lead byte unit e = by-trail (isTrail (entry classes byt
     by-trail false q =
         let lacks : Lacking Invalid ≡ Found unit = rw q at e in
         absurd (let z : _≡_ {A = ℕ} 0 1 = cc in omega arith)
+
+-- ---- surrogates
+pub below-surrogates : (unit : ℕ) → unit < 0xD800 → isSurrogate unit ≡ false
+unfolding isSurrogate isHigh isLow
+below-surrogates unit h = rw (lt-leb 0xD800 unit h, lt-leb 0xDC00 unit (omega arith))
+
+pub from-surrogates : (unit : ℕ) → 0xD800 ≤ unit → isSurrogate unit ≡ leb unit 0xDFFF
+unfolding isSurrogate isHigh isLow
+from-surrogates unit h = by-high (leb unit 0xDBFF) refl
+  where
+    by-high : (t : Bool) → leb unit 0xDBFF ≡ t → (leb 0xD800 unit && leb unit 0xDBFF || leb 0xDC00 unit && leb unit 0xDFFF) ≡ leb unit 0xDFFF
+    by-high true q = rw (le-leb 0xD800 unit h, q, le-leb unit 0xDFFF (omega (arith, leb-true unit 0xDBFF q)))
+    by-high false q = rw (le-leb 0xD800 unit h, q, le-leb 0xDC00 unit (omega (arith, leb-false unit 0xDBFF q)))
+
+pub no-surrogate-waits : (unit : ℕ) → isSurrogate unit ≡ false → isHigh unit ≡ false
+unfolding isSurrogate
+no-surrogate-waits unit e = by-high (isHigh unit) e
+  where
+    by-high : (t : Bool) → (t || isLow unit) ≡ false → t ≡ false
+    by-high true q = q
+    by-high false q = refl
+
+-- a high surrogate alone is invalid
+pub high-alone : (index blocks : List ℕ) (unit : ℕ) → isHigh unit ≡ true → unitAlone index blocks unit ≡ Lacking Invalid
+unfolding unitAlone isSurrogate
+high-alone index blocks unit e = rw e
+
+pub alone-looked-up : (index blocks : List ℕ) (unit : ℕ) → isSurrogate unit ≡ false → unitAlone index blocks unit ≡ unitCode index blocks unit
+unfolding unitAlone
+alone-looked-up index blocks unit e = rw e
+
+-- a unit that has a code is no surrogate, so it does not wait
+pub found-no-surrogate : (index blocks : List ℕ) (unit code : ℕ) → unitAlone index blocks unit ≡ Found code → isSurrogate unit ≡ false
+unfolding unitAlone
+found-no-surrogate index blocks unit code e = by-unit (isSurrogate unit) e
+  where
+    by-unit : (t : Bool) → pick t (Lacking Invalid) (unitCode index blocks unit) ≡ Found code → t ≡ false
+    by-unit true q = absurd (let z : _≡_ {A = ℕ} 0 1 = cc in omega arith)
+    by-unit false q = refl
+
+pub found-no-wait : (index blocks : List ℕ) (unit code : ℕ) → unitAlone index blocks unit ≡ Found code → isHigh unit ≡ false
+found-no-wait index blocks unit code e = no-surrogate-waits unit (found-no-surrogate index blocks unit code e)

@@ -1,6 +1,6 @@
--- Document 01, "Reading one code from bytes" and "Reading one unit for bytes", as amended by CR 2: what a code means, with no
--- policy.
-use mathlib.Core.Bool.{Bool, true, false, _||_}
+-- Document 01, "Reading one code from bytes" and "Reading one unit for bytes", as amended by CR 2 and CR 5: what a code means,
+-- with no policy.
+use mathlib.Core.Bool.{Bool, true, false, _&&_, _||_}
 use mathlib.Core.List.{List, [], _∷_, _++_}
 use mathlib.Core.Option.{Option, none, some}
 use Prim.Native.Nat.{ℕ, zero, suc, _+_, _*_, _/_, _%_}
@@ -35,9 +35,23 @@ bytePair classes pairs lead byte = pick (isTrail (entry classes byte)) (lookup U
 
 -- Reading one unit for bytes.
 
+-- the surrogates: high D800 to DBFF, low DC00 to DFFF
+unfoldable pub isHigh : ℕ → Bool
+isHigh unit = leb 0xD800 unit && leb unit 0xDBFF
+
+unfoldable pub isLow : ℕ → Bool
+isLow unit = leb 0xDC00 unit && leb unit 0xDFFF
+
+unfoldable pub isSurrogate : ℕ → Bool
+isSurrogate unit = isHigh unit || isLow unit
+
 -- A unit's code, in the block of its high half at its low half, or undefined single.
 unfoldable pub unitCode : (index blocks : List ℕ) → ℕ → Lookup
 unitCode index blocks unit = lookup UndefinedSingle (entry blocks (256 * entry index (unit / 256) + unit % 256))
+
+-- One unit. A surrogate is not looked up: it is invalid.
+unfoldable pub unitAlone : (index blocks : List ℕ) → ℕ → Lookup
+unitAlone index blocks unit = pick (isSurrogate unit) (Lacking Invalid) (unitCode index blocks unit)
 
 -- a code up to 00FF is one byte; a larger one is its high half, then its low half
 unfoldable pub bytesOf : ℕ → List ℕ
@@ -70,14 +84,14 @@ decoder classes singles pairs =
       writes = unitOf;
     }
 
--- No unit waits in encoding: each is looked up alone, surrogates too.
+-- A high surrogate waits; followed by a low one it is one undefined single of two units.
 unfoldable pub encoder : (index blocks : List ℕ) → Reader
 encoder index blocks =
     record {
-      waits = λ unit. false;
-      joins = λ before unit. false;
-      one = unitCode index blocks;
-      two = λ before unit. unitCode index blocks unit;
+      waits = isHigh;
+      joins = λ high unit. isLow unit;
+      one = unitAlone index blocks;
+      two = λ high low. Lacking UndefinedSingle;
       writes = bytesOf;
     }
 

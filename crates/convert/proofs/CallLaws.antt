@@ -1,51 +1,52 @@
 -- Laws of a run call.
-use mathlib.Core.Bool.{Bool, true, false, not, _&&_, _||_, false≢true}
+use mathlib.Core.Bool.{Bool, true, false, not, _&&_, _||_, true≢false, false≢true}
 use mathlib.Core.List.{List, [], _∷_, _++_}
 use mathlib.Core.Option.{Option, none, some}
 use mathlib.Core.Path.{_≡_, refl, sym, ap, _∙_, subst}
 use Prim.Native.Nat.{ℕ, zero, suc, _+_, _-_, _*_, _^_, _<_, _≤_}
+use native.Mathlib.Numerals.{add-one}
 use native.Mathlib.Omega.{arith}
 use lib.Dec.{leb, ltb, eqb}
 use lib.ListN.{length, getD, drop, length-append, length-drop, List·getD-eq-default}
 use lib.Bits.{bitOr}
 use Rattle.codepage.specs.CodePage.{CodePage, pick, entry, isLead, GoodShape, firstFault, isGood}
-use Rattle.codepage.specs.Reading.{decoder, encoder, waitingUnits}
+use Rattle.codepage.specs.Reading.{isHigh, decoder, encoder, waitingUnits}
 use Rattle.codepage.proofs.ShapeLaws.{shape-exact}
 use Rattle.engine.specs.declared.Direction.{Direction}
 use Rattle.engine.specs.declared.Direction.the-variants.{Decoding, Encoding}
 use Rattle.convert.specs.declared.Outcome.{Outcome}
 use Rattle.engine.specs.declared.progress.Progress.{Progress}
 use Rattle.convert.specs.declared.Pending.{Pending}
-use Rattle.convert.specs.declared.Pending.the-variants.{Nothing, Byte}
+use Rattle.convert.specs.declared.Pending.the-variants.{Nothing, Byte, High}
 use Rattle.engine.specs.declared.Policy.{Policy}
 use Rattle.convert.specs.declared.Run.{Run}
 use borrow.Author.Tests.{eqb-true, eqb-false, leb-true, ltb-true, ltb-false, eq-eqb, ne-eqb, le-leb, not-true, not-false}
 use Rattle.engine.specs.Policies.{policyAllowed}
-use Rattle.convert.specs.Runs.{pieceLimit, readLimit, isDecoding, mostWritten, ifPending, validRun}
+use Rattle.convert.specs.Runs.{pieceLimit, readLimit, isDecoding, isEncoding, mostWritten, pendingAllowed, validRun}
 use Rattle.engine.specs.Engine.{Converter, converter, limit, Fed}
-use Rattle.convert.specs.Calls.{sameDirection, leadIn, check, refusal, Called, pendingUnit, pendingCount, finalUnit, readOf, pendingAfter, endedAfter, runAfter, fedBy, acceptedCall, refusedCall, runCall, Answered}
+use Rattle.convert.specs.Calls.{sameDirection, leadIn, check, refusal, Called, pendingUnit, pendingCount, pendingAs, finalUnit, readOf, pendingAfter, endedAfter, runAfter, fedBy, acceptedCall, refusedCall, runCall, Answered}
 use Rattle.codepage.specs.Lent.{over}
 use Rattle.engine.specs.Engine.{converterOf}
-use Rattle.convert.specs.Steps.{hasPending, pendingByte, Finished, Refused}
+use Rattle.convert.specs.Steps.{hasPending, pendingByte, pendingHigh, pendingAgrees, mostOfOne, Finished, Refused}
 use Rattle.engine.specs.Steps.{summary, DecodeSizes, optional, decodeFed, encodeFed}
 use Rattle.engine.proofs.EngineLaws.{Waits, Shape, shape-from}
-use Rattle.engine.proofs.EncodeLaws.{encoder-waits}
 use Rattle.engine.proofs.EffectLaws.{and-left, and-right}
 
 -- ---- the final unit
-pub final-empty : (pending : Pending) (piece : List ℕ) → length piece ≡ 0 → pending ≡ finalUnit pending piece
-final-empty pending [] e = refl
-final-empty pending (a ∷ l) e = absurd (omega arith)
+module _ (direction : Direction) where
+  pub final-empty : (pending : Pending) (piece : List ℕ) → length piece ≡ 0 → pending ≡ finalUnit direction pending piece
+  final-empty pending [] e = refl
+  final-empty pending (a ∷ l) e = absurd (omega arith)
 
-final-at : (pending : Pending) (a : ℕ) (l : List ℕ) → Byte (getD (a ∷ l) (length l) 0) ≡ finalUnit pending (a ∷ l)
-final-at pending a [] = refl
-final-at pending a (b ∷ l) = final-at (Byte a) b l
+  final-at : (pending : Pending) (a : ℕ) (l : List ℕ) → pendingAs direction (getD (a ∷ l) (length l) 0) ≡ finalUnit direction pending (a ∷ l)
+  final-at pending a [] = refl
+  final-at pending a (b ∷ l) = final-at (pendingAs direction a) b l
 
-pub final-last : (pending : Pending) (piece : List ℕ) → (length piece ≡ 0 → ⊥) → Byte (getD piece (length piece - 1) 0) ≡ finalUnit pending piece
-final-last pending [] e = absurd (e refl)
-final-last pending (a ∷ l) e =
-    let z : suc (length l) - 1 ≡ length l = omega arith in
-    rw z (final-at pending a l)
+  pub final-last : (pending : Pending) (piece : List ℕ) → (length piece ≡ 0 → ⊥) → pendingAs direction (getD piece (length piece - 1) 0) ≡ finalUnit direction pending piece
+  final-last pending [] e = absurd (e refl)
+  final-last pending (a ∷ l) e =
+      let z : suc (length l) - 1 ≡ length l = omega arith in
+      rw z (final-at pending a l)
 
 -- ---- what is read is of the piece
 pub read-le : (pending : Pending) (count answer used : ℕ) → used ≤ pendingCount pending + count → readOf pending count answer used ≤ count
@@ -65,7 +66,7 @@ pub record Valid (run : Run) : Type 0 where
   pub read : run .read ≤ readLimit
   pub written : run .written ≤ mostWritten (run .direction) (run .read)
   pub stopped : (ltb (run .flags) 8 || run .ended) ≡ true
-  pub pending : ifPending (run .pending) (isDecoding (run .direction) && (not (run .ended) && ltb (run .written) (run .read))) ≡ true
+  pub pending : pendingAllowed (run .pending) (run .direction) (run .ended) (run .written) (run .read) ≡ true
 
 pub valid-facts : (run : Run) → validRun run ≡ true → Valid run
 unfolding validRun
@@ -169,15 +170,7 @@ refusal-named direction run p count =
     (named-check 16 (leb (run .read + count) readLimit) _ (omega arith) (omega arith)
     (λ ne. absurd (ne refl))))))))
 
--- ---- what a call feeds
-pub optional-pending : (pending : Pending) → optional (hasPending pending) (pendingByte pending) ≡ pendingUnit pending
-optional-pending Nothing = refl
-optional-pending (Byte byte) = refl
-
-pub pending-units : (pending : Pending) → length (waitingUnits (pendingUnit pending)) ≡ pendingCount pending
-pending-units Nothing = refl
-pending-units (Byte byte) = refl
-
+-- ---- what is pending
 -- a waiting unit or none, as a list
 abbrev pub pendingUnits : Pending → List ℕ
 pendingUnits pending = waitingUnits (pendingUnit pending)
@@ -185,37 +178,128 @@ pendingUnits pending = waitingUnits (pendingUnit pending)
 pub count-le-one : (pending : Pending) → pendingCount pending ≤ 1
 count-le-one Nothing = omega arith
 count-le-one (Byte byte) = omega arith
+count-le-one (High unit) = omega arith
 
 -- the final unit is the last of what is pending and the piece
-pub final-is : (pending : Pending) (piece : List ℕ) (n : ℕ) → n + 1 ≡ length (pendingUnits pending ++ piece) → finalUnit pending piece ≡ Byte (getD (pendingUnits pending ++ piece) n 0)
-final-is Nothing [] n h = absurd (omega arith)
-final-is (Byte byte) [] n h =
-    let z : n ≡ 0 = omega arith in
-    rw z
-final-is Nothing (a ∷ piece) n h = final-is (Byte a) piece n h
-final-is (Byte byte) (a ∷ piece) zero h = absurd (omega arith)
-final-is (Byte byte) (a ∷ piece) (suc n) h = final-is (Byte a) piece n (omega arith)
+final-place : (pending : Pending) (a : ℕ) (piece : List ℕ) (n : ℕ) → n + 1 ≡ length (pendingUnits pending ++ (a ∷ piece)) → getD (a ∷ piece) (length piece) 0 ≡ getD (pendingUnits pending ++ (a ∷ piece)) n 0
+final-place Nothing a piece n h = let z : n ≡ length piece = omega arith in rw z
+final-place (Byte byte) a piece n h = let z : n ≡ suc (length piece) = omega arith in rw z
+final-place (High unit) a piece n h = let z : n ≡ suc (length piece) = omega arith in rw z
 
-pub lead-pending : (classes : List ℕ) (pending : Pending) → leadIn classes pending ≡ true → hasPending pending ≡ true → isLead (entry classes (pendingByte pending)) ≡ true
-lead-pending classes Nothing e h = absurd (false≢true h)
-lead-pending classes (Byte byte) e h = e
+unit-as : (direction : Direction) (unit : ℕ) → pendingUnit (pendingAs direction unit) ≡ some unit
+unit-as Decoding unit = refl
+unit-as Encoding unit = refl
 
--- a run of encoding has nothing pending
-pub no-pending : (pending : Pending) (direction : Direction) (b : Bool) → Encoding ≡ direction → ifPending pending (isDecoding direction && b) ≡ true → pending ≡ Nothing
-no-pending Nothing direction b e h = refl
-no-pending (Byte byte) direction b e h = absurd (false≢true (subst (λ (d : Direction). (isDecoding d && b) ≡ true) (sym e) h))
+pub final-unit : (direction : Direction) (pending : Pending) (piece : List ℕ) (n : ℕ) → n + 1 ≡ length (pendingUnits pending ++ piece)
+    → pendingUnit (finalUnit direction pending piece) ≡ some (getD (pendingUnits pending ++ piece) n 0)
+final-unit direction Nothing [] n h = absurd (omega arith)
+final-unit direction (Byte byte) [] n h = let z : n ≡ 0 = omega arith in rw z
+final-unit direction (High unit) [] n h = let z : n ≡ 0 = omega arith in rw z
+final-unit direction pending (a ∷ piece) n h =
+    ap pendingUnit (sym (final-at direction pending a piece)) ∙ unit-as direction (getD (a ∷ piece) (length piece) 0) ∙ ap some (final-place pending a piece n h)
 
-pub encoding-pending : (run : Run) (p : CodePage) (count : ℕ) → Accepted Encoding run p count → run .pending ≡ Nothing
-encoding-pending run p count a = no-pending (run .pending) (run .direction) _ (a .same) (a .valid .pending)
+-- what a run that keeps the rules has pending is of its direction: a lead byte in decoding, a high surrogate in encoding
+abbrev pub PendingIn : Direction → Pending → Type 0
+PendingIn direction Nothing = Prim.Unit {0}
+PendingIn Decoding (Byte byte) = Prim.Unit {0}
+PendingIn Encoding (Byte byte) = ⊥
+PendingIn Decoding (High unit) = ⊥
+PendingIn Encoding (High unit) = isHigh unit ≡ true
 
-waits-pending : (p : CodePage) (policy : Policy) (pending : Pending) → leadIn (p .classes) pending ≡ true → Waits (converterOf Decoding p policy) (pendingUnit pending)
+pub allowed-in : (pending : Pending) (direction : Direction) (ended : Bool) (written read : ℕ) → pendingAllowed pending direction ended written read ≡ true → PendingIn direction pending
+allowed-in Nothing direction ended written read e = tt
+allowed-in (Byte byte) Decoding ended written read e = tt
+allowed-in (Byte byte) Encoding ended written read e = false≢true e
+allowed-in (High unit) Decoding ended written read e = false≢true e
+allowed-in (High unit) Encoding ended written read e = and-left (isHigh unit) _ e
+
+pub valid-in : (run : Run) (direction : Direction) → direction ≡ run .direction → Valid run → PendingIn direction (run .pending)
+valid-in run direction e v = subst (λ (d : Direction). PendingIn d (run .pending)) (sym e) (allowed-in (run .pending) (run .direction) (run .ended) (run .written) (run .read) (v .pending))
+
+-- the final unit as what is pending
+pub final-as : (direction : Direction) (pending : Pending) (piece : List ℕ) (n : ℕ) → PendingIn direction pending → n + 1 ≡ length (pendingUnits pending ++ piece)
+    → finalUnit direction pending piece ≡ pendingAs direction (getD (pendingUnits pending ++ piece) n 0)
+final-as direction Nothing [] n i h = absurd (omega arith)
+final-as Decoding (Byte byte) [] n i h = let z : n ≡ 0 = omega arith in rw z
+final-as Encoding (Byte byte) [] n i h = absurd i
+final-as Decoding (High unit) [] n i h = absurd i
+final-as Encoding (High unit) [] n i h = let z : n ≡ 0 = omega arith in rw z
+final-as direction pending (a ∷ piece) n i h = sym (final-at direction pending a piece) ∙ ap (pendingAs direction) (final-place pending a piece n h)
+
+-- ---- the rule of what is pending, in the order of the code
+module _ (direction : Direction) (written read : ℕ) where
+  pub allowed-none : (pending : Pending) (ended : Bool) → hasPending pending ≡ false → pendingAllowed pending direction ended written read ≡ true
+  allowed-none Nothing ended e = refl
+  allowed-none (Byte byte) ended e = absurd (true≢false e)
+  allowed-none (High unit) ended e = absurd (true≢false e)
+
+  pub allowed-other : (pending : Pending) (ended : Bool) → pendingAgrees pending direction ≡ false → pendingAllowed pending direction ended written read ≡ false
+  allowed-other Nothing ended e = absurd (true≢false e)
+  allowed-other (Byte byte) ended e = rw e
+  allowed-other (High unit) ended e = by-direction direction e
+    where
+      by-direction : (d : Direction) → pendingAgrees (High unit) d ≡ false → pendingAllowed (High unit) d ended written read ≡ false
+      by-direction Decoding q = refl
+      by-direction Encoding q = rw q
+
+  pub allowed-ended : (pending : Pending) → hasPending pending ≡ true → pendingAgrees pending direction ≡ true → pendingAllowed pending direction true written read ≡ false
+  allowed-ended Nothing e a = absurd (false≢true e)
+  allowed-ended (Byte byte) e a = rw a
+  allowed-ended (High unit) e a = rw (and-left (isEncoding direction) (isHigh unit) a, and-right (isEncoding direction) (isHigh unit) a)
+
+  pub allowed-room : (pending : Pending) → hasPending pending ≡ true → pendingAgrees pending direction ≡ true
+      → pendingAllowed pending direction false written read ≡ leb (written + mostOfOne direction) (mostWritten direction read)
+  allowed-room Nothing e a = absurd (false≢true e)
+  allowed-room (Byte byte) e a = by-direction direction a
+    where
+      by-direction : (d : Direction) → isDecoding d ≡ true → (isDecoding d && ltb written read) ≡ leb (written + mostOfOne d) (mostWritten d read)
+      by-direction Decoding q = rw (add-one written)
+      by-direction Encoding q = absurd (false≢true q)
+  allowed-room (High unit) e a = by-direction direction a
+    where
+      by-direction : (d : Direction) → pendingAgrees (High unit) d ≡ true → pendingAllowed (High unit) d false written read ≡ leb (written + mostOfOne d) (mostWritten d read)
+      by-direction Decoding q = absurd (false≢true q)
+      by-direction Encoding q = rw q
+
+-- ---- what a call feeds
+pub optional-byte : (pending : Pending) → PendingIn Decoding pending → optional (hasPending pending) (pendingByte pending) ≡ pendingUnit pending
+optional-byte Nothing i = refl
+optional-byte (Byte byte) i = refl
+optional-byte (High unit) i = absurd i
+
+pub optional-high : (pending : Pending) → PendingIn Encoding pending → optional (hasPending pending) (pendingHigh pending) ≡ pendingUnit pending
+optional-high Nothing i = refl
+optional-high (Byte byte) i = absurd i
+optional-high (High unit) i = refl
+
+lead-pending : (classes : List ℕ) (pending : Pending) → PendingIn Decoding pending → leadIn classes pending ≡ true → hasPending pending ≡ true → isLead (entry classes (pendingByte pending)) ≡ true
+lead-pending classes Nothing i e h = absurd (false≢true h)
+lead-pending classes (Byte byte) i e h = e
+lead-pending classes (High unit) i e h = absurd i
+
+high-pending : (pending : Pending) → PendingIn Encoding pending → hasPending pending ≡ true → isHigh (pendingHigh pending) ≡ true
+high-pending Nothing i h = absurd (false≢true h)
+high-pending (Byte byte) i h = absurd i
+high-pending (High unit) i h = i
+
+decode-waits : (p : CodePage) (policy : Policy) (pending : Pending) → PendingIn Decoding pending → leadIn (p .classes) pending ≡ true → Waits (converterOf Decoding p policy) (pendingUnit pending)
 unfolding converter decoder
-waits-pending p policy Nothing e = tt
-waits-pending p policy (Byte byte) e = e
+decode-waits p policy Nothing i e = tt
+decode-waits p policy (Byte byte) i e = e
+decode-waits p policy (High unit) i e = absurd i
+
+encode-waits : (p : CodePage) (policy : Policy) (pending : Pending) → PendingIn Encoding pending → Waits (converterOf Encoding p policy) (pendingUnit pending)
+unfolding converter encoder
+encode-waits p policy Nothing i = tt
+encode-waits p policy (Byte byte) i = absurd i
+encode-waits p policy (High unit) i = i
+
+pub call-in : (direction : Direction) (run : Run) (p : CodePage) (count : ℕ) → Accepted direction run p count → PendingIn direction (run .pending)
+call-in direction run p count a = valid-in run direction (a .same) (a .valid)
 
 pub call-waits : (direction : Direction) (run : Run) (p : CodePage) (count : ℕ) → Accepted direction run p count → Waits (converterOf direction p (run .policy)) (pendingUnit (run .pending))
-call-waits Decoding run p count a = waits-pending p (run .policy) (run .pending) (a .lead)
-call-waits Encoding run p count a = rw (encoding-pending run p count a) tt
+call-waits Decoding run p count a = decode-waits p (run .policy) (run .pending) (call-in Decoding run p count a) (a .lead)
+call-waits Encoding run p count a = encode-waits p (run .policy) (run .pending) (call-in Encoding run p count a)
 
 pub feed-shape : (direction : Direction) (run : Run) (p : CodePage) (piece : List ℕ) (last : Bool) (room : ℕ) → Accepted direction run p (length piece)
     → Shape (converterOf direction p (run .policy)) last (waitingUnits (pendingUnit (run .pending)) ++ piece) (fedBy direction run p piece last room)
@@ -228,13 +312,13 @@ over-length : (before ys after : List ℕ) → after ≡ over before ys → leng
 unfolding over
 over-length before ys after e h = omega (arith, simp (length-append, length-drop) at (ap length e))
 
-most-twice : (direction : Direction) (read : ℕ) → mostWritten direction read ≤ 2 * read
+pub most-twice : (direction : Direction) (read : ℕ) → mostWritten direction read ≤ 2 * read
 most-twice Decoding read = omega arith
 most-twice Encoding read = omega arith
 
 module _ (direction : Direction) (run : Run) (p : CodePage) (piece : List ℕ) (last : Bool) (before : List ℕ) where
   pub used-le : Accepted direction run p (length piece) → fedBy direction run p piece last (length before) .used ≤ pendingCount (run .pending) + length piece
-  used-le a = omega (arith, feed-shape direction run p piece last (length before) a .within, length-append (waitingUnits (pendingUnit (run .pending))) piece, pending-units (run .pending))
+  used-le a = omega (arith, feed-shape direction run p piece last (length before) a .within, length-append (waitingUnits (pendingUnit (run .pending))) piece)
 
   -- what `accepted` requires
   pub finish-needs : (s : Progress) (after : List ℕ) → Accepted direction run p (length piece) → s ≡ summary (fedBy direction run p piece last (length before))
@@ -259,7 +343,7 @@ module _ (direction : Direction) (run : Run) (p : CodePage) (piece : List ℕ) (
 
   pub answered-accepted : (s : Progress) (after : List ℕ) (pending : Pending) (r : Outcome) → refusal direction run p (length piece) ≡ 0
       → s ≡ summary (fedBy direction run p piece last (length before)) → after ≡ over before (fedBy direction run p piece last (length before) .output)
-      → pending ≡ pendingAfter (run .pending) piece (s .answer) (s .used) → Finished run s pending (length piece) last r
+      → pending ≡ pendingAfter direction (run .pending) piece (s .answer) (s .used) → Finished run s pending (length piece) last r
       → Answered (runCall direction run p piece last (length before)) r before after
   unfolding runCall acceptedCall summary
   answered-accepted s after pending r z e f q w =
@@ -271,8 +355,10 @@ module _ (direction : Direction) (run : Run) (p : CodePage) (piece : List ℕ) (
         read = w .read ∙ ap (λ (v : Progress). readOf (run .pending) (length piece) (v .answer) (v .used)) e;
         written = w .written ∙ ap (λ (v : Progress). v .written) e;
         run =
-            w .run′ ∙ ap (λ (n : Pending). runAfter run n (readOf (run .pending) (length piece) (s .answer) (s .used)) (s .written) (s .flags) (endedAfter last (s .answer))) q
-            ∙ ap (λ (v : Progress). runAfter run (pendingAfter (run .pending) piece (v .answer) (v .used)) (readOf (run .pending) (length piece) (v .answer) (v .used)) (v .written) (v .flags) (endedAfter last (v .answer))) e;
+            w .run′
+            ∙ ap (λ (n : Pending). runAfter run n (readOf (run .pending) (length piece) (s .answer) (s .used)) (s .written) (s .flags) (endedAfter last (s .answer)))
+            (q ∙ ap (λ (d : Direction). pendingAfter d (run .pending) piece (s .answer) (s .used)) (accepted-facts direction run p (length piece) z .same))
+            ∙ ap (λ (v : Progress). runAfter run (pendingAfter (run .direction) (run .pending) piece (v .answer) (v .used)) (readOf (run .pending) (length piece) (v .answer) (v .used)) (v .written) (v .flags) (endedAfter last (v .answer))) e;
         lent = f;
       })
 
@@ -288,14 +374,16 @@ pub decode-needs : (run : Run) (p : CodePage) (count : ℕ) (has : Bool) (byte :
     → DecodeSizes (p .classes) (p .singles) (p .pairs) × (has ≡ true → isLead (entry (p .classes) byte) ≡ true)
 decode-needs run p count has byte e f a = (
   record { all-classes = a .good .classes; all-singles = a .good .singles; all-pairs = a .good .pairs; no-low-lead = a .good .low },
-  λ h. rw f (lead-pending (p .classes) (run .pending) (a .lead) (sym e ∙ h)),
+  λ h. rw f (lead-pending (p .classes) (run .pending) (call-in Decoding run p count a) (a .lead) (sym e ∙ h)),
 )
 
 pub decode-fed : (run : Run) (p : CodePage) (piece : List ℕ) (last : Bool) (room : ℕ) (has : Bool) (byte : ℕ) → has ≡ hasPending (run .pending) → byte ≡ pendingByte (run .pending)
+    → Accepted Decoding run p (length piece)
     → decodeFed (p .classes) (p .singles) (p .pairs) (run .policy) (p .defaultUnit) last room (optional has byte) piece ≡ fedBy Decoding run p piece last room
 unfolding fedBy
-decode-fed run p piece last room has byte e f =
-    ap (λ (o : Option ℕ). decodeFed (p .classes) (p .singles) (p .pairs) (run .policy) (p .defaultUnit) last room o piece) (rw (e, f) (optional-pending (run .pending)))
+decode-fed run p piece last room has byte e f a =
+    ap (λ (o : Option ℕ). decodeFed (p .classes) (p .singles) (p .pairs) (run .policy) (p .defaultUnit) last room o piece)
+    (rw (e, f) (optional-byte (run .pending) (call-in Decoding run p (length piece) a)))
 
 -- the same of the encode loop
 pub index-high : (index : List ℕ) (blocks high : ℕ) → length index ≡ 256 → ((h : ℕ) → h < 256 → 256 * entry index h + 256 ≤ blocks) → 256 ≤ blocks → 256 * entry index high + 256 ≤ blocks
@@ -305,33 +393,27 @@ index-high index blocks high e h l = by-place (ltb high 256) refl
     by-place true q = h high (ltb-true _ _ q)
     by-place false q = omega (arith, ltb-false high 256 q, List·getD-eq-default index 0 {n = high} (omega (arith, ltb-false high 256 q)))
 
-pub encode-needs : (run : Run) (p : CodePage) (count : ℕ) → Accepted Encoding run p count
-    → (policyAllowed Encoding (run .policy) ≡ true) × ((length (p .index) ≡ 256) × ((high : ℕ) → 256 * entry (p .index) high + 256 ≤ length (p .blocks)))
-encode-needs run p count a = (
+pub encode-needs : (run : Run) (p : CodePage) (count : ℕ) (has : Bool) (unit : ℕ) → has ≡ hasPending (run .pending) → unit ≡ pendingHigh (run .pending) → Accepted Encoding run p count
+    → (policyAllowed Encoding (run .policy) ≡ true) × ((length (p .index) ≡ 256) × (((high : ℕ) → 256 * entry (p .index) high + 256 ≤ length (p .blocks)) × (has ≡ true → isHigh unit ≡ true)))
+encode-needs run p count has unit e f a = (
   rw (a .same) (a .valid .policy),
-  (a .good .index, λ high. index-high (p .index) (length (p .blocks)) high (a .good .index) (a .good .number) (omega (arith, a .good .blocks))),
+  (
+    a .good .index,
+    (
+      λ high. index-high (p .index) (length (p .blocks)) high (a .good .index) (a .good .number) (omega (arith, a .good .blocks)),
+      λ h. rw f (high-pending (run .pending) (call-in Encoding run p count a) (sym e ∙ h)),
+    ),
+  ),
 )
 
-pub encode-fed : (run : Run) (p : CodePage) (piece : List ℕ) (last : Bool) (room default : ℕ) → default ≡ p .defaultByte → Accepted Encoding run p (length piece)
-    → encodeFed (p .index) (p .blocks) (run .policy) default last room piece ≡ fedBy Encoding run p piece last room
+pub encode-fed : (run : Run) (p : CodePage) (piece : List ℕ) (last : Bool) (room default : ℕ) (has : Bool) (unit : ℕ) → default ≡ p .defaultByte → has ≡ hasPending (run .pending) → unit ≡ pendingHigh (run .pending)
+    → Accepted Encoding run p (length piece)
+    → encodeFed (p .index) (p .blocks) (run .policy) default last room (optional has unit) piece ≡ fedBy Encoding run p piece last room
 unfolding fedBy
-encode-fed run p piece last room default e a = rw (e, encoding-pending run p (length piece) a)
-
--- nothing waits in encoding
-pub encode-pending : (run : Run) (p : CodePage) (piece : List ℕ) (last : Bool) (before : List ℕ) (s : Progress) → Accepted Encoding run p (length piece)
-    → s ≡ summary (fedBy Encoding run p piece last (length before)) → Nothing ≡ pendingAfter (run .pending) piece (s .answer) (s .used)
-unfolding pendingAfter summary
-encode-pending run p piece last before s a e =
-    let answer : s .answer ≡ fedBy Encoding run p piece last (length before) .answer = ap (λ (v : Progress). v .answer) e in
-    let never : s .answer ≡ 1 → ⊥ = λ z. no-wait _ (feed-shape Encoding run p piece last (length before) a .holds (sym answer ∙ z) .1) in
-    rw (ne-eqb (s .answer) 1 never, encoding-pending run p (length piece) a) (either (eqb (s .used) 0))
-  where
-    either : (t : Bool) → Nothing ≡ pick t Nothing Nothing
-    either true = refl
-    either false = refl
-
-    no-wait : (unit : ℕ) → converterOf Encoding p (run .policy) .reader .waits unit ≡ true → ⊥
-    no-wait unit q = false≢true (sym (encoder-waits (p .index) (p .blocks) (run .policy) (p .defaultByte) unit) ∙ q)
+encode-fed run p piece last room default has unit d e f a =
+    rw d
+    (ap (λ (o : Option ℕ). encodeFed (p .index) (p .blocks) (run .policy) (p .defaultByte) last room o piece)
+    (rw (e, f) (optional-high (run .pending) (call-in Encoding run p (length piece) a))))
 
 -- what a loop gives is what the call feeds
 pub loop-gives : (F G : Fed) (s : Progress) (before after : List ℕ) → F ≡ G → s ≡ summary F → after ≡ over before (F .output) → (s ≡ summary G) × (after ≡ over before (G .output))

@@ -7,6 +7,7 @@ use native.Mathlib.Omega.{arith}
 use lib.ListN.{length}
 use Rattle.codepage.specs.CodePage.{CodePage, entry, isLead, firstFault, isGood}
 use Rattle.codepage.specs.Lent.{over}
+use Rattle.codepage.specs.Reading.{isHigh}
 use Rattle.engine.specs.declared.Direction.{Direction}
 use Rattle.engine.specs.declared.Direction.the-variants.{Decoding, Encoding}
 use Rattle.engine.specs.declared.progress.Progress.{Progress}
@@ -14,12 +15,11 @@ use Rattle.engine.specs.Policies.{policyAllowed}
 use Rattle.engine.specs.Steps.{summary, DecodeSizes, optional, decodeFed, encodeFed}
 use Rattle.convert.specs.declared.Outcome.{Outcome}
 use Rattle.convert.specs.declared.Pending.{Pending}
-use Rattle.convert.specs.declared.Pending.the-variants.{Nothing}
 use Rattle.convert.specs.declared.Run.{Run}
 use Rattle.convert.specs.Runs.{readLimit}
 use Rattle.convert.specs.Calls.{refusal, pendingCount, pendingAfter, fedBy, runCall, Answered}
-use Rattle.convert.specs.Steps.{hasPending, pendingByte, Finished, Refused}
-use Rattle.convert.proofs.CallLaws.{accepted-facts, Named, refusal-shape, refusal-named, finish-needs, answered-accepted, answered-refused, decode-needs, decode-fed, encode-needs, encode-fed, encode-pending, loop-gives}
+use Rattle.convert.specs.Steps.{hasPending, pendingByte, pendingHigh, Finished, Refused}
+use Rattle.convert.proofs.CallLaws.{accepted-facts, Named, refusal-shape, refusal-named, finish-needs, answered-accepted, answered-refused, decode-needs, decode-fed, encode-needs, encode-fed, loop-gives}
 
 -- a check behind the shape's fails
 pub number-known : (direction : Direction) (run : Run) (p : CodePage) (count number : ℕ) → number ≡ refusal direction run p count → (number ≡ 0 → ⊥) → (10 ≤ number) × (number ≤ 16)
@@ -41,7 +41,7 @@ module _ {direction : Direction} {run : Run} {p : CodePage} {piece : List ℕ} {
       → (s .answer ≤ 3) × ((s .used ≤ pendingCount (run .pending) + length piece) × (run .read + length piece ≤ readLimit) × (run .written + s .written < 2 ^ 64))
   ran-needs h k = finish-needs direction run p piece last before s after (accepted-facts direction run p (length piece) (w .accepted)) (w .result) (w .laid) h k
 
-  pub ran-answered : {pending : Pending} {r : Outcome} → pending ≡ pendingAfter (run .pending) piece (s .answer) (s .used) → Finished run s pending (length piece) last r
+  pub ran-answered : {pending : Pending} {r : Outcome} → pending ≡ pendingAfter direction (run .pending) piece (s .answer) (s .used) → Finished run s pending (length piece) last r
       → Answered (runCall direction run p piece last (length before)) r before after
   ran-answered {pending} {r} q f = answered-accepted direction run p piece last before s after pending r (w .accepted) (w .result) (w .laid) q f
 
@@ -56,23 +56,20 @@ pub decode-ran : (run : Run) (p : CodePage) (piece : List ℕ) (last : Bool) (be
     → after ≡ over before (decodeFed (p .classes) (p .singles) (p .pairs) (run .policy) (p .defaultUnit) last (length before) (optional waits lead) piece .output)
     → Ran Decoding run p piece last before s after
 decode-ran run p piece last before number e z waits lead w l f g =
-    let given = loop-gives _ _ _ before _ (decode-fed run p piece last (length before) waits lead w l) f g in
+    let given = loop-gives _ _ _ before _ (decode-fed run p piece last (length before) waits lead w l (accepted-facts Decoding run p (length piece) (sym e ∙ z))) f g in
     record { accepted = sym e ∙ z; result = given .0; laid = given .1 }
 
 -- ---- encoding
-pub encode-requires : (run : Run) (p : CodePage) (count number : ℕ) → number ≡ refusal Encoding run p count → number ≡ 0
-    → (policyAllowed Encoding (run .policy) ≡ true) × ((length (p .index) ≡ 256) × ((high : ℕ) → 256 * entry (p .index) high + 256 ≤ length (p .blocks)))
-encode-requires run p count number e z = encode-needs run p count (accepted-facts Encoding run p count (sym e ∙ z))
+pub encode-requires : (run : Run) (p : CodePage) (count number : ℕ) → number ≡ refusal Encoding run p count → number ≡ 0 → (waits : Bool) (high : ℕ) → waits ≡ hasPending (run .pending) → high ≡ pendingHigh (run .pending)
+    → (policyAllowed Encoding (run .policy) ≡ true)
+    × ((length (p .index) ≡ 256) × (((half : ℕ) → 256 * entry (p .index) half + 256 ≤ length (p .blocks)) × (waits ≡ true → isHigh high ≡ true)))
+encode-requires run p count number e z waits high w h = encode-needs run p count waits high w h (accepted-facts Encoding run p count (sym e ∙ z))
 
 pub encode-ran : (run : Run) (p : CodePage) (piece : List ℕ) (last : Bool) (before : List ℕ) (number : ℕ) → number ≡ refusal Encoding run p (length piece) → number ≡ 0
-    → (default : ℕ) → default ≡ p .defaultByte → {s : Progress} {after : List ℕ} → s ≡ summary (encodeFed (p .index) (p .blocks) (run .policy) default last (length before) piece)
-    → after ≡ over before (encodeFed (p .index) (p .blocks) (run .policy) default last (length before) piece .output)
+    → (default : ℕ) (waits : Bool) (high : ℕ) → default ≡ p .defaultByte → waits ≡ hasPending (run .pending) → high ≡ pendingHigh (run .pending) → {s : Progress} {after : List ℕ}
+    → s ≡ summary (encodeFed (p .index) (p .blocks) (run .policy) default last (length before) (optional waits high) piece)
+    → after ≡ over before (encodeFed (p .index) (p .blocks) (run .policy) default last (length before) (optional waits high) piece .output)
     → Ran Encoding run p piece last before s after
-encode-ran run p piece last before number e z default d f g =
-    let given = loop-gives _ _ _ before _ (encode-fed run p piece last (length before) default d (accepted-facts Encoding run p (length piece) (sym e ∙ z))) f g in
+encode-ran run p piece last before number e z default waits high d w h f g =
+    let given = loop-gives _ _ _ before _ (encode-fed run p piece last (length before) default waits high d w h (accepted-facts Encoding run p (length piece) (sym e ∙ z))) f g in
     record { accepted = sym e ∙ z; result = given .0; laid = given .1 }
-
--- nothing is pending after a call of encoding
-pub encode-settled : {run : Run} {p : CodePage} {piece : List ℕ} {last : Bool} {before : List ℕ} {s : Progress} {after : List ℕ}
-    → Ran Encoding run p piece last before s after → Nothing ≡ pendingAfter (run .pending) piece (s .answer) (s .used)
-encode-settled {run} {p} {piece} {last} {before} {s} w = encode-pending run p piece last before s (accepted-facts Encoding run p (length piece) (w .accepted)) (w .result)

@@ -1,7 +1,7 @@
 -- What a worked example of calls computes with, named once: `unfolding callRules` opens all of it.
 use Rattle.codepage.specs.CodePage.{isKnown, isSingle, isLead, isTrail, leads, leadsBelow, firstBad, badClass, badNumber, classFault, sizesFault, entriesFault, firstFault}
 use Rattle.codepage.specs.Lent.{over}
-use Rattle.codepage.specs.Reading.{lookup, byteAlone, byteJoins, bytePair, unitCode, bytesOf, decoder, encoder, settled, completed, waitsThen, codesAtEnd, callCodes, waitingUnit, codes}
+use Rattle.codepage.specs.Reading.{lookup, byteAlone, byteJoins, bytePair, isHigh, isLow, isSurrogate, unitCode, unitAlone, bytesOf, decoder, encoder, settled, completed, waitsThen, codesAtEnd, callCodes, waitingUnit, codes}
 use Rattle.engine.specs.Policies.{actionOf, policyAllowed}
 use Rattle.engine.specs.Engine.{effectOf, converter, fits, less, halt, after, stopAt, takeWhen, takeCode, takeCodes, feedFrom, whole}
 use Rattle.convert.specs.Runs.{validRun, startOf}
@@ -12,7 +12,7 @@ unfolding isKnown isLead leads firstBad badClass badNumber classFault sizesFault
 shapeRules = Unit {0}
 
 unfoldable pub readingRules : Type 0
-unfolding isSingle isLead isTrail leads leadsBelow lookup byteAlone byteJoins bytePair unitCode bytesOf decoder encoder settled completed waitsThen codesAtEnd callCodes waitingUnit codes
+unfolding isSingle isLead isTrail leads leadsBelow lookup byteAlone byteJoins bytePair isHigh isLow isSurrogate unitCode unitAlone bytesOf decoder encoder settled completed waitsThen codesAtEnd callCodes waitingUnit codes
 readingRules = Unit {0}
 
 unfoldable pub engineRules : Type 0

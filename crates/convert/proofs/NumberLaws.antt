@@ -13,14 +13,15 @@ use Rattle.codepage.specs.CodePage.{CodePage, pick}
 use Rattle.codepage.specs.Reading.{Reader, Code, sizeOf, codesAtEnd, callCodes, waitingUnit, waitingUnits}
 use Rattle.codepage.proofs.ReadingLaws.{sizesOf, sizes-cover}
 use Rattle.engine.specs.declared.Direction.{Direction}
+use Rattle.engine.specs.declared.Direction.the-variants.{Decoding, Encoding}
 use Rattle.engine.specs.Engine.{Converter, converter, converterOf, readerOf, limit, Fed, atEnd}
 use Rattle.engine.proofs.EngineLaws.{Shape}
 use Rattle.engine.proofs.AnswerLaws.{Goes, StopsAt, NoRoomAt, Exact, answers-exact, AnswerCases, answer-cases}
 use Rattle.convert.specs.declared.Pending.{Pending}
-use Rattle.convert.specs.declared.Pending.the-variants.{Nothing, Byte}
+use Rattle.convert.specs.declared.Pending.the-variants.{Nothing, Byte, High}
 use Rattle.convert.specs.declared.Run.{Run}
-use Rattle.convert.specs.Calls.{refusal, Called, pendingUnit, pendingCount, finalUnit, readOf, pendingAfter, endedAfter, runAfter, fedBy, acceptedCall, refusedCall, runCall}
-use Rattle.convert.proofs.CallLaws.{Accepted, accepted-facts, refusal-named, pending-units, pendingUnits, count-le-one, final-is, feed-shape}
+use Rattle.convert.specs.Calls.{refusal, Called, pendingUnit, pendingCount, pendingAs, finalUnit, readOf, pendingAfter, endedAfter, runAfter, fedBy, acceptedCall, refusedCall, runCall}
+use Rattle.convert.proofs.CallLaws.{Accepted, accepted-facts, refusal-named, pendingUnits, count-le-one, valid-in, final-as, feed-shape}
 use Rattle.convert.proofs.RefusalLaws.{Cases, AllPass, accepted-of, refusals-exact}
 use Rattle.convert.proofs.RunLaws.{refused-same}
 
@@ -40,9 +41,9 @@ DoesNotFit direction run p piece last room = NoRoomAt (converterOf direction p (
 pub record Numbers (direction : Direction) (run : Run) (p : CodePage) (piece : List ℕ) (last : Bool) (room : ℕ) (c : Called) : Type 0 where
   -- all read, nothing carried, not stopped
   pub all-read : (c .number ≡ 0) ↔ (AllPass direction run p (length piece) × (c .read ≡ length piece) × (c .run .pending ≡ Nothing) × (Stops direction run p piece last room → ⊥))
-  -- call not marked last: all read, a lead is carried
+  -- call not marked last: all read, a lead or a high surrogate is carried
   pub waits : (c .number ≡ 1)
-      ↔ (AllPass direction run p (length piece) × (last ≡ false) × (c .read ≡ length piece) × ((byte : ℕ) × (c .run .pending ≡ Byte byte) × (readerOf direction p .waits byte ≡ true)))
+      ↔ (AllPass direction run p (length piece) × (last ≡ false) × (c .read ≡ length piece) × ((unit : ℕ) × (c .run .pending ≡ pendingAs direction unit) × (readerOf direction p .waits unit ≡ true)))
   -- the next code does not fit
   pub full : (c .number ≡ 2) ↔ (AllPass direction run p (length piece) × DoesNotFit direction run p piece last room)
   -- stopped by policy 0
@@ -53,6 +54,11 @@ pub record Numbers (direction : Direction) (run : Run) (p : CodePage) (piece : L
   pub ended : AllPass direction run p (length piece) → (c .run .ended ≡ true) ↔ ((c .number ≡ 3) ⊎ ((last ≡ true) × (c .read ≡ length piece) × (c .run .pending ≡ Nothing)))
 
 -- ---- an accepted call
+-- a pending unit is not nothing
+some-pending : (direction : Direction) (unit : ℕ) → pendingAs direction unit ≡ Nothing → ⊥
+some-pending Decoding unit e = let z : _≡_ {A = ℕ} 1 0 = ap pendingCount e in omega arith
+some-pending Encoding unit e = let z : _≡_ {A = ℕ} 1 0 = ap pendingCount e in omega arith
+
 module _ (direction : Direction) (run : Run) (p : CodePage) (piece : List ℕ) (last : Bool) (room : ℕ) (a : Accepted direction run p (length piece)) where
   abbrev v : Converter
   v = converterOf direction p (run .policy)
@@ -67,7 +73,7 @@ module _ (direction : Direction) (run : Run) (p : CodePage) (piece : List ℕ) (
   f = fedBy direction run p piece last room
 
   abbrev pending′ : Pending
-  pending′ = pendingAfter (run .pending) piece (f .answer) (f .used)
+  pending′ = pendingAfter (run .direction) (run .pending) piece (f .answer) (f .used)
 
   abbrev read′ : ℕ
   read′ = readOf (run .pending) (length piece) (f .answer) (f .used)
@@ -77,7 +83,7 @@ module _ (direction : Direction) (run : Run) (p : CodePage) (piece : List ℕ) (
   formed = feed-shape direction run p piece last room a
 
   units : length (pendingUnits (run .pending) ++ piece) ≡ pendingCount (run .pending) + length piece
-  units = length-append (pendingUnits (run .pending)) piece ∙ ap (λ (n : ℕ). n + length piece) (pending-units (run .pending))
+  units = length-append (pendingUnits (run .pending)) piece
 
   exact : Exact v (limit room) ks waiting f
   unfolding f fedBy converter
@@ -102,6 +108,7 @@ module _ (direction : Direction) (run : Run) (p : CodePage) (piece : List ℕ) (
   none-pending : (pending : Pending) → pendingCount pending ≡ 0 → pending ≡ Nothing
   none-pending Nothing e = refl
   none-pending (Byte byte) e = absurd (omega arith)
+  none-pending (High unit) e = absurd (omega arith)
 
   -- 0
   zero-read : f .answer ≡ 0 → read′ ≡ length piece
@@ -119,11 +126,11 @@ module _ (direction : Direction) (run : Run) (p : CodePage) (piece : List ℕ) (
   unfolding readOf
   one-read e = rw (eq-eqb _ _ e)
 
-  one-pending : f .answer ≡ 1 → (byte : ℕ) × (pending′ ≡ Byte byte) × (readerOf direction p .waits byte ≡ true)
+  one-pending : f .answer ≡ 1 → (unit : ℕ) × (pending′ ≡ pendingAs direction unit) × (readerOf direction p .waits unit ≡ true)
   unfolding pendingAfter converter
   one-pending e = (
     getD (pendingUnits (run .pending) ++ piece) (f .used) 0,
-    rw (eq-eqb _ _ e) (final-is (run .pending) piece (f .used) (formed .holds e .0)),
+    rw (eq-eqb _ _ e) (ap (λ (d : Direction). finalUnit d (run .pending) piece) (sym (a .same)) ∙ final-as direction (run .pending) piece (f .used) (valid-in run direction (a .same) (a .valid)) (formed .holds e .0)),
     formed .holds e .1,
   )
 
@@ -137,7 +144,7 @@ module _ (direction : Direction) (run : Run) (p : CodePage) (piece : List ℕ) (
       let all : sizesOf ks + length (waitingUnits waiting) ≡ length (waitingUnits (pendingUnit (run .pending))) + length piece =
       sizes-cover (readerOf direction p) last (pendingUnit (run .pending)) piece in
       let part : sizesOf (n .taken) < sizesOf ks = subst (λ (l : List Code). sizesOf (n .taken) < sizesOf l) (sym (n .split)) (sizes-split (n .taken) (n .code) (n .behind)) in
-      omega (arith, ap (λ (x : Fed). x .used) (exact .full n), pending-units (run .pending))
+      omega (arith, ap (λ (x : Fed). x .used) (exact .full n))
 
   not-all : DoesNotFit direction run p piece last room → f .answer ≡ 2 → read′ ≡ length piece → pending′ ≡ Nothing → ⊥
   not-all n e r q = by-used (eqb (f .used) 0) refl
@@ -155,8 +162,8 @@ module _ (direction : Direction) (run : Run) (p : CodePage) (piece : List ℕ) (
   no-codes r (some c) [] xs k ys e q = omega (arith, sizes-split xs k ys, ap sizesOf q)
   no-codes r pending (b ∷ l) xs k ys e q = omega arith
 
-  not-carried : last ≡ false → DoesNotFit direction run p piece last room → f .answer ≡ 2 → read′ ≡ length piece → (byte : ℕ) → pending′ ≡ Byte byte → ⊥
-  not-carried l n e r byte q = by-used (eqb (f .used) 0) refl
+  not-carried : last ≡ false → DoesNotFit direction run p piece last room → f .answer ≡ 2 → read′ ≡ length piece → (unit : ℕ) → pending′ ≡ pendingAs direction unit → ⊥
+  not-carried l n e r unit q = by-used (eqb (f .used) 0) refl
     where
       by-used : (t : Bool) → eqb (f .used) 0 ≡ t → ⊥
       by-used true u =
@@ -164,9 +171,7 @@ module _ (direction : Direction) (run : Run) (p : CodePage) (piece : List ℕ) (
           (omega (arith, read-used (λ z. omega arith), eqb-true (f .used) 0 u))
           (subst (λ (t : Bool). callCodes (readerOf direction p) t (pendingUnit (run .pending)) piece ≡ n .taken ++ (n .code ∷ n .behind)) l (n .split))
       by-used false u =
-          let settled = pending-settled (λ z. omega arith) (eqb-false _ _ u) in
-          let z : _≡_ {A = ℕ} 0 1 = cc in
-          omega arith
+          some-pending direction unit (sym q ∙ pending-settled (λ z. omega arith) (eqb-false _ _ u))
 
   -- 3
   three-pending : f .answer ≡ 3 → pending′ ≡ Nothing
@@ -174,10 +179,10 @@ module _ (direction : Direction) (run : Run) (p : CodePage) (piece : List ℕ) (
 
   -- ---- the other way round
   abbrev Carried : Type 0
-  Carried = (byte : ℕ) × (pending′ ≡ Byte byte) × (readerOf direction p .waits byte ≡ true)
+  Carried = (unit : ℕ) × (pending′ ≡ pendingAs direction unit) × (readerOf direction p .waits unit ≡ true)
 
-  other-pending : (byte : ℕ) → pending′ ≡ Nothing → pending′ ≡ Byte byte → ⊥
-  other-pending byte e q = let z : _≡_ {A = ℕ} 0 1 = cc in omega arith
+  other-pending : (unit : ℕ) → pending′ ≡ Nothing → pending′ ≡ pendingAs direction unit → ⊥
+  other-pending unit e q = some-pending direction unit (sym q ∙ e)
 
   is-zero : read′ ≡ length piece → pending′ ≡ Nothing → (Stops direction run p piece last room → ⊥) → f .answer ≡ 0
   is-zero r q s = by-case (exact .one-of-them)

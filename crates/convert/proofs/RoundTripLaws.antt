@@ -1,16 +1,16 @@
 -- A text that maps both ways comes back.
-use mathlib.Core.Bool.{Bool, true, false, _||_}
+use mathlib.Core.Bool.{Bool, true, false, _||_, false≢true}
 use mathlib.Core.List.{List, [], _∷_, _++_, append-nil}
 use mathlib.Core.Option.{Option, none}
-use mathlib.Core.Path.{_≡_, refl, sym, ap, _∙_}
+use mathlib.Core.Path.{_≡_, refl, sym, ap, _∙_, subst}
 use Prim.Native.Nat.{ℕ, _/_, _%_}
 use native.Mathlib.Omega.{arith}
 use lib.Dec.{leb, eqb}
 use lib.Bits.{or-zero-l}
 use borrow.Author.Tests.{eqb-true}
 use Rattle.codepage.specs.CodePage.{CodePage, pick, entry, isSingle, isLead}
-use Rattle.codepage.specs.Reading.{byteAlone, bytesOf, Reader, decoder, encoder, Code, unitsOf, sizeOf, alone, together, completed, waitsThen, codesAtEnd, callCodes, codes, waitingUnits}
-use Rattle.codepage.proofs.ReadingLaws.{codes-wait, codes-one, codes-two, codes-alone, none-waits, joined, covers}
+use Rattle.codepage.specs.Reading.{byteAlone, isSurrogate, bytesOf, Reader, decoder, encoder, Code, unitsOf, sizeOf, alone, together, completed, waitsThen, codesAtEnd, callCodes, codes, waitingUnits}
+use Rattle.codepage.proofs.ReadingLaws.{codes-wait, codes-one, codes-two, codes-alone, none-waits, joined, covers, found-no-wait, found-no-surrogate}
 use Rattle.codepage.specs.declared.Kind.the-variants.{Invalid}
 use Rattle.codepage.specs.declared.Lookup.the-variants.{Found, Lacking}
 use Rattle.engine.specs.declared.Direction.the-variants.{Decoding, Encoding}
@@ -119,9 +119,13 @@ bytesBy p (unit ∷ text) h = bytesOf (h .0 .0) ++ bytesBy p text (h .1)
 
 module _ (p : CodePage) (policy : Policy) (default : ℕ) where
   encoded-clear : (text : List ℕ) (h : UnitsReturn p text) → Clear (whole (readerOf Encoding p) policy default text) (bytesBy p text h)
-  unfolding whole codes callCodes completed waitsThen codesAtEnd encoder
-  encoded-clear [] h = clear-end (readerOf Encoding p) policy default
-  encoded-clear (unit ∷ text) h = clear-more (readerOf Encoding p) policy default (h .0 .0) (alone (readerOf Encoding p) unit) (callCodes (readerOf Encoding p) true none text) (bytesBy p text (h .1)) (h .0 .1 .own) (encoded-clear text (h .1))
+  unfolding whole codes encoder
+  encoded-clear [] h = unfold callCodes codesAtEnd in clear-end (readerOf Encoding p) policy default
+  encoded-clear (unit ∷ text) h =
+      let r : Reader = readerOf Encoding p in
+      let first : callCodes r true none (unit ∷ text) ≡ alone r unit ∷ callCodes r true none text = codes-one r true unit text (found-no-wait (p .index) (p .blocks) unit (h .0 .0) (h .0 .1 .own)) in
+      subst (λ (ks : List Code). Clear (takeCodes (converter r policy default) endless ks none) (bytesOf (h .0 .0) ++ bytesBy p text (h .1))) (sym first)
+      (clear-more r policy default (h .0 .0) (alone r unit) (callCodes r true none text) (bytesBy p text (h .1)) (h .0 .1 .own) (encoded-clear text (h .1)))
 
   decoded-clear : (text : List ℕ) (h : UnitsReturn p text) → Clear (whole (readerOf Decoding p) policy default (bytesBy p text h)) text
   unfolding whole
@@ -182,3 +186,8 @@ returns-bytes p text h decoding encoding default₁ default₂ =
     let back : bytesBy p (unitsBy p (codes (readerOf Decoding p) text) h) (units-return p (codes (readerOf Decoding p) text) h) ≡ text =
     bytes-are p (codes (readerOf Decoding p) text) h ∙ covered (readerOf Decoding p) text in
     (rw (d .written) (e .written ∙ back), d .flags, rw (d .written) (e .flags))
+
+-- A TEXT WITH A SURROGATE does not come back: no surrogate has a code of its own, whatever the tables say.
+pub surrogate-lost : (p : CodePage) (unit : ℕ) (text : List ℕ) → isSurrogate unit ≡ true → UnitsReturn p (unit ∷ text) → ⊥
+unfolding encoder
+surrogate-lost p unit text e h = false≢true (sym (found-no-surrogate (p .index) (p .blocks) unit (h .0 .0) (h .0 .1 .own)) ∙ e)

@@ -1,21 +1,22 @@
 -- The run rules and their propositions are one.
-use mathlib.Core.Bool.{Bool, true, false, not, _&&_, _||_, false≢true}
+use mathlib.Core.Bool.{Bool, true, false, not, _||_, false≢true}
 use mathlib.Core.Logic.{_↔_}
-use mathlib.Core.Path.{_≡_, refl, sym, ap, _∙_, subst}
-use Prim.Native.Nat.{ℕ, _<_, _≤_}
+use mathlib.Core.Path.{_≡_, refl, sym, _∙_, subst}
+use Prim.Native.Nat.{ℕ, _+_, _*_, _<_, _≤_}
 use native.Mathlib.Omega.{arith}
 use lib.Dec.{leb, ltb, eqb}
 use borrow.Author.Tests.{eqb-true, eqb-false, leb-true, ltb-true, ltb-false, le-leb, lt-ltb, not-true}
+use Rattle.codepage.specs.Reading.{isHigh}
 use Rattle.engine.specs.declared.Direction.{Direction}
 use Rattle.engine.specs.declared.Direction.the-variants.{Decoding, Encoding}
 use Rattle.engine.specs.declared.Policy.{Policy}
 use Rattle.engine.specs.Policies.{stoppedFlag, highestSingle, policyAllowed}
 use Rattle.engine.proofs.EffectLaws.{and-left, and-right}
 use Rattle.convert.specs.declared.Pending.{Pending}
-use Rattle.convert.specs.declared.Pending.the-variants.{Nothing, Byte}
+use Rattle.convert.specs.declared.Pending.the-variants.{Nothing, Byte, High}
 use Rattle.convert.specs.declared.Run.{Run}
-use Rattle.convert.specs.Runs.{isDecoding, ifPending, validRun, RunRules, startOf}
-use Rattle.convert.proofs.CallLaws.{Valid, valid-facts, valid-of}
+use Rattle.convert.specs.Runs.{isDecoding, isEncoding, pendingAllowed, validRun, RunRules, startOf}
+use Rattle.convert.proofs.CallLaws.{valid-facts, valid-of}
 
 -- ---- digits
 abbrev pub Digits : Direction → Policy → Type 0
@@ -42,24 +43,51 @@ is-decoding : (direction : Direction) → isDecoding direction ≡ true → dire
 is-decoding Decoding e = refl
 is-decoding Encoding e = absurd (false≢true e)
 
-abbrev PendingRule : Direction → Bool → (written read : ℕ) → Type 0
-PendingRule direction ended written read = (direction ≡ Decoding) × (ended ≡ false) × (written < read)
+is-encoding : (direction : Direction) → isEncoding direction ≡ true → direction ≡ Encoding
+is-encoding Decoding e = absurd (false≢true e)
+is-encoding Encoding e = refl
+
+-- what has to hold if a byte is carried, and if a unit is
+abbrev ByteRule : Direction → Bool → (written read : ℕ) → Type 0
+ByteRule direction ended written read = (direction ≡ Decoding) × (ended ≡ false) × (written < read)
+
+abbrev HighRule : (unit : ℕ) → Direction → Bool → (written read : ℕ) → Type 0
+HighRule unit direction ended written read = (direction ≡ Encoding) × (0xD800 ≤ unit) × (unit ≤ 0xDBFF) × (ended ≡ false) × (written + 2 ≤ 2 * read)
 
 module _ (direction : Direction) (ended : Bool) (written read : ℕ) where
-  abbrev test : Bool
-  test = isDecoding direction && (not ended && ltb written read)
+  abbrev Allowed : Pending → Type 0
+  Allowed pending = pendingAllowed pending direction ended written read ≡ true
 
-  rule-of : test ≡ true → PendingRule direction ended written read
-  rule-of e =
+  byte-rule : (byte : ℕ) → Allowed (Byte byte) → ByteRule direction ended written read
+  byte-rule byte e =
       let rest = and-right (isDecoding direction) _ e in
       (is-decoding direction (and-left (isDecoding direction) _ e), not-true _ (and-left (not ended) _ rest), ltb-true _ _ (and-right (not ended) _ rest))
 
-  of-rule : PendingRule direction ended written read → test ≡ true
-  of-rule h = rw (h .0, h .1, lt-ltb written read (h .2))
+  high-rule : (unit : ℕ) → Allowed (High unit) → HighRule unit direction ended written read
+  unfolding isHigh
+  high-rule unit e =
+      let e₁ = and-right (isEncoding direction) _ e in
+      let high = and-left (isHigh unit) _ e₁ in
+      let e₂ = and-right (isHigh unit) _ e₁ in (
+        is-encoding direction (and-left (isEncoding direction) _ e),
+        leb-true _ _ (and-left (leb 0xD800 unit) _ high),
+        leb-true _ _ (and-right (leb 0xD800 unit) _ high),
+        not-true _ (and-left (not ended) _ e₂),
+        leb-true _ _ (and-right (not ended) _ e₂),
+      )
 
-  pending-rule : (pending : Pending) → (ifPending pending test ≡ true) ↔ ((byte : ℕ) → pending ≡ Byte byte → PendingRule direction ended written read)
-  pending-rule Nothing = (λ e byte q. absurd (let z : _≡_ {A = ℕ} 0 1 = cc in omega arith), λ h. refl)
-  pending-rule (Byte b) = (λ e byte q. rule-of e, λ h. of-rule (h b refl))
+  pending-rules : (pending : Pending) → Allowed pending
+      → ((byte : ℕ) → pending ≡ Byte byte → ByteRule direction ended written read) × ((unit : ℕ) → pending ≡ High unit → HighRule unit direction ended written read)
+  pending-rules pending e = (λ byte q. byte-rule byte (subst Allowed q e), λ unit q. high-rule unit (subst Allowed q e))
+
+  allowed-by : (pending : Pending) → ((byte : ℕ) → pending ≡ Byte byte → ByteRule direction ended written read)
+      → ((unit : ℕ) → pending ≡ High unit → HighRule unit direction ended written read) → Allowed pending
+  unfolding isHigh
+  allowed-by Nothing b u = refl
+  allowed-by (Byte byte) b u = let h = b byte refl in rw (h .0, h .1, lt-ltb written read (h .2))
+  allowed-by (High unit) b u =
+      let h = u unit refl in
+      rw (h .0, le-leb 0xD800 unit (h .1), le-leb unit 0xDBFF (h .2), h .3, le-leb (written + 2) (2 * read) (h .4))
 
 -- THE RUN RULES, test and propositions.
 pub rules-exact : (run : Run) → (validRun run ≡ true) ↔ RunRules run
@@ -72,7 +100,8 @@ rules-exact run = (
         read = v .read;
         written = v .written;
         stopped = flag-ended (run .flags) (run .ended) .0 (v .stopped);
-        pending = pending-rule (run .direction) (run .ended) (run .written) (run .read) (run .pending) .0 (v .pending);
+        pending-byte = pending-rules (run .direction) (run .ended) (run .written) (run .read) (run .pending) (v .pending) .0;
+        pending-high = pending-rules (run .direction) (run .ended) (run .written) (run .read) (run .pending) (v .pending) .1;
       },
   λ h. valid-of run
       (record {
@@ -82,7 +111,7 @@ rules-exact run = (
         read = h .read;
         written = h .written;
         stopped = flag-ended (run .flags) (run .ended) .1 (h .stopped);
-        pending = pending-rule (run .direction) (run .ended) (run .written) (run .read) (run .pending) .1 (h .pending);
+        pending = allowed-by (run .direction) (run .ended) (run .written) (run .read) (run .pending) (h .pending-byte) (h .pending-high);
       }),
 )
 

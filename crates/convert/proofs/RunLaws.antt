@@ -8,27 +8,27 @@ use Prim.Native.Nat.{ℕ, zero, suc, _+_, _-_, _*_, _^_, _<_, _≤_}
 use native.Mathlib.Nat.{mul-zero}
 use native.Mathlib.Omega.{arith}
 use lib.Dec.{leb, ltb, eqb}
-use lib.ListN.{length, length-append}
+use lib.ListN.{length, getD, length-append}
 use lib.Bits.{bitOr, or-lt}
-use borrow.Author.Tests.{eqb-true, eqb-false, ltb-true, ltb-false, leb-true, eq-eqb, ne-eqb, lt-ltb, le-ltb, not-true}
-use Rattle.codepage.specs.Reading.{waitingUnits}
+use borrow.Author.Tests.{eqb-true, eqb-false, ltb-true, ltb-false, leb-true, eq-eqb, ne-eqb, lt-ltb, le-ltb, le-leb, not-true}
+use Rattle.codepage.specs.Reading.{isHigh, waitingUnits}
 use Rattle.codepage.specs.CodePage.{CodePage, pick}
 use Rattle.engine.specs.declared.Direction.{Direction}
 use Rattle.engine.specs.declared.Direction.the-variants.{Decoding, Encoding}
 use Rattle.engine.specs.declared.Policy.{Policy}
 use Rattle.convert.specs.declared.Pending.{Pending}
-use Rattle.convert.specs.declared.Pending.the-variants.{Nothing, Byte}
+use Rattle.convert.specs.declared.Pending.the-variants.{Nothing, Byte, High}
 use Rattle.convert.specs.declared.Run.{Run}
 use Rattle.engine.specs.Policies.{policyAllowed}
 use Rattle.engine.specs.Engine.{Fed, limit, feedFrom}
-use Rattle.convert.specs.Runs.{readLimit, isDecoding, mostWritten, ifPending, validRun, fresh, startOf}
-use Rattle.convert.specs.Calls.{refusal, ReadsOrSettles, pendingUnit, pendingCount, finalUnit, readOf, pendingAfter, endedAfter, runAfter, fedBy, acceptedCall, refusedCall, runCall}
+use Rattle.convert.specs.Runs.{readLimit, mostWritten, pendingAllowed, validRun, fresh, startOf}
+use Rattle.convert.specs.Calls.{refusal, ReadsOrSettles, pendingUnit, pendingCount, pendingAs, finalUnit, readOf, pendingAfter, endedAfter, runAfter, fedBy, acceptedCall, refusedCall, runCall}
 use Rattle.engine.specs.Engine.{converterOf}
 use Rattle.engine.proofs.EffectLaws.{and-left, and-right}
 use Rattle.engine.proofs.EngineLaws.{Shape}
-use Rattle.engine.proofs.EncodeLaws.{encoder-waits}
+use Rattle.engine.proofs.EncodeLaws.{encoder-high}
 use Rattle.engine.proofs.BoundLaws.{Kept, kept-from, reads, widest, bounded-of}
-use Rattle.convert.proofs.CallLaws.{Valid, valid-facts, valid-of, Accepted, accepted-facts, pending-units, encoding-pending, feed-shape, read-le}
+use Rattle.convert.proofs.CallLaws.{Valid, valid-facts, valid-of, Accepted, accepted-facts, pendingUnits, valid-in, final-as, feed-shape, read-le}
 
 -- ---- a start
 -- AN ACCEPTED START gives a run that keeps the rules.
@@ -45,25 +45,27 @@ start-kept direction page policy e = by-test (not (eqb page 0) && policyAllowed 
     by-test false q e = absurd (let z : _≡_ {A = ℕ} 17 0 = sym (rw q) ∙ e in omega arith)
 
 -- ---- an accepted call
-if-pending : (pending : Pending) (b : Bool) → b ≡ true → ifPending pending b ≡ true
-if-pending Nothing b e = refl
-if-pending (Byte byte) b e = e
-
--- a pending byte leaves written below read
-pending-room : (pending : Pending) (direction : Direction) (ended : Bool) (written read : ℕ) → written ≤ read
-    → ifPending pending (isDecoding direction && (not ended && ltb written read)) ≡ true → written + pendingCount pending ≤ read
-pending-room Nothing direction ended written read h e = omega arith
-pending-room (Byte byte) direction ended written read h e = omega (arith, ltb-true written read (and-right (not ended) _ (and-right (isDecoding direction) _ e)))
+-- what is pending leaves room for what it writes
+pending-room : (pending : Pending) (direction : Direction) (ended : Bool) (written read : ℕ) → written ≤ mostWritten direction read → pendingAllowed pending direction ended written read ≡ true
+    → written + widest direction * pendingCount pending ≤ mostWritten direction read
+pending-room Nothing direction ended written read h e = omega (arith, mul-zero (widest direction))
+pending-room (Byte byte) Decoding ended written read h e = omega (arith, ltb-true written read (and-right (not ended) _ e))
+pending-room (Byte byte) Encoding ended written read h e = absurd (false≢true e)
+pending-room (High unit) Decoding ended written read h e = absurd (false≢true e)
+pending-room (High unit) Encoding ended written read h e = omega (arith, leb-true (written + 2) (2 * read) (and-right (not ended) _ (and-right (isHigh unit) _ e)))
 
 -- what stays pending keeps its rule where nothing else changes
-pending-stays : (pending : Pending) (direction : Direction) (ended ended′ : Bool) (written read written′ read′ : ℕ) → written′ ≡ written → read′ ≡ read → (1 ≤ pendingCount pending → ended′ ≡ false)
-    → ifPending pending (isDecoding direction && (not ended && ltb written read)) ≡ true → ifPending pending (isDecoding direction && (not ended′ && ltb written′ read′)) ≡ true
-pending-stays Nothing direction ended ended′ written read written′ read′ w r h e = refl
-pending-stays (Byte byte) direction ended ended′ written read written′ read′ w r h e =
-    rw (and-left (isDecoding direction) (not ended && ltb written read) e, h (omega arith), w, r) (and-right (not ended) _ (and-right (isDecoding direction) _ e))
+pending-stays : (pending : Pending) (direction : Direction) (ended ended′ : Bool) (written read written′ read′ : ℕ) → written′ ≡ written → read′ ≡ read → ended ≡ false → (1 ≤ pendingCount pending → ended′ ≡ false)
+    → pendingAllowed pending direction ended written read ≡ true → pendingAllowed pending direction ended′ written′ read′ ≡ true
+pending-stays Nothing direction ended ended′ written read written′ read′ w r g h e = refl
+pending-stays (Byte byte) direction ended ended′ written read written′ read′ w r g h e = rw (h (omega arith), w, r) (rw g at e)
+pending-stays (High unit) direction ended ended′ written read written′ read′ w r g h e = rw (h (omega arith), w, r) (rw g at e)
 
-is-decoding : (direction : Direction) → Decoding ≡ direction → isDecoding direction ≡ true
-is-decoding direction e = ap isDecoding (sym e)
+-- a unit that waits may be pending
+waits-allowed : (direction : Direction) (p : CodePage) (policy : Policy) (unit : ℕ) (ended : Bool) (written read : ℕ) → converterOf direction p policy .reader .waits unit ≡ true
+    → ended ≡ false → written + widest direction ≤ mostWritten direction read → pendingAllowed (pendingAs direction unit) direction ended written read ≡ true
+waits-allowed Decoding p policy unit ended written read w e h = rw (e, lt-ltb written read (omega arith))
+waits-allowed Encoding p policy unit ended written read w e h = rw (encoder-high (p .index) (p .blocks) policy (p .defaultByte) unit w, e, le-leb (written + 2) (2 * read) h)
 
 stopped-or : (a b : Bool) → b ≡ true → (a || b) ≡ true
 stopped-or true b e = refl
@@ -76,15 +78,6 @@ or-first false b e = absurd (false≢true e)
 or-not : (a b : Bool) → (a || b) ≡ true → b ≡ false → a ≡ true
 or-not true b e h = refl
 or-not false b e h = absurd (false≢true (sym h ∙ e))
-
-encoding-count : (direction : Direction) {run : Run} {p : CodePage} {count : ℕ} → Encoding ≡ direction → Accepted direction run p count → pendingCount (run .pending) ≡ 0
-encoding-count Decoding e a = absurd (let z : _≡_ {A = ℕ} 0 1 = cc in omega arith)
-encoding-count Encoding {run} {p} {count} e a = ap pendingCount (encoding-pending run p count a)
-
--- nothing waits in encoding
-no-wait : (direction : Direction) (p : CodePage) (policy : Policy) (unit : ℕ) → Encoding ≡ direction → converterOf direction p policy .reader .waits unit ≡ true → ⊥
-no-wait Decoding p policy unit e q = let z : _≡_ {A = ℕ} 0 1 = cc in omega arith
-no-wait Encoding p policy unit e q = false≢true (sym (encoder-waits (p .index) (p .blocks) policy (p .defaultByte) unit) ∙ q)
 
 -- a unit is read, or one that was pending is used
 read-first : (direction : Direction) (run : Run) (p : CodePage) (piece : List ℕ) (last : Bool) (room b : ℕ) (l : List ℕ) → piece ≡ b ∷ l → widest direction ≤ room
@@ -106,7 +99,7 @@ module _ (direction : Direction) (run : Run) (p : CodePage) (piece : List ℕ) (
   formed = feed-shape direction run p piece last room a
 
   units : length (waitingUnits (pendingUnit (run .pending)) ++ piece) ≡ pendingCount (run .pending) + length piece
-  units = length-append (waitingUnits (pendingUnit (run .pending))) piece ∙ ap (λ (n : ℕ). n + length piece) (pending-units (run .pending))
+  units = length-append (waitingUnits (pendingUnit (run .pending))) piece
 
   abbrev read′ : ℕ
   read′ = readOf (run .pending) (length piece) (f .answer) (f .used)
@@ -130,48 +123,51 @@ module _ (direction : Direction) (run : Run) (p : CodePage) (piece : List ℕ) (
       let before : run .flags < 2 ^ 3 = ltb-true (run .flags) 8 (or-not (ltb (run .flags) 8) (run .ended) (a .valid .stopped) (a .going)) in
       or-first (ltb (bitOr (run .flags) (f .flags)) 8) _ (lt-ltb _ _ (or-lt 3 (run .flags) (f .flags) before (kept .low (eqb-false _ _ e))))
 
-  -- what is written stays within what is read
-  within-decoding : Decoding ≡ direction → run .written + pendingCount (run .pending) ≤ run .read
-  within-decoding e =
-      pending-room (run .pending) (run .direction) (run .ended) (run .written) (run .read)
-      (subst (λ (d : Direction). run .written ≤ mostWritten d (run .read)) (sym (e ∙ a .same)) (a .valid .written)) (a .valid .pending)
+  -- what is written stays within what is read, and where a unit waits there is room for what it writes
+  within : run .written + widest (run .direction) * pendingCount (run .pending) ≤ mostWritten (run .direction) (run .read)
+  within = pending-room (run .pending) (run .direction) (run .ended) (run .written) (run .read) (a .valid .written) (a .valid .pending)
 
-  within-encoding : Encoding ≡ direction → run .written ≤ 2 * run .read
-  within-encoding e = subst (λ (d : Direction). run .written ≤ mostWritten d (run .read)) (sym (e ∙ a .same)) (a .valid .written)
+  output-le : length (f .output) ≤ widest (run .direction) * f .used
+  output-le = subst (λ (d : Direction). length (f .output) ≤ widest d * f .used) (a .same) (kept .output)
 
-  output-decoding : Decoding ≡ direction → length (f .output) ≤ f .used
-  output-decoding e = omega (arith, subst (λ (d : Direction). length (f .output) ≤ widest d * f .used) (sym e) (kept .output))
+  written-waits : f .answer ≡ 1 → run .written + length (f .output) + widest (run .direction) ≤ mostWritten (run .direction) (run .read + read′)
+  written-waits q = by-direction (run .direction) within output-le
+    where
+      by-direction : (d : Direction) → run .written + widest d * pendingCount (run .pending) ≤ mostWritten d (run .read) → length (f .output) ≤ widest d * f .used
+          → run .written + length (f .output) + widest d ≤ mostWritten d (run .read + read′)
+      by-direction Decoding h o = omega (arith, read-all q, formed .holds q .0, units)
+      by-direction Encoding h o = omega (arith, read-all q, formed .holds q .0, units)
 
-  output-encoding : Encoding ≡ direction → length (f .output) ≤ 2 * f .used
-  output-encoding e = subst (λ (d : Direction). length (f .output) ≤ widest d * f .used) (sym e) (kept .output)
-
-  written-decoding : Decoding ≡ direction → (t : Bool) → eqb (f .answer) 1 ≡ t → run .written + length (f .output) ≤ run .read + read′
-  written-decoding e true q = omega (arith, within-decoding e, output-decoding e, read-all (eqb-true _ _ q), formed .holds (eqb-true _ _ q) .0, units)
-  written-decoding e false q = omega (arith, within-decoding e, output-decoding e, read-used (eqb-false _ _ q))
-
-  written-encoding : Encoding ≡ direction → (t : Bool) → eqb (f .answer) 1 ≡ t → run .written + length (f .output) ≤ 2 * (run .read + read′)
-  written-encoding e true q =
-      omega (arith, within-encoding e, output-encoding e, read-all (eqb-true _ _ q), formed .holds (eqb-true _ _ q) .0, units, encoding-count direction e a)
-  written-encoding e false q = omega (arith, within-encoding e, output-encoding e, read-used (eqb-false _ _ q), encoding-count direction e a)
+  written-goes : (f .answer ≡ 1 → ⊥) → run .written + length (f .output) ≤ mostWritten (run .direction) (run .read + read′)
+  written-goes n = by-direction (run .direction) within output-le
+    where
+      by-direction : (d : Direction) → run .written + widest d * pendingCount (run .pending) ≤ mostWritten d (run .read) → length (f .output) ≤ widest d * f .used
+          → run .written + length (f .output) ≤ mostWritten d (run .read + read′)
+      by-direction Decoding h o = omega (arith, read-used n)
+      by-direction Encoding h o = omega (arith, read-used n)
 
   written-kept : run .written + length (f .output) ≤ mostWritten (run .direction) (run .read + read′)
-  written-kept = by-direction (run .direction) (a .same)
+  written-kept = by-answer (eqb (f .answer) 1) refl
     where
-      by-direction : (d : Direction) → direction ≡ d → run .written + length (f .output) ≤ mostWritten d (run .read + read′)
-      by-direction Decoding e = written-decoding (sym e) (eqb (f .answer) 1) refl
-      by-direction Encoding e = written-encoding (sym e) (eqb (f .answer) 1) refl
+      by-answer : (t : Bool) → eqb (f .answer) 1 ≡ t → run .written + length (f .output) ≤ mostWritten (run .direction) (run .read + read′)
+      by-answer true q = omega (arith, written-waits (eqb-true _ _ q))
+      by-answer false q = written-goes (eqb-false _ _ q)
 
   -- what is pending keeps its rule
   abbrev PendingKept : Pending → Type 0
-  PendingKept pending = ifPending pending (isDecoding (run .direction) && (not (endedAfter last (f .answer)) && ltb (run .written + length (f .output)) (run .read + read′))) ≡ true
+  PendingKept pending = pendingAllowed pending (run .direction) (endedAfter last (f .answer)) (run .written + length (f .output)) (run .read + read′) ≡ true
 
-  pending-waits : Decoding ≡ direction → f .answer ≡ 1 → PendingKept (finalUnit (run .pending) piece)
+  waits-kept : f .answer ≡ 1 → PendingKept (finalUnit (run .direction) (run .pending) piece)
   unfolding endedAfter
-  pending-waits e q =
-      let below : run .written + length (f .output) < run .read + read′ =
-      omega (arith, within-decoding e, output-decoding e, read-all q, formed .holds q .0, units) in
-      if-pending (finalUnit (run .pending) piece) _
-      (rw (is-decoding (run .direction) (e ∙ a .same), ne-eqb (f .answer) 3 (λ z. omega arith), ne-eqb (f .answer) 0 (λ z. omega arith), lt-ltb _ _ below))
+  waits-kept q =
+      let unit : ℕ = getD (pendingUnits (run .pending) ++ piece) (f .used) 0 in
+      let final : finalUnit (run .direction) (run .pending) piece ≡ pendingAs (run .direction) unit =
+      final-as (run .direction) (run .pending) piece (f .used) (valid-in run (run .direction) refl (a .valid)) (formed .holds q .0) in
+      let waits : converterOf (run .direction) p (run .policy) .reader .waits unit ≡ true =
+      subst (λ (d : Direction). converterOf d p (run .policy) .reader .waits unit ≡ true) (a .same) (formed .holds q .1) in
+      subst PendingKept (sym final)
+      (waits-allowed (run .direction) p (run .policy) unit (endedAfter last (f .answer)) (run .written + length (f .output)) (run .read + read′) waits
+      (rw (ne-eqb (f .answer) 3 (λ z. omega arith), ne-eqb (f .answer) 0 (λ z. omega arith))) (written-waits q))
 
   not-ended : f .used ≡ 0 → 1 ≤ pendingCount (run .pending) → endedAfter last (f .answer) ≡ false
   unfolding endedAfter
@@ -181,21 +177,14 @@ module _ (direction : Direction) (run : Run) (p : CodePage) (piece : List ℕ) (
   pending-same : (f .answer ≡ 1 → ⊥) → f .used ≡ 0 → PendingKept (run .pending)
   pending-same n q =
       pending-stays (run .pending) (run .direction) (run .ended) (endedAfter last (f .answer)) (run .written) (run .read) (run .written + length (f .output)) (run .read + read′)
-      (omega (arith, no-output)) (omega (arith, read-used n)) (not-ended q) (a .valid .pending)
+      (omega (arith, no-output)) (omega (arith, read-used n)) (a .going) (not-ended q) (a .valid .pending)
     where
       no-output : length (f .output) ≡ 0
       no-output = omega (arith, kept .output, ap (λ (u : ℕ). widest direction * u) q, mul-zero (widest direction))
 
-  never-waits : Encoding ≡ direction → f .answer ≡ 1 → ⊥
-  never-waits e q = no-wait direction p (run .policy) _ e (formed .holds q .1)
-
-  waits-kept : (d : Direction) → direction ≡ d → f .answer ≡ 1 → PendingKept (finalUnit (run .pending) piece)
-  waits-kept Decoding e q = pending-waits (sym e) q
-  waits-kept Encoding e q = absurd (never-waits (sym e) q)
-
-  pending-kept : (t₁ t₂ : Bool) → eqb (f .answer) 1 ≡ t₁ → eqb (f .used) 0 ≡ t₂ → PendingKept (pendingAfter (run .pending) piece (f .answer) (f .used))
+  pending-kept : (t₁ t₂ : Bool) → eqb (f .answer) 1 ≡ t₁ → eqb (f .used) 0 ≡ t₂ → PendingKept (pendingAfter (run .direction) (run .pending) piece (f .answer) (f .used))
   unfolding pendingAfter
-  pending-kept true t₂ e₁ e₂ = rw e₁ (waits-kept direction refl (eqb-true _ _ e₁))
+  pending-kept true t₂ e₁ e₂ = rw e₁ (waits-kept (eqb-true _ _ e₁))
   pending-kept false true e₁ e₂ = rw (e₁, e₂) (pending-same (eqb-false _ _ e₁) (eqb-true _ _ e₂))
   pending-kept false false e₁ e₂ = rw (e₁, e₂)
 
@@ -218,7 +207,7 @@ module _ (direction : Direction) (run : Run) (p : CodePage) (piece : List ℕ) (
       })
 
   -- the reading promise
-  reads-some : 1 ≤ length piece → widest direction ≤ room → ReadsOrSettles read′ (run .pending) (pendingAfter (run .pending) piece (f .answer) (f .used))
+  reads-some : 1 ≤ length piece → widest direction ≤ room → ReadsOrSettles read′ (run .pending) (pendingAfter (run .direction) (run .pending) piece (f .answer) (f .used))
   unfolding f
   reads-some h w = by-case (some-read piece refl h)
     where
@@ -226,19 +215,20 @@ module _ (direction : Direction) (run : Run) (p : CodePage) (piece : List ℕ) (
       some-read [] e q = absurd (omega arith)
       some-read (b ∷ l) e q = read-first direction run p piece last room b l e w
 
-      settles : (f .answer ≡ 1 → ⊥) → 1 ≤ f .used → pendingAfter (run .pending) piece (f .answer) (f .used) ≡ Nothing
+      settles : (f .answer ≡ 1 → ⊥) → 1 ≤ f .used → pendingAfter (run .direction) (run .pending) piece (f .answer) (f .used) ≡ Nothing
       settles n u = unfold pendingAfter in rw (ne-eqb (f .answer) 1 n, ne-eqb (f .used) 0 (λ z. omega arith))
 
+      some-pending : _≡_ {A = ℕ} 1 0 → ⊥
+      some-pending z = omega arith
+
       by-answer : 1 ≤ f .used → (t : Bool) → eqb (f .answer) 1 ≡ t → (pending : Pending) → run .pending ≡ pending
-          → ReadsOrSettles read′ (run .pending) (pendingAfter (run .pending) piece (f .answer) (f .used))
+          → ReadsOrSettles read′ (run .pending) (pendingAfter (run .direction) (run .pending) piece (f .answer) (f .used))
       by-answer u true q pending e = inl (omega (arith, read-all (eqb-true _ _ q)))
       by-answer u false q Nothing e = inl (omega (arith, read-used (eqb-false _ _ q), ap pendingCount e))
-      by-answer u false q (Byte byte) e = inr (λ z. some-pending byte (sym e ∙ z), settles (eqb-false _ _ q) u)
-        where
-          some-pending : (byte : ℕ) → Byte byte ≡ Nothing → ⊥
-          some-pending byte z = let y : _≡_ {A = ℕ} 0 1 = cc in omega arith
+      by-answer u false q (Byte byte) e = inr (λ z. some-pending (ap pendingCount (sym e ∙ z)), settles (eqb-false _ _ q) u)
+      by-answer u false q (High unit) e = inr (λ z. some-pending (ap pendingCount (sym e ∙ z)), settles (eqb-false _ _ q) u)
 
-      by-case : (f .answer ≡ 1) ⊎ (1 ≤ f .used) → ReadsOrSettles read′ (run .pending) (pendingAfter (run .pending) piece (f .answer) (f .used))
+      by-case : (f .answer ≡ 1) ⊎ (1 ≤ f .used) → ReadsOrSettles read′ (run .pending) (pendingAfter (run .direction) (run .pending) piece (f .answer) (f .used))
       by-case (inl e) = inl (omega (arith, read-all e))
       by-case (inr u) = by-answer u (eqb (f .answer) 1) refl (run .pending) refl
 

@@ -1,17 +1,17 @@
--- The rows of document 01 and of CR 2 hold of the rules, the sample page has a good shape, and texts on it return or do not.
+-- The rows of document 01, of CR 2 and of CR 5 hold of the rules, the sample page has a good shape, and texts on it return or do not.
 use mathlib.Core.List.{List, [], _∷_}
 use mathlib.Core.Path.{_≡_, refl, sym, ap, _∙_, subst}
 use Prim.Native.Nat.{ℕ}
 use native.Mathlib.Omega.{arith}
 use Rattle.codepage.specs.CodePage.{GoodShape}
 use Rattle.codepage.specs.Reading.{bytesOf, Code, codes}
-use Rattle.codepage.specs.declared.Kind.the-variants.{Invalid}
+use Rattle.codepage.specs.declared.Kind.the-variants.{UndefinedSingle, Invalid}
 use Rattle.codepage.specs.declared.Lookup.the-variants.{Found, Lacking}
 use Rattle.codepage.proofs.ShapeLaws.{shape-exact}
 use Rattle.engine.specs.declared.Direction.the-variants.{Decoding, Encoding}
 use Rattle.engine.specs.Engine.{readerOf}
 use Rattle.convert.specs.RoundTrips.{RoundTrips, UnitsReturn, BytesReturn}
-use Rattle.convert.specs.Sample.{samplePage, rows, badHalfRows, AllHold}
+use Rattle.convert.specs.Sample.{samplePage, rows, badHalfRows, surrogateRows, carriedRefusals, AllHold}
 use Rattle.convert.proofs.Computing.{shapeRules, readingRules, callRules}
 
 pub sample-good : GoodShape samplePage
@@ -37,6 +37,25 @@ bad-half-alone = refl
 pub bad-half-taken : codes (readerOf Decoding samplePage) (0x82 ∷ 0x80 ∷ []) ≡ record { first = 0x82; more = 0x80 ∷ []; means = Lacking Invalid } ∷ []
 unfolding readingRules
 bad-half-taken = refl
+
+-- THE ROWS OF CR 5.
+pub surrogates-hold : AllHold surrogateRows
+unfolding callRules
+surrogates-hold = (refl, (refl, (refl, (refl, (refl, (refl, (refl, (refl, (refl, tt)))))))))
+
+pub carried-refused : AllHold carriedRefusals
+unfolding callRules
+carried-refused = (refl, (refl, (refl, (refl, (refl, (refl, (refl, tt)))))))
+
+-- their codes: D83D DE00 together, and D83D alone before 0041
+pub pair-together : codes (readerOf Encoding samplePage) (0xD83D ∷ 0xDE00 ∷ []) ≡ record { first = 0xD83D; more = 0xDE00 ∷ []; means = Lacking UndefinedSingle } ∷ []
+unfolding readingRules
+pair-together = refl
+
+pub high-alone : codes (readerOf Encoding samplePage) (0xD83D ∷ 0x0041 ∷ [])
+    ≡ record { first = 0xD83D; more = []; means = Lacking Invalid } ∷ record { first = 0x0041; more = []; means = Found 0x41 } ∷ []
+unfolding readingRules
+high-alone = refl
 
 -- ---- texts that return, and one that does not
 -- 4E00 and 827C belong together.

@@ -1,4 +1,4 @@
--- Document 01, "One call of a run".
+-- Document 01, "One call of a run", as amended by CR 2 and CR 5.
 use mathlib.Core.Bool.{Bool, true, false, not, _&&_}
 use mathlib.Core.List.{List, [], _∷_, _++_}
 use mathlib.Core.Option.{Option, none, some}
@@ -14,10 +14,10 @@ use Rattle.engine.specs.declared.Direction.{Direction}
 use Rattle.engine.specs.declared.Direction.the-variants.{Decoding, Encoding}
 use Rattle.engine.specs.declared.Policy.{Policy}
 use Rattle.convert.specs.declared.Pending.{Pending}
-use Rattle.convert.specs.declared.Pending.the-variants.{Nothing, Byte}
+use Rattle.convert.specs.declared.Pending.the-variants.{Nothing, Byte, High}
 use Rattle.convert.specs.declared.Run.{Run}
 use Rattle.convert.specs.declared.Answer.{Answer}
-use Rattle.convert.specs.declared.Answer.the-variants.{AllRead, LeadPending, OutputFull, Stopped, BadShape, PieceTooLong, InvalidRun, OtherRun, PendingNotLead, RunEnded, ReadLimit}
+use Rattle.convert.specs.declared.Answer.the-variants.{AllRead, UnitPending, OutputFull, Stopped, BadShape, PieceTooLong, InvalidRun, OtherRun, PendingNotLead, RunEnded, ReadLimit}
 use Rattle.convert.specs.declared.Outcome.{Outcome}
 use Rattle.codepage.specs.Lent.{over}
 use Rattle.engine.specs.Engine.{converterOf, limit, Fed, feedFrom}
@@ -26,7 +26,7 @@ use Rattle.convert.specs.Runs.{pieceLimit, readLimit, validRun, isDecodi
 -- The number of each answer.
 abbrev pub numberOf : Answer → ℕ
 numberOf AllRead = 0
-numberOf LeadPending = 1
+numberOf UnitPending = 1
 numberOf OutputFull = 2
 numberOf Stopped = 3
 numberOf BadShape = 10
@@ -43,10 +43,11 @@ sameDirection Decoding Encoding = false
 sameDirection Encoding Decoding = false
 sameDirection Encoding Encoding = true
 
--- what is pending, if anything, is a lead here
+-- a pending byte is a lead here; of a pending unit nothing is asked
 abbrev pub leadIn : (classes : List ℕ) → Pending → Bool
 leadIn classes Nothing = true
 leadIn classes (Byte byte) = isLead (entry classes byte)
+leadIn classes (High unit) = true
 
 -- a check that holds, and the next one, or the number that it refuses with
 abbrev pub check : ℕ → Bool → ℕ → ℕ
@@ -79,23 +80,29 @@ ReadsOrSettles read before after = (1 ≤ read) ⊎ ((before ≡ Nothing → ⊥
 abbrev pub pendingUnit : Pending → Option ℕ
 pendingUnit Nothing = none
 pendingUnit (Byte byte) = some byte
+pendingUnit (High unit) = some unit
 
 -- how many units are pending
 abbrev pub pendingCount : Pending → ℕ
 pendingCount pending = length (waitingUnits (pendingUnit pending))
 
+-- a unit of input that is pending: a byte in decoding, a unit in encoding
+abbrev pub pendingAs : Direction → ℕ → Pending
+pendingAs Decoding byte = Byte byte
+pendingAs Encoding unit = High unit
+
 -- the final unit: the piece's or, where it is empty, the one that was pending
-abbrev pub finalUnit : Pending → List ℕ → Pending
-finalUnit pending [] = pending
-finalUnit pending (a ∷ units) = finalUnit (Byte a) units
+abbrev pub finalUnit : Direction → Pending → List ℕ → Pending
+finalUnit direction pending [] = pending
+finalUnit direction pending (a ∷ units) = finalUnit direction (pendingAs direction a) units
 
 -- all of the piece where the final unit waits, else its units among those of the codes taken
 unfoldable pub readOf : Pending → (count answer used : ℕ) → ℕ
 readOf pending count answer used = pick (eqb answer 1) count (used - pendingCount pending)
 
 -- the final unit where it waits; what was pending stays so until a code with it is taken
-unfoldable pub pendingAfter : Pending → (piece : List ℕ) → (answer used : ℕ) → Pending
-pendingAfter pending piece answer used = pick (eqb answer 1) (finalUnit pending piece) (pick (eqb used 0) pending Nothing)
+unfoldable pub pendingAfter : Direction → Pending → (piece : List ℕ) → (answer used : ℕ) → Pending
+pendingAfter direction pending piece answer used = pick (eqb answer 1) (finalUnit direction pending piece) (pick (eqb used 0) pending Nothing)
 
 -- a stop ends the run; in a call marked last it ends when all is read and nothing is pending
 unfoldable pub endedAfter : (last : Bool) → (answer : ℕ) → Bool
@@ -125,7 +132,7 @@ acceptedCall run piece last f =
       read = readOf (run .pending) (length piece) (f .answer) (f .used);
       output = f .output;
       run =
-          runAfter run (pendingAfter (run .pending) piece (f .answer) (f .used)) (readOf (run .pending) (length piece) (f .answer) (f .used)) (length (f .output)) (f .flags)
+          runAfter run (pendingAfter (run .direction) (run .pending) piece (f .answer) (f .used)) (readOf (run .pending) (length piece) (f .answer) (f .used)) (length (f .output)) (f .flags)
           (endedAfter last (f .answer));
     }
 

@@ -1,16 +1,17 @@
--- Document 01, "The run and its saved line": the run, its limits and rules, and the start of a run.
+-- Document 01, "The run and its saved line", as amended by CR 5: the run, its limits and rules, and the start of a run.
 use mathlib.Core.Bool.{Bool, true, false, not, _&&_, _||_}
 use mathlib.Core.List.{List, [], _∷_}
 use mathlib.Core.Option.{Option, none, some}
 use mathlib.Core.Path.{_≡_}
-use Prim.Native.Nat.{ℕ, _*_, _<_, _≤_}
+use Prim.Native.Nat.{ℕ, _+_, _*_, _<_, _≤_}
 use lib.Dec.{leb, ltb, eqb}
 use Rattle.codepage.specs.CodePage.{pick}
+use Rattle.codepage.specs.Reading.{isHigh}
 use Rattle.engine.specs.declared.Direction.{Direction}
 use Rattle.engine.specs.declared.Direction.the-variants.{Decoding, Encoding}
 use Rattle.engine.specs.declared.Policy.{Policy}
 use Rattle.convert.specs.declared.Pending.{Pending}
-use Rattle.convert.specs.declared.Pending.the-variants.{Nothing, Byte}
+use Rattle.convert.specs.declared.Pending.the-variants.{Nothing, Byte, High}
 use Rattle.convert.specs.declared.Run.{Run}
 use Rattle.convert.specs.declared.Started.{Started}
 use Rattle.convert.specs.declared.Started.the-variants.{Accepted, Refused}
@@ -27,22 +28,27 @@ abbrev pub isDecoding : Direction → Bool
 isDecoding Decoding = true
 isDecoding Encoding = false
 
+abbrev pub isEncoding : Direction → Bool
+isEncoding direction = not (isDecoding direction)
+
 -- written at most read (decoding) or twice read (encoding)
 abbrev pub mostWritten : Direction → ℕ → ℕ
 mostWritten Decoding read = read
 mostWritten Encoding read = 2 * read
 
--- what has to hold if a byte is carried
-abbrev pub ifPending : Pending → Bool → Bool
-ifPending Nothing holds = true
-ifPending (Byte byte) holds = holds
+-- a carried byte only if decoding, not ended, written below read; a carried unit only if encoding, a high surrogate, not ended,
+-- written plus 2 at most 2 × read
+abbrev pub pendingAllowed : Pending → Direction → (ended : Bool) → (written read : ℕ) → Bool
+pendingAllowed Nothing direction ended written read = true
+pendingAllowed (Byte byte) direction ended written read = isDecoding direction && (not ended && ltb written read)
+pendingAllowed (High unit) direction ended written read = isEncoding direction && (isHigh unit && (not ended && leb (written + 2) (2 * read)))
 
 abbrev pub every : List Bool → Bool
 every [] = true
 every (b ∷ bs) = b && every bs
 
 -- The run rules: page not 0; digits allowed; flags at most 15; read within the limit; written at most read or twice read;
--- flag 8 only if ended; a carried byte only if decoding, not ended, written below read.
+-- flag 8 only if ended; a carried byte or unit only where it is allowed.
 unfoldable pub validRun : Run → Bool
 validRun run =
     every
@@ -52,7 +58,7 @@ validRun run =
     ∷ leb (run .read) readLimit
     ∷ leb (run .written) (mostWritten (run .direction) (run .read))
     ∷ (ltb (run .flags) 8 || run .ended)
-    ∷ ifPending (run .pending) (isDecoding (run .direction) && (not (run .ended) && ltb (run .written) (run .read)))
+    ∷ pendingAllowed (run .pending) (run .direction) (run .ended) (run .written) (run .read)
     ∷ [])
 
 -- The same in propositions; `rules-exact` says that they are the rules.
@@ -70,7 +76,10 @@ pub record RunRules (run : Run) : Type 0 where
   -- flag 8 only if ended
   pub stopped : stoppedFlag ≤ run .flags → run .ended ≡ true
   -- a carried byte only if decoding, not ended, written below read
-  pub pending : (byte : ℕ) → run .pending ≡ Byte byte → (run .direction ≡ Decoding) × (run .ended ≡ false) × (run .written < run .read)
+  pub pending-byte : (byte : ℕ) → run .pending ≡ Byte byte → (run .direction ≡ Decoding) × (run .ended ≡ false) × (run .written < run .read)
+  -- a carried unit only if encoding, a high surrogate, not ended, written plus 2 at most 2 × read
+  pub pending-high : (unit : ℕ) → run .pending ≡ High unit
+      → (run .direction ≡ Encoding) × (0xD800 ≤ unit) × (unit ≤ 0xDBFF) × (run .ended ≡ false) × (run .written + 2 ≤ 2 * run .read)
 
 -- An accepted start gives a fresh run.
 abbrev pub fresh : Direction → ℕ → Policy → Run

@@ -1,5 +1,5 @@
--- Document 01, "The little page, and sixteen rows to prove": the sample page, and its rows of run calls, row 7 as amended by CR 2;
--- and rows of CR 2.
+-- Document 01, "The little page, and sixteen rows to prove": the sample page, and its rows of run calls, row 7 as amended by CR 2
+-- and row 15 by CR 5; and rows of CR 2 and CR 5.
 use mathlib.Core.Bool.{Bool, true, false}
 use mathlib.Core.List.{List, [], _∷_, _++_}
 use mathlib.Core.Path.{_≡_}
@@ -11,7 +11,7 @@ use Rattle.engine.specs.declared.Direction.{Direction}
 use Rattle.engine.specs.declared.Direction.the-variants.{Decoding, Encoding}
 use Rattle.engine.specs.declared.Policy.{Policy}
 use Rattle.convert.specs.declared.Pending.{Pending}
-use Rattle.convert.specs.declared.Pending.the-variants.{Nothing, Byte}
+use Rattle.convert.specs.declared.Pending.the-variants.{Nothing, Byte, High}
 use Rattle.convert.specs.declared.Run.{Run}
 use Rattle.convert.specs.Runs.{fresh}
 use Rattle.convert.specs.Calls.{Called, runCall}
@@ -219,31 +219,27 @@ rows =
     ∷ lastCall Encoding (digits 5 5 5) (room 2) (0x3000 ∷ []) (allRead 1 (0x81 ∷ 0x40 ∷ []) [] 0)
     -- 14. encode 00A0: 20, no flag
     ∷ lastCall Encoding (digits 5 5 5) ample (0x00A0 ∷ []) (allRead 1 (0x20 ∷ []) (room 8) 0)
-    -- 15. encode D83D DE00: 3F 3F, flag 1
-    ∷ lastCall Encoding (digits 5 5 5) ample (0xD83D ∷ 0xDE00 ∷ []) (allRead 2 (0x3F ∷ 0x3F ∷ []) (room 7) 1)
+    -- 15. encode D83D DE00: 3F, flag 1 (CR 5)
+    ∷ lastCall Encoding (digits 5 5 5) ample (0xD83D ∷ 0xDE00 ∷ []) (allRead 2 (0x3F ∷ []) (room 8) 1)
     ∷ []
+
+-- a run that has read one unit and carries it
+abbrev pub carrying : Direction → Pending → Policy → Run
+carrying direction pending policy =
+    record {
+      direction = direction;
+      page = 7;
+      policy = policy;
+      pending = pending;
+      flags = 0;
+      read = 1;
+      written = 0;
+      ended = false;
+    }
 
 -- a call, not marked last, on a decoding run that carries 82
 abbrev pub carriedCall : Policy → (lent : List ℕ) → List ℕ → Seen → Row
-carriedCall policy lent piece seen =
-    record {
-      direction = Decoding;
-      run =
-          record {
-            direction = Decoding;
-            page = 7;
-            policy = policy;
-            pending = Byte 0x82;
-            flags = 0;
-            read = 1;
-            written = 0;
-            ended = false;
-          };
-      piece = piece;
-      last = false;
-      lent = lent;
-      seen = seen;
-    }
+carriedCall policy lent piece seen = record { direction = Decoding; run = carrying Decoding (Byte 0x82) policy; piece = piece; last = false; lent = lent; seen = seen }
 
 -- CR 2: when a lead is followed by a byte below 80 that may not be second, only the lead is the invalid code, and the next byte is
 -- read afresh; a byte of 80 or more is still taken with it.
@@ -330,6 +326,145 @@ badHalfRows =
     -- 82 7F, marked last: 30FB 007F; 82 80: one invalid code of two bytes
     ∷ lastCall Decoding (digits 5 5 5) ample (0x82 ∷ 0x7F ∷ []) (allRead 2 (0x30FB ∷ 0x007F ∷ []) (room 7) 4)
     ∷ lastCall Decoding (digits 5 5 5) ample (0x82 ∷ 0x80 ∷ []) (allRead 2 (0x30FB ∷ []) (room 8) 4)
+    ∷ []
+
+-- a call on an encoding run that carries D83D
+abbrev pub highCall : Policy → (last : Bool) → (lent : List ℕ) → List ℕ → Seen → Row
+highCall policy last lent piece seen = record { direction = Encoding; run = carrying Encoding (High 0xD83D) policy; piece = piece; last = last; lent = lent; seen = seen }
+
+-- CR 5: a high surrogate followed by a low one is one undefined single of two units; a surrogate otherwise is invalid, one unit, and
+-- the unit after it is read afresh. Encoding runs carry a high surrogate between pieces.
+abbrev pub surrogateRows : List Row
+surrogateRows =
+    -- D83D not last, room 0: 1, carried
+    record {
+      direction = Encoding;
+      run = fresh Encoding 7 (digits 5 5 5);
+      piece = 0xD83D ∷ [];
+      last = false;
+      lent = [];
+      seen =
+          record {
+            number = 1;
+            read = 1;
+            written = 0;
+            lent = [];
+            flags = 0;
+            totalRead = 1;
+            totalWritten = 0;
+            pending = High 0xD83D;
+            ended = false;
+          };
+    }
+    -- D83D carried, DE00 last: one 3F, flag 1
+    ∷ highCall (digits 5 5 5) true (room 1) (0xDE00 ∷ [])
+    (record {
+      number = 0;
+      read = 1;
+      written = 1;
+      lent = 0x3F ∷ [];
+      flags = 1;
+      totalRead = 2;
+      totalWritten = 1;
+      pending = Nothing;
+      ended = true;
+    })
+    -- 0041 last, room 1: D83D is settled alone, flag 4; 0041 does not fit and stays unread
+    ∷ highCall (digits 5 5 5) true (room 1) (0x0041 ∷ [])
+    (record {
+      number = 2;
+      read = 0;
+      written = 1;
+      lent = 0x3F ∷ [];
+      flags = 4;
+      totalRead = 1;
+      totalWritten = 1;
+      pending = Nothing;
+      ended = false;
+    })
+    -- D83D again, not last: the first is settled alone, the second is carried
+    ∷ highCall (digits 5 5 5) false (room 1) (0xD83D ∷ [])
+    (record {
+      number = 1;
+      read = 1;
+      written = 1;
+      lent = 0x3F ∷ [];
+      flags = 4;
+      totalRead = 2;
+      totalWritten = 1;
+      pending = High 0xD83D;
+      ended = false;
+    })
+    -- policy 550: stopped, with 0041 unread
+    ∷ highCall (digits 5 5 0) true ample (0x0041 ∷ [])
+    (record {
+      number = 3;
+      read = 0;
+      written = 0;
+      lent = ample;
+      flags = 12;
+      totalRead = 1;
+      totalWritten = 0;
+      pending = Nothing;
+      ended = true;
+    })
+    -- an empty piece marked last: D83D at the text's end is invalid
+    ∷ highCall (digits 5 5 5) true ample []
+    (record {
+      number = 0;
+      read = 0;
+      written = 1;
+      lent = 0x3F ∷ room 8;
+      flags = 4;
+      totalRead = 1;
+      totalWritten = 1;
+      pending = Nothing;
+      ended = true;
+    })
+    -- DE00 D83D: two that are invalid
+    ∷ lastCall Encoding (digits 5 5 5) ample (0xDE00 ∷ 0xD83D ∷ []) (allRead 2 (0x3F ∷ 0x3F ∷ []) (room 7) 4)
+    -- DBFF DFFF and D800 DC00 are pairs; D7FF and E000 are no surrogates
+    ∷ lastCall Encoding (digits 5 5 5) ample (0xDBFF ∷ 0xDFFF ∷ 0xD800 ∷ 0xDC00 ∷ []) (allRead 4 (0x3F ∷ 0x3F ∷ []) (room 7) 1)
+    ∷ lastCall Encoding (digits 5 5 0) ample (0xD7FF ∷ 0xE000 ∷ []) (allRead 2 (0x3F ∷ 0x3F ∷ []) (room 7) 1)
+    ∷ []
+
+-- a refused call on a run that has read 1: the run is given back
+abbrev pub refusedRow : Direction → Run → Row
+refusedRow direction run =
+    record {
+      direction = direction;
+      run = run;
+      piece = 0x41 ∷ [];
+      last = true;
+      lent = ample;
+      seen =
+          record {
+            number = 12;
+            read = 0;
+            written = 0;
+            lent = ample;
+            flags = run .flags;
+            totalRead = run .read;
+            totalWritten = run .written;
+            pending = run .pending;
+            ended = run .ended;
+          };
+    }
+
+-- CR 5: under 12 a carried unit is allowed in an encoding run if it is a high surrogate, the run is not ended, and written plus 2 is
+-- at most 2 × read.
+abbrev pub carriedRefusals : List Row
+carriedRefusals =
+    -- a low surrogate; a unit that is none; the units beside the high ones
+    refusedRow Encoding (carrying Encoding (High 0xDC00) (digits 5 5 5))
+    ∷ refusedRow Encoding (carrying Encoding (High 0x0041) (digits 5 5 5))
+    ∷ refusedRow Encoding (carrying Encoding (High 0xD7FF) (digits 5 5 5))
+    -- a byte in encoding, a unit in decoding
+    ∷ refusedRow Encoding (carrying Encoding (Byte 0x82) (digits 5 5 5))
+    ∷ refusedRow Decoding (carrying Decoding (High 0xD83D) (digits 5 5 5))
+    -- read 1, written 1; ended
+    ∷ refusedRow Encoding (record { direction = Encoding; page = 7; policy = digits 5 5 5; pending = High 0xD83D; flags = 0; read = 1; written = 1; ended = false })
+    ∷ refusedRow Encoding (record { direction = Encoding; page = 7; policy = digits 5 5 5; pending = High 0xD83D; flags = 0; read = 1; written = 0; ended = true })
     ∷ []
 
 abbrev pub AllHold : List Row → Type 0

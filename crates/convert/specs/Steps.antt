@@ -1,28 +1,46 @@
 -- Definitions that the private functions' contracts cite, and that no promise does.
-use mathlib.Core.Bool.{Bool, true, false}
+use mathlib.Core.Bool.{Bool, true, false, _&&_}
 use mathlib.Core.Option.{Option, none, some}
 use mathlib.Core.Path.{_≡_}
 use Prim.Native.Nat.{ℕ}
+use Rattle.codepage.specs.Reading.{isHigh}
+use Rattle.engine.specs.declared.Direction.{Direction}
 use Rattle.engine.specs.declared.progress.Progress.{Progress}
 use Rattle.convert.specs.declared.Pending.{Pending}
+use Rattle.convert.specs.declared.Pending.the-variants.{Nothing, Byte, High}
 use Rattle.convert.specs.declared.Run.{Run}
 use Rattle.convert.specs.declared.Outcome.{Outcome}
+use Rattle.convert.specs.Runs.{isDecoding, isEncoding, mostWritten}
 use Rattle.convert.specs.Calls.{numberOf, pendingUnit, readOf, runAfter, endedAfter}
 
--- a pending unit as a flag and a number
+-- what is pending as a flag and a number
 abbrev pub isSome : Option ℕ → Bool
 isSome none = false
 isSome (some unit) = true
 
-abbrev pub orZero : Option ℕ → ℕ
-orZero none = 0
-orZero (some unit) = unit
-
 abbrev pub hasPending : Pending → Bool
 hasPending pending = isSome (pendingUnit pending)
 
+-- the byte of a decoding run, the unit of an encoding run
 abbrev pub pendingByte : Pending → ℕ
-pendingByte pending = orZero (pendingUnit pending)
+pendingByte Nothing = 0
+pendingByte (Byte byte) = byte
+pendingByte (High unit) = 0
+
+abbrev pub pendingHigh : Pending → ℕ
+pendingHigh Nothing = 0
+pendingHigh (Byte byte) = 0
+pendingHigh (High unit) = unit
+
+-- what is pending is of the run's direction
+abbrev pub pendingAgrees : Pending → Direction → Bool
+pendingAgrees Nothing direction = true
+pendingAgrees (Byte byte) direction = isDecoding direction
+pendingAgrees (High unit) direction = isEncoding direction && isHigh unit
+
+-- the most that one unit of input writes
+abbrev pub mostOfOne : Direction → ℕ
+mostOfOne direction = mostWritten direction 1
 
 -- the result of an accepted call
 pub record Finished (run : Run) (s : Progress) (pending : Pending) (count : ℕ) (last : Bool) (r : Outcome) : Type 0 where

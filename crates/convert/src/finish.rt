@@ -1,10 +1,13 @@
 // The result of a run call.
 ghost use mathlib.Core.Path.{_≡_};
 ghost use Prim.Native.Nat.{ℕ, _+_, _≤_, _<_, _^_};
+ghost use lib.Dec.{eqb};
 ghost use lib.ListN.{length};
+ghost use Rattle.codepage.specs.CodePage.{pick};
+ghost use Rattle.engine.specs.declared.Direction.the-variants.{Decoding, Encoding};
 ghost use Rattle.convert.specs.Runs.{readLimit};
-ghost use Rattle.convert.specs.Calls.{numberOf, pendingCount, readOf, pendingAfter, endedAfter};
-ghost use Rattle.convert.specs.Steps.{hasPending, pendingByte, Finished, Refused};
+ghost use Rattle.convert.specs.Calls.{numberOf, pendingCount, finalUnit, readOf, pendingAfter, endedAfter};
+ghost use Rattle.convert.specs.Steps.{hasPending, pendingByte, pendingHigh, Finished, Refused};
 use crate::Answer;
 use crate::Outcome;
 use crate::Pending;
@@ -17,6 +20,7 @@ pub fn has_pending(pending: Pending) -> bool
     match pending {
         Pending::Nothing => false,
         Pending::Byte(_) => true,
+        Pending::High(_) => true,
     }
 }
 
@@ -26,6 +30,17 @@ pub fn pending_byte(pending: Pending) -> u8
     match pending {
         Pending::Nothing => 0,
         Pending::Byte(byte) => byte,
+        Pending::High(_) => 0,
+    }
+}
+
+pub fn pending_high(pending: Pending) -> u16
+    ensures { λ r. ⌜ r ≡ pendingHigh pending ⌝ }
+{
+    match pending {
+        Pending::Nothing => 0,
+        Pending::Byte(_) => 0,
+        Pending::High(unit) => unit,
     }
 }
 
@@ -35,23 +50,58 @@ fn pending_count(pending: Pending) -> usize
     match pending {
         Pending::Nothing => 0,
         Pending::Byte(_) => 1,
+        Pending::High(_) => 1,
     }
 }
 
-// What is pending after a decoding call.
-pub fn pending_after(pending: Pending, s: Progress, piece: &[u8]) -> Pending
-    ensures { λ r. ⌜ r ≡ pendingAfter pending (now (piece .entry)) (s .answer) (s .used) ⌝ }
+// The final byte of a decoding call: the piece's or, where it is empty, the one that was pending.
+fn final_byte(pending: Pending, piece: &[u8]) -> Pending
+    ensures { λ r. ⌜ r ≡ finalUnit Decoding pending (now (piece .entry)) ⌝ }
 {
-    if s.answer == 1 {
-        if piece.len() == 0 {
-            return pending;
-        }
-        return Pending::Byte(piece[piece.len() - 1]);
+    if piece.len() == 0 {
+        return pending;
     }
+    Pending::Byte(piece[piece.len() - 1])
+}
+
+// The same of an encoding call.
+fn final_unit(pending: Pending, piece: &[u16]) -> Pending
+    ensures { λ r. ⌜ r ≡ finalUnit Encoding pending (now (piece .entry)) ⌝ }
+{
+    if piece.len() == 0 {
+        return pending;
+    }
+    Pending::High(piece[piece.len() - 1])
+}
+
+// What was pending stays so until a code with it is taken.
+fn kept_pending(pending: Pending, s: Progress) -> Pending
+    ensures { λ r. ⌜ r ≡ pick (eqb (s .used) 0) pending Pending.Nothing ⌝ }
+{
     if s.used == 0 {
         return pending;
     }
     Pending::Nothing
+}
+
+// What is pending after a decoding call: the final byte where it waits.
+pub fn pending_after_bytes(pending: Pending, s: Progress, piece: &[u8]) -> Pending
+    ensures { λ r. ⌜ r ≡ pendingAfter Decoding pending (now (piece .entry)) (s .answer) (s .used) ⌝ }
+{
+    if s.answer == 1 {
+        return final_byte(pending, piece);
+    }
+    kept_pending(pending, s)
+}
+
+// What is pending after an encoding call: the final unit where it waits.
+pub fn pending_after_units(pending: Pending, s: Progress, piece: &[u16]) -> Pending
+    ensures { λ r. ⌜ r ≡ pendingAfter Encoding pending (now (piece .entry)) (s .answer) (s .used) ⌝ }
+{
+    if s.answer == 1 {
+        return final_unit(pending, piece);
+    }
+    kept_pending(pending, s)
 }
 
 fn read_of(pending: Pending, count: usize, s: Progress) -> usize
@@ -86,7 +136,7 @@ fn answer_of(answer: u8) -> Answer
 {
     match answer {
         0 => Answer::AllRead,
-        1 => Answer::LeadPending,
+        1 => Answer::UnitPending,
         2 => Answer::OutputFull,
         _ => Answer::Stopped,
     }

@@ -18,10 +18,13 @@ use engine::policies;
 use loops::decoder;
 use loops::encoder;
 
-// The lead byte that was read at the end of a piece (document 01: the carried byte), or none.
+// What was read at the end of a piece and waits for what follows (documents 01 and 02: what is carried), or none.
 pub enum Pending {
     Nothing,
+    // A lead byte, in a decoding run.
     Byte(u8),
+    // A high surrogate, in an encoding run.
+    High(u16),
 }
 
 // A run.
@@ -46,8 +49,8 @@ pub enum Started {
 pub enum Answer {
     // 0: all read, nothing pending, not stopped.
     AllRead,
-    // 1: all read, a lead byte is pending.
-    LeadPending,
+    // 1: all read, a lead byte or a high surrogate is pending.
+    UnitPending,
     // 2: the next code does not fit.
     OutputFull,
     // 3: stopped by policy digit 0.
@@ -83,7 +86,7 @@ impl Answer {
     {
         match self {
             Answer::AllRead => 0,
-            Answer::LeadPending => 1,
+            Answer::UnitPending => 1,
             Answer::OutputFull => 2,
             Answer::Stopped => 3,
             Answer::BadShape => 10,
@@ -174,7 +177,7 @@ pub fn decode(
         last,
         out,
     );
-    let next = finish::pending_after(pending, progress, piece);
+    let next = finish::pending_after_bytes(pending, progress, piece);
     finish::accepted(run, progress, next, piece.len(), last)
 }
 
@@ -219,6 +222,20 @@ pub fn encode(
     }
     let policy = run.policy;
     let default = default_of_bytes(numbers);
-    let progress = encoder::encode_loop(policy, default, index, blocks, piece, last, out);
-    finish::accepted(run, progress, Pending::Nothing, piece.len(), last)
+    let pending = run.pending;
+    let waits = finish::has_pending(pending);
+    let high = finish::pending_high(pending);
+    let progress = encoder::encode_loop(
+        policy,
+        default,
+        index,
+        blocks,
+        waits,
+        high,
+        piece,
+        last,
+        out,
+    );
+    let next = finish::pending_after_units(pending, progress, piece);
+    finish::accepted(run, progress, next, piece.len(), last)
 }

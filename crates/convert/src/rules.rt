@@ -1,14 +1,18 @@
-// The run rules, and the refusals of a run call. (Document 01, "The run and its saved line" and "One call of a run".)
+// The run rules, and the refusals of a run call. (Document 01, "The run and its saved line" and "One call of a run", as amended by
+// CR 5.)
 ghost use mathlib.Core.Path.{_≡_};
 ghost use mathlib.Core.Bool.{true, not, _&&_, _||_};
-ghost use Prim.Native.Nat.{ℕ, _≤_};
+ghost use Prim.Native.Nat.{ℕ, _*_, _≤_};
 ghost use lib.Dec.{ltb};
 ghost use lib.ListN.{length};
 ghost use Rattle.codepage.specs.CodePage.{codePage, entry, isLead, firstFault, isGood};
-ghost use Rattle.convert.specs.Runs.{isDecoding, mostWritten, ifPending, validRun};
+ghost use Rattle.codepage.specs.Reading.{isHigh};
+ghost use Rattle.convert.specs.Runs.{isDecoding, isEncoding, mostWritten, pendingAllowed, validRun};
 ghost use Rattle.convert.specs.Calls.{sameDirection, leadIn, refusal};
+ghost use Rattle.convert.specs.Steps.{pendingAgrees};
 use crate::Pending;
 use crate::Run;
+use crate::finish;
 use codepage::Numbers;
 use engine::Direction;
 
@@ -57,32 +61,48 @@ fn end_agrees(flags: u8, ended: bool) -> bool
     ended
 }
 
-fn may_wait(direction: Direction, ended: bool, written: u64, read: u64) -> bool
-    ensures { λ r. ⌜ r ≡ (isDecoding direction && (not ended && ltb written read)) ⌝ }
+// Whether what is pending, if anything, is of the run's direction: a byte in decoding, a high surrogate in encoding.
+fn pending_agrees(pending: Pending, direction: Direction) -> bool
+    ensures { λ r. ⌜ r ≡ pendingAgrees pending direction ⌝ }
 {
-    if !is_decoding(direction) {
-        return false;
+    match pending {
+        Pending::Nothing => true,
+        Pending::Byte(_) => is_decoding(direction),
+        Pending::High(unit) => high_agrees(unit, direction),
     }
-    if ended {
-        return false;
-    }
-    written < read
 }
 
-// A pending byte only if decoding, not ended, written below read.
-fn pending_agrees(
+fn high_agrees(unit: u16, direction: Direction) -> bool
+    ensures { λ r. ⌜ r ≡ (isEncoding direction && isHigh unit) ⌝ }
+{
+    if is_decoding(direction) {
+        return false;
+    }
+    lookup::is_high(unit)
+}
+
+// Whether what is pending, if anything, is allowed: it is of the run's direction, the run is not ended, and what it may write is
+// within what was read.
+fn pending_allowed(
     pending: Pending,
     direction: Direction,
     ended: bool,
     written: u64,
     read: u64,
 ) -> bool
-    ensures { λ r. ⌜ r ≡ ifPending pending (isDecoding direction && (not ended && ltb written read)) ⌝ }
+    requires { ⌜ (read ≤ 4294967295) × (written ≤ 2 * read) ⌝ }
+    ensures { λ r. ⌜ r ≡ pendingAllowed pending direction ended written read ⌝ }
 {
-    match pending {
-        Pending::Nothing => true,
-        Pending::Byte(_) => may_wait(direction, ended, written, read),
+    if !finish::has_pending(pending) {
+        return true;
     }
+    if !pending_agrees(pending, direction) {
+        return false;
+    }
+    if ended {
+        return false;
+    }
+    written + most_written(direction, 1) <= most_written(direction, read)
 }
 
 // Whether a run keeps the run rules.
@@ -110,10 +130,10 @@ pub fn valid_run(run: Run) -> bool
     if !end_agrees(run.flags, run.ended) {
         return false;
     }
-    pending_agrees(pending, direction, run.ended, run.written, run.read)
+    pending_allowed(pending, direction, run.ended, run.written, run.read)
 }
 
-// Whether what is pending, if anything, is a lead byte here.
+// Whether a pending byte is a lead byte here; of a pending unit nothing is asked.
 fn pending_is_lead(pending: Pending, classes: &[u8]) -> bool
     requires { ⌜ length (now classes) ≡ 256 ⌝ }
     ensures { λ r. ⌜ r ≡ leadIn (now (classes .entry)) pending ⌝ }
@@ -121,6 +141,7 @@ fn pending_is_lead(pending: Pending, classes: &[u8]) -> bool
     match pending {
         Pending::Nothing => true,
         Pending::Byte(byte) => lookup::is_lead(classes, byte),
+        Pending::High(_) => true,
     }
 }
 

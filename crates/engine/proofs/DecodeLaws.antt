@@ -1,16 +1,15 @@
 -- A code of decoding, as the loop meets it.
 use mathlib.Core.Bool.{Bool, true, false}
 use mathlib.Core.List.{List, [], _∷_}
-use mathlib.Core.Path.{_≡_, sym, ap, _∙_}
+use mathlib.Core.Path.{_≡_, ap, _∙_}
 use Prim.Native.Nat.{ℕ, zero, suc, _+_, _*_, _<_, _≤_}
 use native.Mathlib.Omega.{arith}
 use lib.ListN.{length, set}
 use borrow.Author.Tests.{eq-eqb, ne-eqb}
 use Rattle.codepage.specs.CodePage.{entry, isLead, leadsBelow}
-use Rattle.codepage.specs.Reading.{byteAlone, unitOf, Reader, decoder, settled}
+use Rattle.codepage.specs.Reading.{byteAlone, unitOf, decoder, settled}
 use Rattle.codepage.specs.declared.Lookup.{Lookup}
 use Rattle.codepage.proofs.ShapeLaws.{block-there}
-use Rattle.codepage.proofs.ReadingLaws.{settled-first, more-le}
 use Rattle.lookup.specs.declared.SettledCode.{SettledCode}
 use Rattle.lookup.specs.Profile.{SettledAs}
 use Rattle.engine.specs.declared.Policy.{Policy}
@@ -18,6 +17,7 @@ use Rattle.engine.specs.declared.policies.CodeEffect.{CodeEffect}
 use Rattle.engine.specs.declared.progress.Progress.{Progress}
 use Rattle.engine.specs.Engine.{effectOf, converter}
 use Rattle.engine.specs.Steps.{unitEffect, stoppedBy, fullAt, takenBy, Took, DecodeSizes, doesAlone, doesSettled}
+use Rattle.engine.proofs.SettledLaws.{settled-does}
 use Rattle.engine.proofs.LoopLaws.{took-stop, took-lacks, took-none, took-writes}
 
 -- ---- the four ways of a code
@@ -45,6 +45,9 @@ lead-there [] byte e = let z : _≡_ {A = ℕ} 0 1 = cc in omega arith
 lead-there (c ∷ classes) zero e = omega arith
 lead-there (c ∷ classes) (suc byte) e = omega (arith, lead-there classes byte e)
 
+pub lead-below : (classes : List ℕ) (byte : ℕ) → length classes ≡ 256 → isLead (entry classes byte) ≡ true → byte < 256
+lead-below classes byte h e = omega (arith, lead-there classes byte e)
+
 -- a lead's block is there
 pub pair-room : (classes singles pairs : List ℕ) (lead : ℕ) → DecodeSizes classes singles pairs → isLead (entry classes lead) ≡ true → 256 * leadsBelow classes lead + 256 ≤ length pairs
 pair-room classes singles pairs lead h e = omega (arith, block-there classes lead (lead-there classes lead e) e, h .all-pairs)
@@ -67,16 +70,7 @@ unfolding converter decoder
 decoder-lead classes singles pairs policy default byte e = e
 
 -- ---- a lead that waits, settled by the byte after it
-pub settled-more : (r : Reader) (c b : ℕ) {k : SettledCode} → SettledAs (settled r c b) k → k .more ≤ 1
-settled-more r c b a = omega (arith, a .more, more-le r c b)
-
-module _ (classes singles pairs : List ℕ) (policy : Policy) (default lead byte : ℕ) {k : SettledCode} (a : SettledAs (settled (decoder classes singles pairs) lead byte) k) where
-  pub decoded-settled : (d : CodeEffect) → unitEffect d ≡ effectOf unitOf policy default lead (k .means) → unitEffect d ≡ doesSettled (converter (decoder classes singles pairs) policy default) lead byte
-  unfolding converter decoder
-  decoded-settled d q =
-      q ∙ ap (effectOf unitOf policy default lead) (a .means)
-      ∙ ap (λ (first : ℕ). effectOf unitOf policy default first (settled (decoder classes singles pairs) lead byte .means)) (sym (settled-first (decoder classes singles pairs) lead byte))
-
-  pub decoder-more : k .more ≡ length (settled (converter (decoder classes singles pairs) policy default .reader) lead byte .more)
-  unfolding converter
-  decoder-more = a .more
+pub decoded-settled : (classes singles pairs : List ℕ) (policy : Policy) (default lead byte : ℕ) {k : SettledCode} → SettledAs (settled (decoder classes singles pairs) lead byte) k → (d : CodeEffect)
+    → unitEffect d ≡ effectOf unitOf policy default lead (k .means) → unitEffect d ≡ doesSettled (converter (decoder classes singles pairs) policy default) lead byte
+unfolding decoder
+decoded-settled classes singles pairs policy default lead byte a d q = settled-does (decoder classes singles pairs) policy default lead byte a q

@@ -1,4 +1,4 @@
--- Encoding uses the first digit only.
+-- Encoding uses the first and the third digit only.
 use mathlib.Core.Bool.{Bool, true, false}
 use mathlib.Core.List.{List, [], _∷_}
 use mathlib.Core.Option.{Option, none, some}
@@ -7,8 +7,8 @@ use Prim.Native.Nat.{ℕ}
 use lib.Dec.{eqb}
 use lib.ListN.{length}
 use Rattle.codepage.specs.CodePage.{CodePage, pick, entry}
-use Rattle.codepage.specs.Reading.{lookup, unitCode, bytesOf, encoder, Reader, Code}
-use Rattle.codepage.specs.declared.Kind.the-variants.{UndefinedSingle}
+use Rattle.codepage.specs.Reading.{lookup, isSurrogate, unitCode, unitAlone, bytesOf, encoder, Reader, Code}
+use Rattle.codepage.specs.declared.Kind.the-variants.{UndefinedSingle, Invalid}
 use Rattle.codepage.specs.declared.Lookup.{Lookup}
 use Rattle.codepage.specs.declared.Lookup.the-variants.{Found, Lacking}
 use Rattle.codepage.proofs.ReadingLaws.{by-units}
@@ -55,24 +55,32 @@ module _ (r : Reader) (d e : Code → Effect) (same : SameDoes r d e) (last : Bo
             ∙ take-alike room 1 _ _ (λ (x : Room). feedFrom v last x none (b ∷ l)) (λ (x : Room). feedFrom w last x none (b ∷ l)) (same .one c) h ∙ sym (feed-alone w last room c b l q);
       })
 
--- what an undefined single does is said by the first digit
-first-digit : (policy other : Policy) (default first value : ℕ) → policy .single ≡ other .single
-    → effectOf bytesOf policy default first (lookup UndefinedSingle value) ≡ effectOf bytesOf other default first (lookup UndefinedSingle value)
-unfolding effectOf lookup
-first-digit policy other default first value e = by-value (eqb value 0xFFFF)
-  where
-    by-value : (t : Bool) → effectOf bytesOf policy default first (pick t (Lacking UndefinedSingle) (Found value)) ≡ effectOf bytesOf other default first (pick t (Lacking UndefinedSingle) (Found value))
-    by-value true = ap (λ (digit : ℕ). acted 1 (actionOf digit default first)) e
-    by-value false = refl
+-- what a unit alone does is said by the first digit, or for a surrogate by the third
+module _ (policy other : Policy) (default unit : ℕ) (e₁ : policy .single ≡ other .single) (e₃ : policy .invalid ≡ other .invalid) where
+  found-digits : (value : ℕ) → effectOf bytesOf policy default unit (lookup UndefinedSingle value) ≡ effectOf bytesOf other default unit (lookup UndefinedSingle value)
+  unfolding effectOf lookup
+  found-digits value = by-value (eqb value 0xFFFF)
+    where
+      by-value : (t : Bool) → effectOf bytesOf policy default unit (pick t (Lacking UndefinedSingle) (Found value)) ≡ effectOf bytesOf other default unit (pick t (Lacking UndefinedSingle) (Found value))
+      by-value true = ap (λ (digit : ℕ). acted 1 (actionOf digit default unit)) e₁
+      by-value false = refl
 
--- ENCODING USES THE FIRST DIGIT ONLY: two policies with the same first digit give the same, in every call.
-pub first-digit-only : (p : CodePage) (policy other : Policy) → policy .single ≡ other .single → (last : Bool) (room : Room) (pending : Option ℕ) (piece : List ℕ)
+  unit-digits : (index blocks : List ℕ) → effectOf bytesOf policy default unit (unitAlone index blocks unit) ≡ effectOf bytesOf other default unit (unitAlone index blocks unit)
+  unfolding effectOf unitAlone unitCode
+  unit-digits index blocks = by-unit (isSurrogate unit)
+    where
+      by-unit : (t : Bool) → effectOf bytesOf policy default unit (pick t (Lacking Invalid) (unitCode index blocks unit)) ≡ effectOf bytesOf other default unit (pick t (Lacking Invalid) (unitCode index blocks unit))
+      by-unit true = ap (λ (digit : ℕ). acted 4 (actionOf digit default unit)) e₃
+      by-unit false = found-digits _
+
+-- ENCODING DOES NOT USE THE SECOND DIGIT: two policies with the same first and third digit give the same, in every call.
+pub no-second-digit : (p : CodePage) (policy other : Policy) → policy .single ≡ other .single → policy .invalid ≡ other .invalid → (last : Bool) (room : Room) (pending : Option ℕ) (piece : List ℕ)
     → feedFrom (converterOf Encoding p policy) last room pending piece ≡ feedFrom (converterOf Encoding p other) last room pending piece
-unfolding converter encoder unitCode
-first-digit-only p policy other e last room pending piece =
+unfolding converter encoder effectOf
+no-second-digit p policy other e₁ e₃ last room pending piece =
     fed-alike (encoder (p .index) (p .blocks)) _ _
     (record {
-      one = λ a. first-digit policy other (p .defaultByte) a _ e;
-      two = λ a b. first-digit policy other (p .defaultByte) a _ e;
+      one = λ a. unit-digits policy other (p .defaultByte) a e₁ e₃ (p .index) (p .blocks);
+      two = λ a b. ap (λ (digit : ℕ). acted 1 (actionOf digit (p .defaultByte) a)) e₁;
     })
     last pending piece room

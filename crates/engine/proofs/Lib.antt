@@ -2,6 +2,7 @@ pub mod EffectLaws
 pub mod EngineLaws
 pub mod LoopLaws
 pub mod TurnLaws
+pub mod SettledLaws
 pub mod DecodeLaws
 pub mod EncodeLaws
 pub mod CountLaws

@@ -109,5 +109,5 @@ oneIf false = 0
 abbrev pub decodeFed : (classes singles pairs : List ℕ) → Policy → (default : ℕ) → (last : Bool) → (room : ℕ) → Option ℕ → List ℕ → Fed
 decodeFed classes singles pairs policy default last room pending piece = feedFrom (converter (decoder classes singles pairs) policy default) last (limit room) pending piece
 
-abbrev pub encodeFed : (index blocks : List ℕ) → Policy → (default : ℕ) → (last : Bool) → (room : ℕ) → List ℕ → Fed
-encodeFed index blocks policy default last room piece = feedFrom (converter (encoder index blocks) policy default) last (limit room) none piece
+abbrev pub encodeFed : (index blocks : List ℕ) → Policy → (default : ℕ) → (last : Bool) → (room : ℕ) → Option ℕ → List ℕ → Fed
+encodeFed index blocks policy default last room pending piece = feedFrom (converter (encoder index blocks) policy default) last (limit room) pending piece

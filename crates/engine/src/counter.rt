@@ -115,6 +115,8 @@ pub fn count_encoded(
     requires { ⌜ ((high : ℕ) → 256 * entry (now index) high + 256 ≤ length (now blocks)) ⌝ }
     ensures { λ r. ⌜ r ≡ summary (feedFrom (converter (encoder (now (index .entry)) (now (blocks .entry))) policy default) true endless none (now (text .entry))) ⌝ }
 {
+    let mut waits = false;
+    let mut first: u16 = 0;
     let mut s = Progress {
         answer: 0,
         used: 0,
@@ -123,13 +125,35 @@ pub fn count_encoded(
     };
     let mut i = 0;
     while i < text.len() {
-        let code = lookup::unit_code(index, blocks, text[i]);
-        let d = policies::encoded(policy, default, code);
-        s = count_code(d, 1, bytes_written(d), s);
-        if s.answer != 0 {
-            return s;
+        let unit = text[i];
+        if waits {
+            let code = lookup::settle_high(unit);
+            let means = code.means;
+            let d = policies::encoded(policy, default, means);
+            s = count_code(d, 1 + code.more, bytes_written(d), s);
+            if s.answer != 0 {
+                return s;
+            }
+            waits = false;
+            i += code.more;
+        } else if lookup::is_high(unit) {
+            waits = true;
+            first = unit;
+            i += 1;
+        } else {
+            let code = lookup::unit_alone(index, blocks, unit);
+            let d = policies::encoded(policy, default, code);
+            s = count_code(d, 1, bytes_written(d), s);
+            if s.answer != 0 {
+                return s;
+            }
+            i += 1;
         }
-        i += 1;
+    }
+    if waits {
+        let code = lookup::unit_alone(index, blocks, first);
+        let d = policies::encoded(policy, default, code);
+        return count_code(d, 1, bytes_written(d), s);
     }
     s
 }

@@ -83,22 +83,22 @@ pub fn take_units(d: CodeEffect, size: usize, s: Progress, out: &mut [u16]) -> P
     taken(d, size, s, 1)
 }
 
-// Takes a unit in encoding: stops, writes its bytes if all fit, or skips it.
-pub fn take_bytes(d: CodeEffect, s: Progress, out: &mut [u8]) -> Progress
-    requires { ⌜ (s .written ≤ length (now out)) × (s .used + 1 < 2 ^ 64) ⌝ }
-    ensures { λ r. ⌜ Took (byteEffect d) 1 s (now (out .entry)) r (now (out .exit)) ⌝ }
+// Takes a code of `size` units in encoding: stops, writes its bytes if all fit, or skips it.
+pub fn take_bytes(d: CodeEffect, size: usize, s: Progress, out: &mut [u8]) -> Progress
+    requires { ⌜ (s .written ≤ length (now out)) × (s .used + size < 2 ^ 64) ⌝ }
+    ensures { λ r. ⌜ Took (byteEffect d) size s (now (out .entry)) r (now (out .exit)) ⌝ }
 {
     let at = s.written;
     if d.stops {
-        return stopped(d, 1, s);
+        return stopped(d, size, s);
     }
     if d.count == 0 {
-        return taken(d, 1, s, 0);
+        return taken(d, size, s, 0);
     }
     if d.count == 1 {
         if at < out.len() {
             out[at] = (d.value % 256) as u8;
-            return taken(d, 1, s, 1);
+            return taken(d, size, s, 1);
         }
         return full(s);
     }
@@ -107,5 +107,5 @@ pub fn take_bytes(d: CodeEffect, s: Progress, out: &mut [u8]) -> Progress
     }
     out[at] = (d.value / 256) as u8;
     out[at + 1] = (d.value % 256) as u8;
-    taken(d, 1, s, 2)
+    taken(d, size, s, 2)
 }

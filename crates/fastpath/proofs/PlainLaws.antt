@@ -7,13 +7,14 @@ use Prim.Native.Nat.{ℕ, zero, suc, _+_, _-_, _*_, _/_, _%_, _<_, _≤_}
 use native.Mathlib.Numerals.{add-one}
 use native.Mathlib.Omega.{arith}
 use lib.Dec.{leb}
-use lib.ListN.{length, getD, take, drop, set, length-set, take-append-drop}
+use lib.ListN.{length, getD, take, drop, set, length-set, take-append-drop, List·getD-eq-default}
 use lib.Seq.{take-suc, take-suc-set, drop-set-lt, drop-drop, take-length}
 use lib.Bits.{bitOr, or-zero-l, or-add-and, and-le-l, and-le-r}
 use borrow.Author.Tests.{le-leb, leb-true, leb-false}
 use Rattle.codepage.specs.CodePage.{entry, isLead}
-use Rattle.codepage.specs.Reading.{Reader, byteAlone, bytesOf, unitCode, decoder, encoder}
+use Rattle.codepage.specs.Reading.{Reader, byteAlone, bytesOf, unitAlone, decoder, encoder}
 use Rattle.codepage.specs.declared.Lookup.the-variants.{Found}
+use Rattle.codepage.proofs.ReadingLaws.{found-no-wait}
 use Rattle.engine.specs.declared.Policy.{Policy}
 use Rattle.codepage.specs.Lent.{over}
 use Rattle.engine.specs.Engine.{Effect, effectOf, Converter, converter, Room, limit, fits, less, Fed, halt, after, takeCode, feedFrom}
@@ -37,6 +38,14 @@ largest-more xs i m m′ all h e k b = by-place (leb (suc k) i) refl
         let f = leb-false (suc k) i q in
         let at : k ≡ i = omega (arith, f, b) in
         rw at e
+
+-- behind the end there is nothing larger
+pub bound-all : (xs : List ℕ) (m : ℕ) → ((k : ℕ) → k < length xs → entry xs k ≤ m) → (k : ℕ) → entry xs k ≤ m
+bound-all xs m all k = by-place (leb (suc k) (length xs)) refl
+  where
+    by-place : (t : Bool) → leb (suc k) (length xs) ≡ t → entry xs k ≤ m
+    by-place true q = all k (omega (arith, leb-true (suc k) (length xs) q))
+    by-place false q = omega (arith, List·getD-eq-default xs 0 {n = k} (omega (arith, leb-false (suc k) (length xs) q)))
 
 pub all-below : (bound m : ℕ) (xs : List ℕ) → ((k : ℕ) → k < length xs → entry xs k ≤ m) → m < bound → AllBelow bound xs
 all-below bound m xs all h k b = omega (arith, all k b)
@@ -95,9 +104,9 @@ pub plain-byte : (classes singles pairs : List ℕ) (byte : ℕ) → isLead (ent
 unfolding decoder
 plain-byte classes singles pairs byte e q = (e, q, refl)
 
-pub plain-unit : (index blocks : List ℕ) (unit : ℕ) → unit < 0x80 → unitCode index blocks unit ≡ Found unit → Same (encoder index blocks) unit
+pub plain-unit : (index blocks : List ℕ) (unit : ℕ) → unit < 0x80 → unitAlone index blocks unit ≡ Found unit → Same (encoder index blocks) unit
 unfolding encoder bytesOf
-plain-unit index blocks unit h q = (refl, q, rw (le-leb unit 0xFF (omega arith)))
+plain-unit index blocks unit h q = (found-no-wait index blocks unit unit q, q, rw (le-leb unit 0xFF (omega arith)))
 
 pub plain-taken : (R : Reader) (piece out out′ : List ℕ) → length piece ≤ length out → ((k : ℕ) → k < length piece → Same R (entry piece k)) → Copied piece out out′ (length piece)
     → Plain R piece out true out′

@@ -12,7 +12,7 @@ use lib.Seq.{sets, length-sets, set-comm, set-getD}
 use lib.Bits.{bitOr, or-zero-r}
 use borrow.Author.Tests.{le-leb, lt-leb, leb-true, leb-false, eqb-true, eqb-false, eq-eqb, ne-eqb}
 use Rattle.codepage.specs.CodePage.{pick, entry, isSingle, isLead}
-use Rattle.codepage.specs.Reading.{Reader, Code, together, settled, lookup, byteAlone, bytePair, unitCode, bytesOf, decoder, encoder}
+use Rattle.codepage.specs.Reading.{Reader, Code, together, settled, lookup, byteAlone, bytePair, unitAlone, bytesOf, decoder, encoder}
 use Rattle.codepage.specs.declared.Lookup.the-variants.{Found}
 use Rattle.engine.specs.declared.Policy.{Policy}
 use Rattle.engine.specs.declared.progress.Progress.{Progress}
@@ -23,7 +23,7 @@ use Rattle.fastpath.specs.Runs.{Ran, SinglesTaken}
 use Rattle.lookup.proofs.ProfileLaws.{single-no-lead}
 use Rattle.engine.proofs.LoopLaws.{later, took-fits}
 use Rattle.engine.proofs.TurnLaws.{one-step, settled-step, wait-step}
-use Rattle.codepage.proofs.ReadingLaws.{pair-joins}
+use Rattle.codepage.proofs.ReadingLaws.{pair-joins, found-no-wait}
 
 -- a code that has a character: it writes ys
 abbrev written : List ℕ → Effect
@@ -163,13 +163,13 @@ module _ (classes singles pairs : List ℕ) {piece out : List ℕ} {i w : ℕ} {
   ran-pair h e q = ran-two r unit h e (pair-joins classes pairs _ _ unit q) q (omega arith)
 
 -- ---- a unit of encoding
-module _ (index blocks : List ℕ) {piece out : List ℕ} {i w : ℕ} {out₁ : List ℕ} {i₁ w₁ : ℕ} (r : Ran (encoder index blocks) piece out i w out₁ i₁ w₁) (code : ℕ) (h : i₁ < length piece) (q : unitCode index blocks (getD piece i₁ 0) ≡ Found code) where
+module _ (index blocks : List ℕ) {piece out : List ℕ} {i w : ℕ} {out₁ : List ℕ} {i₁ w₁ : ℕ} (r : Ran (encoder index blocks) piece out i w out₁ i₁ w₁) (code : ℕ) (h : i₁ < length piece) (q : unitAlone index blocks (getD piece i₁ 0) ≡ Found code) where
   pub ran-byte : code ≤ 0xFF → w₁ < length out₁ → Ran (encoder index blocks) piece out i w (set out₁ w₁ code) (i₁ + 1) (w₁ + 1)
   unfolding encoder
   ran-byte b f =
       let one : bytesOf code ≡ code ∷ [] = one-byte code b in
       subst (λ (ys : List ℕ). Ran (encoder index blocks) piece out i w (sets out₁ w₁ ys) (i₁ + 1) (w₁ + length ys)) one
-      (ran-one r code h refl q (omega (arith, ap length one)))
+      (ran-one r code h (found-no-wait index blocks (getD piece i₁ 0) code q) q (omega (arith, ap length one)))
 
   pub ran-unit : (one two count : ℕ) → one ≡ pick (leb code 0xFF) code (code / 256) → two ≡ pick (leb code 0xFF) (getD out₁ (w₁ + 1) 0) (code % 256) → count ≡ length (bytesOf code) → w₁ + 2 ≤ length out₁
       → Ran (encoder index blocks) piece out i w (set (set out₁ w₁ one) (w₁ + 1) two) (i₁ + 1) (w₁ + count)
@@ -177,7 +177,7 @@ module _ (index blocks : List ℕ) {piece out : List ℕ} {i w : ℕ} {out₁ : 
   ran-unit one two count e₁ e₂ e₃ f =
       rw (e₁, e₂, e₃)
       (subst (λ (l : List ℕ). Ran (encoder index blocks) piece out i w l (i₁ + 1) (w₁ + length (bytesOf code))) (code-laid out₁ w₁ code)
-      (ran-one r code h refl q (omega (arith, two-bytes code))))
+      (ran-one r code h (found-no-wait index blocks (getD piece i₁ 0) code q) q (omega (arith, two-bytes code))))
 
 -- ---- singles
 pub single-found : (classes singles : List ℕ) (byte : ℕ) → isSingle (entry classes byte) ≡ true → (entry singles byte ≡ 0xFFFF → ⊥) → byteAlone classes singles byte ≡ Found (entry singles byte)

@@ -56,16 +56,17 @@ fn bytes_below_80(piece: &[u8]) -> bool
     largest_byte(piece) < 0x80
 }
 
-// Whether every unit is below 80. The first of many are looked at first.
-fn units_below_80(piece: &[u16]) -> bool
-    ensures { λ r. ⌜ (r ≡ true → AllBelow 0x80 (now (piece .entry))) ⌝ }
+// A number that no unit is over; the largest of all where it is not worth finding out. The first of many units are looked at
+// first: text that is not plain mostly shows it there.
+pub fn bound_of_units(piece: &[u16]) -> u16
+    ensures { λ r. ⌜ ((k : ℕ) → entry (now (piece .entry)) k ≤ r) ⌝ }
 {
     if 256 < piece.len() {
         if 0x80 <= largest_unit(&piece[..64]) {
-            return false;
+            return 0xFFFF;
         }
     }
-    largest_unit(piece) < 0x80
+    largest_unit(piece)
 }
 
 // Copies 64 bytes.
@@ -160,16 +161,17 @@ pub fn decode_plain(classes: &[u8], singles: &[u16], piece: &[u8], out: &mut [u1
     true
 }
 
-// Encodes a piece of plain units whole, if it is one and fits.
-pub fn encode_plain(index: &[u8], blocks: &[u16], piece: &[u16], out: &mut [u8]) -> bool
+// Encodes a piece of plain units whole, if it is one and fits. No unit is over `bound`.
+pub fn encode_plain(bound: u16, index: &[u8], blocks: &[u16], piece: &[u16], out: &mut [u8]) -> bool
     requires { ⌜ length (now index) ≡ 256 ⌝ }
     requires { ⌜ ((high : ℕ) → 256 * entry (now index) high + 256 ≤ length (now blocks)) ⌝ }
+    requires { ⌜ ((k : ℕ) → entry (now piece) k ≤ bound) ⌝ }
     ensures { λ r. ⌜ Plain (encoder (now (index .entry)) (now (blocks .entry))) (now (piece .entry)) (now (out .entry)) r (now (out .exit)) ⌝ }
 {
     if out.len() < piece.len() {
         return false;
     }
-    if !units_below_80(piece) {
+    if 0x80 <= bound {
         return false;
     }
     if !lookup::profile::plain_units(index, blocks) {

@@ -1,10 +1,11 @@
 // Runs of codes that have characters: as many as come one after the other and fit, in loops that ask little of each.
 ghost use mathlib.Core.Path.{_≡_};
+ghost use mathlib.Core.Bool.{true};
 ghost use Prim.Native.Nat.{ℕ, _+_, _*_, _/_, _%_, _≤_, _<_};
 ghost use lib.Dec.{leb};
 ghost use lib.ListN.{length};
 ghost use Rattle.codepage.specs.CodePage.{pick, entry};
-ghost use Rattle.lookup.specs.Profile.{LeadsAt};
+ghost use Rattle.lookup.specs.Profile.{LeadsAt, NoCodes};
 ghost use Rattle.codepage.specs.Reading.{bytesOf, decoder, encoder};
 ghost use Rattle.engine.specs.Steps.{DecodeSizes};
 ghost use Rattle.fastpath.specs.Runs.{Ran, SinglesTaken};
@@ -149,6 +150,7 @@ fn run_of_bytes(
     requires { ⌜ length (now index) ≡ 256 ⌝ }
     requires { ⌜ ((high : ℕ) → 256 * entry (now index) high + 256 ≤ length (now blocks)) ⌝ }
     requires { ⌜ (from ≤ length (now piece)) × (at ≤ length (now out)) ⌝ }
+    requires { ⌜ NoCodes (now index) (now blocks) (now piece) ⌝ }
     ensures { λ r. ⌜ Ran (encoder (now (index .entry)) (now (blocks .entry))) (now (piece .entry)) (now (out .entry)) from at (now (out .exit)) (from + r) (at + r) ⌝ }
 {
     let n = smaller(piece.len() - from, out.len() - at);
@@ -207,6 +209,7 @@ fn run_of_units(
     requires { ⌜ length (now index) ≡ 256 ⌝ }
     requires { ⌜ ((high : ℕ) → 256 * entry (now index) high + 256 ≤ length (now blocks)) ⌝ }
     requires { ⌜ (from ≤ length (now piece)) × (at ≤ length (now out)) ⌝ }
+    requires { ⌜ NoCodes (now index) (now blocks) (now piece) ⌝ }
     ensures { λ r. ⌜ Ran (encoder (now (index .entry)) (now (blocks .entry))) (now (piece .entry)) (now (out .entry)) from at (now (out .exit)) (r .read) (r .written) ⌝ }
 {
     let n = smaller(piece.len() - from, (out.len() - at) / 2);
@@ -232,8 +235,9 @@ fn run_of_units(
     }
 }
 
-// Units that have codes: first those of one byte, which ask less.
+// Units that have codes: first those of one byte, which ask less. None are taken where codes may not be asked.
 pub fn run_of_coded(
+    asked: bool,
     index: &[u8],
     blocks: &[u16],
     piece: &[u16],
@@ -244,8 +248,15 @@ pub fn run_of_coded(
     requires { ⌜ length (now index) ≡ 256 ⌝ }
     requires { ⌜ ((high : ℕ) → 256 * entry (now index) high + 256 ≤ length (now blocks)) ⌝ }
     requires { ⌜ (from ≤ length (now piece)) × (at ≤ length (now out)) ⌝ }
+    requires { ⌜ (asked ≡ true → NoCodes (now index) (now blocks) (now piece)) ⌝ }
     ensures { λ r. ⌜ Ran (encoder (now (index .entry)) (now (blocks .entry))) (now (piece .entry)) (now (out .entry)) from at (now (out .exit)) (r .read) (r .written) ⌝ }
 {
+    if !asked {
+        return Place {
+            read: from,
+            written: at,
+        };
+    }
     let count = run_of_bytes(index, blocks, piece, from, at, out);
     run_of_units(index, blocks, piece, from + count, at + count, out)
 }

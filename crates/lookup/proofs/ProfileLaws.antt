@@ -1,23 +1,24 @@
 -- Laws of looking up, and of a page's profile.
 use mathlib.Core.Bool.{Bool, true, false, not, _||_, true≢false}
 use mathlib.Core.List.{List}
-use mathlib.Core.Path.{_≡_, refl, sym, ap, _∙_}
+use mathlib.Core.Path.{_≡_, refl, sym, ap, _∙_, subst}
 use Prim.Native.Nat.{ℕ, _+_, _*_, _/_, _%_, _-_, _<_, _≤_}
 use native.Mathlib.Nat.{zero-add}
 use native.Mathlib.Omega.{arith}
 use lib.Bits.{bitAnd, bitOr, bitXor, and-le-l, and-le-r, or-add-and, xor-add-and}
 use lib.Dec.{leb, ltb, eqb}
 use lib.ListN.{length, List·getD-eq-default}
-use borrow.Author.Tests.{le-leb, lt-leb, ltb-true, ltb-false, eq-eqb, ne-eqb, eqb-true}
+use borrow.Author.Tests.{le-leb, lt-leb, leb-true, leb-false, ltb-true, ltb-false, eq-eqb, ne-eqb, eqb-true}
 use Rattle.codepage.specs.CodePage.{entry, isSingle, isLead, isTrail, leadsBelow}
 use Rattle.codepage.specs.Marks.{NoLowLead}
-use Rattle.lookup.specs.Profile.{HalfOf, LeadsAt, SettledAs}
-use Rattle.codepage.specs.Reading.{lookup, byteAlone, byteJoins, bytePair, unitCode, decoder, settled}
+use Rattle.lookup.specs.Profile.{HalfOf, LeadsAt, SettledAs, unitEntry, NoCodes}
+use Rattle.codepage.specs.Reading.{lookup, byteAlone, byteJoins, bytePair, isHigh, isLow, isSurrogate, unitCode, unitAlone, decoder, encoder, settled}
 use Rattle.codepage.specs.declared.Kind.{Kind}
-use Rattle.codepage.specs.declared.Kind.the-variants.{UndefinedPair, Invalid}
+use Rattle.codepage.specs.declared.Kind.the-variants.{UndefinedSingle, UndefinedPair, Invalid}
 use Rattle.codepage.specs.declared.Lookup.{Lookup}
 use Rattle.codepage.specs.declared.Lookup.the-variants.{Found, Lacking}
 use Rattle.lookup.specs.declared.profile.Half.{Half}
+use Rattle.codepage.proofs.ReadingLaws.{high-alone, alone-looked-up, below-surrogates, from-surrogates}
 use Rattle.codepage.proofs.MarkLaws.{allBelow, all-below, or-else, below-steps, below-same, none-low}
 
 -- ---- bits: a mark that is 0
@@ -71,6 +72,16 @@ module _ (classes singles pairs : List ℕ) (lead byte : ℕ) where
       let single : isSingle (entry classes lead) ≡ false = lead-no-single (entry classes lead) (isSingle (entry classes lead)) refl l in
       record { means = rw (e, lt-leb 0x80 byte h, single); more = rw (e, lt-leb 0x80 byte h) }
 
+-- ---- a high surrogate, settled by the unit after it
+module _ (index blocks : List ℕ) (high unit : ℕ) where
+  pub settled-pair : isLow unit ≡ true → SettledAs (settled (encoder index blocks) high unit) (record { means = Lacking UndefinedSingle; more = 1 })
+  unfolding settled encoder
+  settled-pair e = record { means = rw e; more = rw e }
+
+  pub settled-alone : isHigh high ≡ true → isLow unit ≡ false → SettledAs (settled (encoder index blocks) high unit) (record { means = Lacking Invalid; more = 0 })
+  unfolding settled encoder
+  settled-alone h e = record { means = rw e (sym (high-alone index blocks high h)); more = rw e }
+
 -- ---- entries that are a character
 pub found-entry : (kind : Kind) (value : ℕ) → (value ≡ 0xFFFF → ⊥) → lookup kind value ≡ Found value
 unfolding lookup
@@ -82,12 +93,70 @@ plain-byte classes singles byte h e q =
     let at : entry singles byte ≡ byte = rw (zero-add byte) at q in
     rw (e, at) (found-entry _ byte (λ z. omega arith))
 
-pub plain-unit : (index blocks : List ℕ) (unit : ℕ) → unit < 0x80 → entry blocks (256 * entry index 0 + unit) ≡ unit → unitCode index blocks unit ≡ Found unit
+pub plain-unit : (index blocks : List ℕ) (unit : ℕ) → unit < 0x80 → entry blocks (256 * entry index 0 + unit) ≡ unit → unitAlone index blocks unit ≡ Found unit
 unfolding unitCode
 plain-unit index blocks unit h q =
     let high : unit / 256 ≡ 0 = omega arith in
     let low : unit % 256 ≡ unit = omega arith in
-    rw (high, low, q) (found-entry _ unit (λ z. omega arith))
+    alone-looked-up index blocks unit (below-surrogates unit (omega arith)) ∙ rw (high, low, q) (found-entry _ unit (λ z. omega arith))
+
+-- a unit alone, by its entry
+pub alone-invalid : (index blocks : List ℕ) (unit : ℕ) → isSurrogate unit ≡ true → unitAlone index blocks unit ≡ Lacking Invalid
+unfolding unitAlone
+alone-invalid index blocks unit e = rw e
+
+pub alone-entry : (index blocks : List ℕ) (unit value : ℕ) (found : Lookup) → isSurrogate unit ≡ false → value ≡ unitEntry index blocks unit → found ≡ lookup UndefinedSingle value
+    → found ≡ unitAlone index blocks unit
+unfolding unitAlone unitCode
+alone-entry index blocks unit value found e q f = rw e (f ∙ ap (lookup UndefinedSingle) q)
+
+pub code-found : (index blocks : List ℕ) (unit value : ℕ) → (isSurrogate unit ≡ true → unitEntry index blocks unit ≡ 0xFFFF) → value ≡ unitEntry index blocks unit → (value ≡ 0xFFFF → ⊥)
+    → unitAlone index blocks unit ≡ Found value
+code-found index blocks unit value none q n =
+    sym (alone-entry index blocks unit value (lookup UndefinedSingle value) (by-unit (isSurrogate unit) refl) q refl) ∙ found-entry UndefinedSingle value n
+  where
+    by-unit : (t : Bool) → isSurrogate unit ≡ t → t ≡ false
+    by-unit true e = absurd (n (q ∙ none e))
+    by-unit false e = refl
+
+-- ---- entries that are none
+pub and-none : (a b : ℕ) → a < 65536 → b < 65536 → bitAnd a b ≡ 0xFFFF → (a ≡ 0xFFFF) × (b ≡ 0xFFFF)
+and-none a b h k e = (omega (arith, and-le-l a b), omega (arith, and-le-r a b))
+
+-- a surrogate's high half is D8 to DF
+pub surrogate-half : (unit : ℕ) → isSurrogate unit ≡ true → (0xD8 ≤ unit / 256) × (unit / 256 ≤ 0xDF)
+surrogate-half unit e = by-low (leb 0xD800 unit) refl
+  where
+    by-low : (t : Bool) → leb 0xD800 unit ≡ t → (0xD8 ≤ unit / 256) × (unit / 256 ≤ 0xDF)
+    by-low true q =
+        let from : 0xD800 ≤ unit = leb-true 0xD800 unit q in
+        let to : unit ≤ 0xDFFF = leb-true unit 0xDFFF (sym (from-surrogates unit from) ∙ e) in
+        (omega arith, omega arith)
+    by-low false q = absurd (true≢false (sym e ∙ below-surrogates unit (leb-false 0xD800 unit q)))
+
+-- the entries of a block are all none
+abbrev pub Empty : (blocks : List ℕ) (block : ℕ) → Type 0
+Empty blocks block = (k : ℕ) → k < 256 → entry blocks (256 * block + k) ≡ 0xFFFF
+
+pub empties-more : (index blocks : List ℕ) (from half : ℕ) → ((h : ℕ) → from ≤ h → h < half → Empty blocks (entry index h)) → Empty blocks (entry index half)
+    → (h : ℕ) → from ≤ h → h < half + 1 → Empty blocks (entry index h)
+empties-more index blocks from half all this h a b = by-place (ltb h half) refl
+  where
+    by-place : (t : Bool) → ltb h half ≡ t → Empty blocks (entry index h)
+    by-place true q = all h a (ltb-true h half q)
+    by-place false q =
+        let at : h ≡ half = omega (arith, ltb-false h half q) in
+        subst (λ (x : ℕ). Empty blocks (entry index x)) (sym at) this
+
+-- the blocks of these halves have no code
+pub halves-clear : (index blocks : List ℕ) → ((half : ℕ) → 0xD8 ≤ half → half ≤ 0xDF → Empty blocks (entry index half)) → (piece : List ℕ) → NoCodes index blocks piece
+halves-clear index blocks clear piece k e =
+    let half = surrogate-half (entry piece k) e in
+    clear (entry piece k / 256) (half .0) (half .1) (entry piece k % 256) (omega arith)
+
+-- a piece below D800 has no surrogate
+pub below-clear : (index blocks piece : List ℕ) → ((k : ℕ) → entry piece k < 0xD800) → NoCodes index blocks piece
+below-clear index blocks piece small k e = absurd (true≢false (sym e ∙ below-surrogates (entry piece k) (small k)))
 
 never : (t : Bool) → (t ≡ true → ⊥) → t ≡ false
 never true n = absurd (n refl)

@@ -5,7 +5,7 @@ use mathlib.Core.Path.{_≡_}
 use Prim.Native.Nat.{ℕ, _+_, _*_, _/_, _%_, _<_, _≤_}
 use lib.ListN.{length}
 use Rattle.codepage.specs.CodePage.{entry, isLead, leadsBelow}
-use Rattle.codepage.specs.Reading.{Code}
+use Rattle.codepage.specs.Reading.{isSurrogate, Code}
 use Rattle.lookup.specs.declared.SettledCode.{SettledCode}
 use Rattle.lookup.specs.declared.profile.Leads.{Leads}
 use Rattle.lookup.specs.declared.profile.Half.{Half}
@@ -29,3 +29,7 @@ pub record SettledAs (k : Code) (r : SettledCode) : Type 0 where
 -- the entry of a unit: in the block of its high half at its low half
 abbrev pub unitEntry : (index blocks : List ℕ) → ℕ → ℕ
 unitEntry index blocks unit = entry blocks (256 * entry index (unit / 256) + unit % 256)
+
+-- no surrogate of a piece has an entry that is a code
+abbrev pub NoCodes : (index blocks piece : List ℕ) → Type 0
+NoCodes index blocks piece = (k : ℕ) → isSurrogate (entry piece k) ≡ true → unitEntry index blocks (entry piece k) ≡ 0xFFFF

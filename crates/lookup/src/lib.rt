@@ -9,7 +9,7 @@ ghost use mathlib.Core.List.{List};
 ghost use Prim.Native.Nat.{ℕ, _+_, _*_, _≤_};
 ghost use lib.ListN.{length};
 ghost use Rattle.codepage.specs.CodePage.{entry, isLead, leadsBelow};
-ghost use Rattle.codepage.specs.Reading.{lookup, byteAlone, bytePair, unitCode, decoder, settled};
+ghost use Rattle.codepage.specs.Reading.{lookup, byteAlone, bytePair, isHigh, isLow, isSurrogate, unitAlone, decoder, encoder, settled};
 ghost use Rattle.lookup.specs.Profile.{LeadsAt, SettledAs, unitEntry};
 use codepage::Kind;
 use codepage::Lookup;
@@ -110,11 +110,41 @@ pub fn pair_unit(classes: &[u8], pairs: &[u16], leads: Leads, lead: u8, byte: u8
     0xFFFF
 }
 
-// The code of a unit, or FFFF where it has none.
-pub fn code_of(index: &[u8], blocks: &[u16], unit: u16) -> u16
+// Whether a unit is a high surrogate.
+pub fn is_high(unit: u16) -> bool
+    ensures { λ r. ⌜ r ≡ isHigh unit ⌝ }
+{
+    if unit < 0xD800 {
+        return false;
+    }
+    unit <= 0xDBFF
+}
+
+// Whether a unit is a low surrogate.
+fn is_low(unit: u16) -> bool
+    ensures { λ r. ⌜ r ≡ isLow unit ⌝ }
+{
+    if unit < 0xDC00 {
+        return false;
+    }
+    unit <= 0xDFFF
+}
+
+// Whether a unit is a surrogate.
+fn is_surrogate(unit: u16) -> bool
+    ensures { λ r. ⌜ r ≡ isSurrogate unit ⌝ }
+{
+    if unit < 0xD800 {
+        return false;
+    }
+    unit <= 0xDFFF
+}
+
+// The entry of a unit: in the block of its high half at its low half.
+fn unit_entry(index: &[u8], blocks: &[u16], unit: u16) -> u16
     requires { ⌜ length (now index) ≡ 256 ⌝ }
     requires { ⌜ ((high : ℕ) → 256 * entry (now index) high + 256 ≤ length (now blocks)) ⌝ }
-    ensures { λ r. ⌜ (r ≡ unitEntry (now (index .entry)) (now (blocks .entry)) unit) × ((r ≡ 0xFFFF → ⊥) → unitCode (now (index .entry)) (now (blocks .entry)) unit ≡ Lookup.Found r) ⌝ }
+    ensures { λ r. ⌜ r ≡ unitEntry (now (index .entry)) (now (blocks .entry)) unit ⌝ }
 {
     let high = (unit / 256) as usize;
     let low = (unit % 256) as usize;
@@ -122,11 +152,36 @@ pub fn code_of(index: &[u8], blocks: &[u16], unit: u16) -> u16
     blocks[256 * block + low]
 }
 
-// A unit's code.
-pub fn unit_code(index: &[u8], blocks: &[u16], unit: u16) -> Lookup
+// The code of a unit, or FFFF where it has none. Asked of a surrogate only where its entry is none: see `profile`.
+pub fn code_of(index: &[u8], blocks: &[u16], unit: u16) -> u16
     requires { ⌜ length (now index) ≡ 256 ⌝ }
     requires { ⌜ ((high : ℕ) → 256 * entry (now index) high + 256 ≤ length (now blocks)) ⌝ }
-    ensures { λ r. ⌜ r ≡ unitCode (now (index .entry)) (now (blocks .entry)) unit ⌝ }
+    requires { ⌜ (isSurrogate unit ≡ true → unitEntry (now index) (now blocks) unit ≡ 0xFFFF) ⌝ }
+    ensures { λ r. ⌜ ((r ≡ 0xFFFF → ⊥) → unitAlone (now (index .entry)) (now (blocks .entry)) unit ≡ Lookup.Found r) ⌝ }
 {
-    found(Kind::UndefinedSingle, code_of(index, blocks, unit))
+    unit_entry(index, blocks, unit)
+}
+
+// A unit alone.
+pub fn unit_alone(index: &[u8], blocks: &[u16], unit: u16) -> Lookup
+    requires { ⌜ length (now index) ≡ 256 ⌝ }
+    requires { ⌜ ((high : ℕ) → 256 * entry (now index) high + 256 ≤ length (now blocks)) ⌝ }
+    ensures { λ r. ⌜ r ≡ unitAlone (now (index .entry)) (now (blocks .entry)) unit ⌝ }
+{
+    if is_surrogate(unit) {
+        return Lookup::Lacking(Kind::Invalid);
+    }
+    found(Kind::UndefinedSingle, unit_entry(index, blocks, unit))
+}
+
+// A high surrogate, settled by the unit after it: with a low one it is one undefined single, else it is invalid alone.
+pub fn settle_high(unit: u16) -> SettledCode
+    ensures { λ r. ⌜ ((index blocks : List ℕ) (high : ℕ) → isHigh high ≡ true → SettledAs (settled (encoder index blocks) high unit) r) ⌝ }
+{
+    if is_low(unit) {
+        let means = Lookup::Lacking(Kind::UndefinedSingle);
+        return SettledCode { means, more: 1 };
+    }
+    let means = Lookup::Lacking(Kind::Invalid);
+    SettledCode { means, more: 0 }
 }

@@ -4,9 +4,9 @@ ghost use mathlib.Core.Bool.{true, false};
 ghost use Prim.Native.Nat.{ℕ, _+_, _*_, _≤_, _<_};
 ghost use lib.ListN.{length};
 ghost use Rattle.codepage.specs.CodePage.{entry, isSingle, isLead, leadsBelow};
-ghost use Rattle.codepage.specs.Reading.{byteAlone, unitCode};
+ghost use Rattle.codepage.specs.Reading.{byteAlone, unitAlone};
 ghost use Rattle.codepage.specs.Marks.{NoLowLead};
-ghost use Rattle.lookup.specs.Profile.{HalfOf, LeadsAt};
+ghost use Rattle.lookup.specs.Profile.{HalfOf, LeadsAt, NoCodes};
 use codepage::Lookup;
 use codepage::marks;
 
@@ -83,9 +83,68 @@ pub fn plain_bytes(classes: &[u8], singles: &[u16]) -> bool
 pub fn plain_units(index: &[u8], blocks: &[u16]) -> bool
     requires { ⌜ length (now index) ≡ 256 ⌝ }
     requires { ⌜ ((high : ℕ) → 256 * entry (now index) high + 256 ≤ length (now blocks)) ⌝ }
-    ensures { λ r. ⌜ (r ≡ true → (unit : ℕ) → unit < 0x80 → unitCode (now (index .entry)) (now (blocks .entry)) unit ≡ Lookup.Found unit) ⌝ }
+    ensures { λ r. ⌜ (r ≡ true → (unit : ℕ) → unit < 0x80 → unitAlone (now (index .entry)) (now (blocks .entry)) unit ≡ Lookup.Found unit) ⌝ }
 {
     counts_up(blocks, 256 * (index[0] as usize))
+}
+
+// Whether the 256 entries of a block are all none.
+fn is_empty(blocks: &[u16], from: usize) -> bool
+    requires { ⌜ from + 256 ≤ length (now blocks) ⌝ }
+    ensures { λ r. ⌜ (r ≡ true → (k : ℕ) → k < 256 → entry (now (blocks .entry)) (from + k) ≡ 0xFFFF) ⌝ }
+{
+    let mut mark: u16 = 0xFFFF;
+    let mut i: usize = 0;
+    while i < 256 {
+        mark = mark & blocks[from + i];
+        i += 1;
+    }
+    mark == 0xFFFF
+}
+
+// Whether a block is empty, where another is known to be: they are mostly one.
+fn is_empty_too(blocks: &[u16], known: u8, block: u8) -> bool
+    requires { ⌜ 256 * block + 256 ≤ length (now blocks) ⌝ }
+    requires { ⌜ ((k : ℕ) → k < 256 → entry (now blocks) (256 * known + k) ≡ 0xFFFF) ⌝ }
+    ensures { λ r. ⌜ (r ≡ true → (k : ℕ) → k < 256 → entry (now (blocks .entry)) (256 * block + k) ≡ 0xFFFF) ⌝ }
+{
+    if block == known {
+        return true;
+    }
+    is_empty(blocks, 256 * (block as usize))
+}
+
+// Whether no surrogate has an entry that is a code: the blocks of the high halves D8 to DF are empty.
+fn no_surrogate_codes(index: &[u8], blocks: &[u16]) -> bool
+    requires { ⌜ length (now index) ≡ 256 ⌝ }
+    requires { ⌜ ((high : ℕ) → 256 * entry (now index) high + 256 ≤ length (now blocks)) ⌝ }
+    ensures { λ r. ⌜ (r ≡ true → (half : ℕ) → 0xD8 ≤ half → half ≤ 0xDF → (k : ℕ) → k < 256 → entry (now (blocks .entry)) (256 * entry (now (index .entry)) half + k) ≡ 0xFFFF) ⌝ }
+{
+    let first = index[0xD8];
+    if !is_empty(blocks, 256 * (first as usize)) {
+        return false;
+    }
+    let mut half: usize = 0xD9;
+    while half < 0xE0 {
+        if !is_empty_too(blocks, first, index[half]) {
+            return false;
+        }
+        half += 1;
+    }
+    true
+}
+
+// Whether `code_of` may be asked of every unit of a piece, whose units are not over `bound`.
+pub fn codes_asked(bound: u16, index: &[u8], blocks: &[u16], piece: &[u16]) -> bool
+    requires { ⌜ length (now index) ≡ 256 ⌝ }
+    requires { ⌜ ((high : ℕ) → 256 * entry (now index) high + 256 ≤ length (now blocks)) ⌝ }
+    requires { ⌜ ((k : ℕ) → entry (now piece) k ≤ bound) ⌝ }
+    ensures { λ r. ⌜ (r ≡ true → NoCodes (now (index .entry)) (now (blocks .entry)) (now (piece .entry))) ⌝ }
+{
+    if bound < 0xD800 {
+        return true;
+    }
+    no_surrogate_codes(index, blocks)
 }
 
 fn first_mark(class: u8, place: u8) -> u8

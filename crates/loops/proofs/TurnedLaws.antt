@@ -23,7 +23,7 @@ use Rattle.engine.proofs.LoopLaws.{later}
 use Rattle.engine.proofs.TurnLaws.{one-step, settled-step, wait-step, no-more}
 use Rattle.fastpath.specs.Runs.{Ran}
 use Rattle.loops.specs.declared.turns.Turn.{Turn}
-use Rattle.loops.specs.Turns.{startTurn, movedTurn, pastTurn, waitTurn, stepsLeft, Ready, restOf, Turned, Advanced, Closed}
+use Rattle.loops.specs.Turns.{startTurn, movedTurn, pastTurn, waitTurn, leftWaiting, stepsLeft, Ready, restOf, Turned, Advanced, Closed}
 
 pub took-as : {k k′ : Effect} {n : ℕ} {s : Progress} {out : List ℕ} {r : Progress} {out′ : List ℕ} → k ≡ k′ → Took k n s out r out′ → Took k′ n s out r out′
 took-as {n = n} {s = s} {out = out} {r = r} {out′ = out′} e w = subst (λ (x : Effect). Took x n s out r out′) e w
@@ -32,13 +32,13 @@ took-as {n = n} {s = s} {out = out} {r = r} {out′ = out′} e w = subst (λ (x
 pub past-falls : (piece : List ℕ) (t : Turn) {r : Turn} {s : Progress} → r ≡ pastTurn t 1 s → t .at < length piece → stepsLeft piece r < stepsLeft piece t
 past-falls piece t {r} q h = subst (λ (x : Turn). stepsLeft piece x < stepsLeft piece t) (sym q) (omega arith)
 
-pub wait-falls : (piece : List ℕ) (t : Turn) {r : Turn} {lead : ℕ} → r ≡ waitTurn t lead → t .at < length piece → stepsLeft piece r < stepsLeft piece t
+pub wait-falls : (piece : List ℕ) (t : Turn) {r : Turn} {first : ℕ} → r ≡ waitTurn t first → t .at < length piece → stepsLeft piece r < stepsLeft piece t
 wait-falls piece t {r} q h = subst (λ (x : Turn). stepsLeft piece x < stepsLeft piece t) (sym q) (omega arith)
 
 -- ---- one turn
 module _ {v : Converter} {piece out : List ℕ} {t : Turn} where
   -- nothing was done
-  pub turned-none : t .progress .answer ≡ 0 → t .progress .written ≤ length out → (t .waits ≡ true → v .reader .waits (t .lead) ≡ true) → Turned v piece out t out t
+  pub turned-none : t .progress .answer ≡ 0 → t .progress .written ≤ length out → (t .waits ≡ true → v .reader .waits (t .first) ≡ true) → Turned v piece out t out t
   turned-none z h w =
       record {
         same = refl;
@@ -65,7 +65,7 @@ module _ {v : Converter} {piece out : List ℕ} {t : Turn} where
         left = omega arith;
         ready = λ y g. record { going = z; inside = omega arith; within = f; few = omega (arith, g .few) };
         waiting = λ y. w;
-        goes = λ y last. ap (sofar (t .progress) out) (wait-step v last piece (t .at) h (t .waits) (t .lead) e w (limit (length out - t .progress .written)));
+        goes = λ y last. ap (sofar (t .progress) out) (wait-step v last piece (t .at) h (t .waits) (t .first) e w (limit (length out - t .progress .written)));
         ends = λ y. absurd (y z);
       }
 
@@ -76,7 +76,7 @@ module _ {v : Converter} {piece out : List ℕ} {t : Turn} where
   -- a code of n units is taken that ends m units on, or ends the call
   turned-took : {k : Effect} {s : Progress} {out′ : List ℕ} (n m : ℕ) → Took k n (t .progress) out s out′ → t .at + m ≤ length piece → n ≤ m + oneIf (t .waits)
       → ((last : Bool) (room : Room)
-      → feedFrom v last room (optional (t .waits) (t .lead)) (drop (t .at) piece) ≡ takeCode room n k (feedFrom v last (less room (length (k .writes))) none (drop (t .at + m) piece)))
+      → feedFrom v last room (optional (t .waits) (t .first)) (drop (t .at) piece) ≡ takeCode room n k (feedFrom v last (less room (length (k .writes))) none (drop (t .at + m) piece)))
       → Turned v piece out t out′ (pastTurn t m s)
   unfolding restOf less
   turned-took {k} {s} {out′} n m w h fit step =
@@ -99,16 +99,16 @@ module _ {v : Converter} {piece out : List ℕ} {t : Turn} where
     pub turned-one : Took k 1 (t .progress) out s out′ → t .waits ≡ false → t .at < length piece → v .reader .waits (getD piece (t .at) 0) ≡ false → k ≡ doesAlone v (getD piece (t .at) 0)
         → r ≡ pastTurn t 1 s → Turned v piece out t out′ r
     turned-one u e h w q m =
-        subst (Turned v piece out t out′) (sym m) (turned-took 1 1 u (omega arith) (omega arith) (λ last. one-step v last piece (t .at) k h (t .waits) (t .lead) e w q))
+        subst (Turned v piece out t out′) (sym m) (turned-took 1 1 u (omega arith) (omega arith) (λ last. one-step v last piece (t .at) k h (t .waits) (t .first) e w q))
 
     -- the unit that waits is settled by the next
-    pub settled-turn : {m : ℕ} → Took k (1 + m) (t .progress) out s out′ → t .waits ≡ true → t .at < length piece → k ≡ doesSettled v (t .lead) (getD piece (t .at) 0)
-        → m ≡ length (settled (v .reader) (t .lead) (getD piece (t .at) 0) .more) → r ≡ pastTurn t m s → Advanced v piece out t out′ r
+    pub settled-turn : {m : ℕ} → Took k (1 + m) (t .progress) out s out′ → t .waits ≡ true → t .at < length piece → k ≡ doesSettled v (t .first) (getD piece (t .at) 0)
+        → m ≡ length (settled (v .reader) (t .first) (getD piece (t .at) 0) .more) → r ≡ pastTurn t m s → Advanced v piece out t out′ r
     settled-turn {m} u e h q n p =
-        let little : m ≤ 1 = omega (arith, n, more-le (v .reader) (t .lead) (getD piece (t .at) 0)) in
+        let little : m ≤ 1 = omega (arith, n, more-le (v .reader) (t .first) (getD piece (t .at) 0)) in
         record {
           turned = subst (Turned v piece out t out′) (sym p)
-              (turned-took (1 + m) m u (omega arith) (omega (arith, ap oneIf e)) (λ last. settled-step v last piece (t .at) k h (t .waits) (t .lead) m e q n));
+              (turned-took (1 + m) m u (omega arith) (omega (arith, ap oneIf e)) (λ last. settled-step v last piece (t .at) k h (t .waits) (t .first) m e q n));
           falls = subst (λ (x : Turn). stepsLeft piece x < stepsLeft piece t) (sym p) (omega (arith, ap oneIf e));
         }
 
@@ -117,7 +117,7 @@ pub turned-ran : (policy : Policy) (default : ℕ) {R : Reader} {piece out : Lis
     → Turned (converter R policy default) piece out t out′ (movedTurn t i w)
 unfolding restOf
 turned-ran policy default {R} {piece} {out} {t} {out′} {i} {w} e a =
-    let from : Bool → Bool → Fed = λ last waits. sofar (t .progress) out (feedFrom (converter R policy default) last (limit (length out - t .progress .written)) (optional waits (t .lead)) (drop (t .at) piece)) in
+    let from : Bool → Bool → Fed = λ last waits. sofar (t .progress) out (feedFrom (converter R policy default) last (limit (length out - t .progress .written)) (optional waits (t .first)) (drop (t .at) piece)) in
     record {
       same = a .same;
       within = a .within;
@@ -146,6 +146,14 @@ turned-then {out = out} {out₁ = out₁} {m = m} {r = r} a z b =
       ends = λ y last. a .goes z last ∙ b .ends y last;
     }
 
+-- a turn that comes nearer to the end, and then codes that have characters
+pub advanced-ran : {R : Reader} (policy : Policy) (default : ℕ) {piece out : List ℕ} {t : Turn} {out₁ : List ℕ} {m : Turn} {out₂ : List ℕ} {i w : ℕ} {r : Turn}
+    → Advanced (converter R policy default) piece out t out₁ m → m .progress .answer ≡ 0 → m .waits ≡ false → Ran R piece out₁ (m .at) (m .progress .written) out₂ i w → r ≡ movedTurn m i w
+    → Advanced (converter R policy default) piece out t out₂ r
+advanced-ran {R} policy default {piece} {out₁ = out₁} {m = m} {out₂ = out₂} a z e b q =
+    let then = subst (Turned (converter R policy default) piece out₁ m out₂) (sym q) (turned-ran policy default e b) in
+    record { turned = turned-then (a .turned) z then; falls = omega (arith, a .falls, then .left) }
+
 -- codes that have characters, and what follows them
 module _ {R : Reader} {piece out : List ℕ} {t : Turn} {out₁ : List ℕ} {i w : ℕ} {m : Turn} where
   pub ran-ready : Ready piece out t → t .waits ≡ false → Ran R piece out (t .at) (t .progress .written) out₁ i w → m ≡ movedTurn t i w → Ready piece out₁ m × (m .waits ≡ false)
@@ -173,6 +181,9 @@ module _ {R : Reader} {piece out : List ℕ} {t : Turn} {out₁ : List ℕ} {i w
       nearer false x y z = omega (arith, ltb-false (m .at) (length piece) x, ap (λ (x : Turn). oneIf (x .waits)) q)
 
 -- ---- the end of a piece
+pub closed-as : {v : Converter} {last : Bool} {out : List ℕ} {t : Turn} {out′ : List ℕ} {r r′ : Progress} → r ≡ r′ → Closed v last out t out′ r′ → Closed v last out t out′ r
+closed-as {v} {last} {out} {t} {out′} e h = subst (Closed v last out t out′) (sym e) h
+
 nothing-more : (r : Progress) (out : List ℕ) → r .answer ≡ 0 → sofar r out (halt 0) ≡ ended r out
 unfolding sofar halt after ended
 nothing-more r out z = rw (z, append-nil, add-zero, or-zero-r)
@@ -188,11 +199,11 @@ module _ {v : Converter} {last : Bool} {out : List ℕ} {t : Turn} where
         within = h;
         grows = omega arith;
         kept = refl;
-        gives = ap (λ (b : Bool). sofar s out (feedFrom v last (limit room) (optional b (t .lead)) [])) e ∙ rw (feed-end v last (limit room), z, append-nil, add-zero, or-zero-r);
+        gives = ap (λ (b : Bool). sofar s out (feedFrom v last (limit room) (optional b (t .first)) [])) e ∙ rw (feed-end v last (limit room), z, append-nil, add-zero, or-zero-r);
       }
 
   pub closed-wait : t .progress .written ≤ length out → t .waits ≡ true → last ≡ false
-      → Closed v last out t out (record { answer = 1; used = t .progress .used; written = t .progress .written; flags = t .progress .flags })
+      → Closed v last out t out (leftWaiting (t .progress))
   unfolding restOf halt sofar after ended
   closed-wait h e l =
       let room = length out - t .progress .written in
@@ -202,10 +213,10 @@ module _ {v : Converter} {last : Bool} {out : List ℕ} {t : Turn} where
         within = h;
         grows = omega arith;
         kept = refl;
-        gives = ap (λ (b : Bool). sofar s out (feedFrom v last (limit room) (optional b (t .lead)) [])) e ∙ rw (l, feed-stays v (limit room) (t .lead), append-nil, add-zero, or-zero-r);
+        gives = ap (λ (b : Bool). sofar s out (feedFrom v last (limit room) (optional b (t .first)) [])) e ∙ rw (l, feed-stays v (limit room) (t .first), append-nil, add-zero, or-zero-r);
       }
 
-  pub closed-last : {k : Effect} {r : Progress} {out′ : List ℕ} → Took k 1 (t .progress) out r out′ → t .waits ≡ true → last ≡ true → k ≡ doesAlone v (t .lead) → Closed v last out t out′ r
+  pub closed-last : {k : Effect} {r : Progress} {out′ : List ℕ} → Took k 1 (t .progress) out r out′ → t .waits ≡ true → last ≡ true → k ≡ doesAlone v (t .first) → Closed v last out t out′ r
   unfolding restOf
   closed-last {k} {r} {out′} w e l q =
       let room = length out - t .progress .written in
@@ -216,9 +227,9 @@ module _ {v : Converter} {last : Bool} {out : List ℕ} {t : Turn} where
         grows = w .grows;
         kept = w .kept;
         gives =
-            ap (λ (b : Bool). sofar s out (feedFrom v last (limit room) (optional b (t .lead)) [])) e
-            ∙ ap (λ (b : Bool). sofar s out (feedFrom v b (limit room) (some (t .lead)) [])) l
-            ∙ ap (sofar s out) (feed-last v (limit room) (t .lead) ∙ ap (λ (x : Effect). takeCode (limit room) 1 x (halt 0)) (sym q)) ∙ either (r .answer) refl;
+            ap (λ (b : Bool). sofar s out (feedFrom v last (limit room) (optional b (t .first)) [])) e
+            ∙ ap (λ (b : Bool). sofar s out (feedFrom v b (limit room) (some (t .first)) [])) l
+            ∙ ap (sofar s out) (feed-last v (limit room) (t .first) ∙ ap (λ (x : Effect). takeCode (limit room) 1 x (halt 0)) (sym q)) ∙ either (r .answer) refl;
       }
     where
       either : (n : ℕ) → r .answer ≡ n → sofar (t .progress) out (takeCode (limit (length out - t .progress .written)) 1 k (halt 0)) ≡ ended r out′
@@ -229,7 +240,7 @@ module _ {v : Converter} {last : Bool} {out : List ℕ} {t : Turn} where
 -- F is what the whole call gives, and t and out what it has come to.
 pub record Loop (v : Converter) (last : Bool) (F : Fed) (out₀ piece out : List ℕ) (t : Turn) : Type 0 where
   pub ready : Ready piece out t
-  pub waiting : t .waits ≡ true → v .reader .waits (t .lead) ≡ true
+  pub waiting : t .waits ≡ true → v .reader .waits (t .first) ≡ true
   pub sum : F ≡ restOf v last out t (drop (t .at) piece)
   pub same : length out ≡ length out₀
   pub kept : drop (t .progress .written) out ≡ drop (t .progress .written) out₀
@@ -238,16 +249,16 @@ one-at-most : (b : Bool) → oneIf b ≤ 1
 one-at-most true = omega arith
 one-at-most false = omega arith
 
-pub loop-start : (v : Converter) (last waits : Bool) (lead : ℕ) (piece out : List ℕ) {t : Turn} → (waits ≡ true → v .reader .waits lead ≡ true) → t ≡ startTurn waits lead
-    → Loop v last (feedFrom v last (limit (length out)) (optional waits lead) piece) out piece out t
+pub loop-start : (v : Converter) (last waits : Bool) (first : ℕ) (piece out : List ℕ) {t : Turn} → (waits ≡ true → v .reader .waits first ≡ true) → t ≡ startTurn waits first
+    → Loop v last (feedFrom v last (limit (length out)) (optional waits first) piece) out piece out t
 unfolding restOf sofar
-loop-start v last waits lead piece out w q =
+loop-start v last waits first piece out w q =
     let whole : length out ≡ length out - 0 = omega arith in
-    subst (Loop v last (feedFrom v last (limit (length out)) (optional waits lead) piece) out piece out) (sym q)
+    subst (Loop v last (feedFrom v last (limit (length out)) (optional waits first) piece) out piece out) (sym q)
     (record {
       ready = record { going = refl; inside = omega arith; within = omega arith; few = omega (arith, one-at-most waits) };
       waiting = w;
-      sum = sym (after-none _ ∙ ap (λ (n : ℕ). feedFrom v last (limit n) (optional waits lead) piece) (sym whole));
+      sum = sym (after-none _ ∙ ap (λ (n : ℕ). feedFrom v last (limit n) (optional waits first) piece) (sym whole));
       same = refl;
       kept = refl;
     })
@@ -288,10 +299,10 @@ pub ends-from : (v : Converter) (last : Bool) (p : Option ℕ) (piece : List ℕ
     → Ends (feedFrom v last (limit (length out₀)) p piece) out₀ out r
 ends-from v last p piece {out = out} {r = r} e h = subst (λ (l : List ℕ). Ends (feedFrom v last (limit (length l)) p piece) l out r) e h
 
-pub ends-none : (v : Converter) (last waits : Bool) (lead : ℕ) (room : Room) (piece : List ℕ) {out₀ out : List ℕ} {r : Progress} → waits ≡ false → Ends (feedFrom v last room none piece) out₀ out r
-    → Ends (feedFrom v last room (optional waits lead) piece) out₀ out r
-ends-none v last waits lead room piece {out₀} {out} {r} e h =
-    subst (λ (b : Bool). Ends (feedFrom v last room (optional b lead) piece) out₀ out r) (sym e) h
+pub ends-none : (v : Converter) (last waits : Bool) (first : ℕ) (room : Room) (piece : List ℕ) {out₀ out : List ℕ} {r : Progress} → waits ≡ false → Ends (feedFrom v last room none piece) out₀ out r
+    → Ends (feedFrom v last room (optional waits first) piece) out₀ out r
+ends-none v last waits first room piece {out₀} {out} {r} e h =
+    subst (λ (b : Bool). Ends (feedFrom v last room (optional b first) piece) out₀ out r) (sym e) h
 
 pub ends-both : {F : Fed} {out₀ out : List ℕ} {r : Progress} → Ends F out₀ out r → (r ≡ summary F) × (out ≡ over out₀ (F .output))
 ends-both h = (h .result, h .laid)

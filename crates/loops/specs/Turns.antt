@@ -11,20 +11,24 @@ use Rattle.loops.specs.declared.turns.Turn.{Turn}
 
 -- ---- where a turn comes to
 
-abbrev pub startTurn : (waits : Bool) → (lead : ℕ) → Turn
-startTurn waits lead = record { progress = record { answer = 0; used = 0; written = 0; flags = 0 }; at = 0; waits = waits; lead = lead }
+abbrev pub startTurn : (waits : Bool) → (first : ℕ) → Turn
+startTurn waits first = record { progress = record { answer = 0; used = 0; written = 0; flags = 0 }; at = 0; waits = waits; first = first }
 
 -- past codes that have characters, up to an index of the piece and a place of the output
 abbrev pub movedTurn : Turn → (at written : ℕ) → Turn
-movedTurn t at written = record { progress = movedTo (t .progress) (at - t .at) written; at = at; waits = false; lead = t .lead }
+movedTurn t at written = record { progress = movedTo (t .progress) (at - t .at) written; at = at; waits = false; first = t .first }
 
 -- past a code that ends some units on: none waits
 abbrev pub pastTurn : Turn → (count : ℕ) → Progress → Turn
-pastTurn t count s = record { progress = s; at = t .at + count; waits = false; lead = t .lead }
+pastTurn t count s = record { progress = s; at = t .at + count; waits = false; first = t .first }
 
 -- past one more unit, which waits
-abbrev pub waitTurn : Turn → (lead : ℕ) → Turn
-waitTurn t lead = record { progress = t .progress; at = t .at + 1; waits = true; lead = lead }
+abbrev pub waitTurn : Turn → (first : ℕ) → Turn
+waitTurn t first = record { progress = t .progress; at = t .at + 1; waits = true; first = first }
+
+-- the unit that waits is left waiting
+abbrev pub leftWaiting : Progress → Progress
+leftWaiting s = record { answer = 1; used = s .used; written = s .written; flags = s .flags }
 
 -- ---- what a turn keeps
 
@@ -40,7 +44,7 @@ pub record Ready (piece out : List ℕ) (t : Turn) : Type 0 where
 
 -- what a call gives that has come to t, with the units `rest` to come
 unfoldable pub restOf : Converter → (last : Bool) → (out : List ℕ) → Turn → (rest : List ℕ) → Fed
-restOf v last out t rest = sofar (t .progress) out (feedFrom v last (limit (length out - t .progress .written)) (optional (t .waits) (t .lead)) rest)
+restOf v last out t rest = sofar (t .progress) out (feedFrom v last (limit (length out - t .progress .written)) (optional (t .waits) (t .first)) rest)
 
 -- From t codes of a piece were taken up to r, or one ended the call there: whatever else the call has to take.
 pub record Turned (v : Converter) (piece out : List ℕ) (t : Turn) (out′ : List ℕ) (r : Turn) : Type 0 where
@@ -50,7 +54,7 @@ pub record Turned (v : Converter) (piece out : List ℕ) (t : Turn) (out′ : Li
   pub kept : drop (r .progress .written) out′ ≡ drop (r .progress .written) out
   pub left : stepsLeft piece r ≤ stepsLeft piece t
   pub ready : r .progress .answer ≡ 0 → Ready piece out t → Ready piece out′ r
-  pub waiting : r .waits ≡ true → v .reader .waits (r .lead) ≡ true
+  pub waiting : r .waits ≡ true → v .reader .waits (r .first) ≡ true
   pub goes : r .progress .answer ≡ 0 → (last : Bool) → restOf v last out t (drop (t .at) piece) ≡ restOf v last out′ r (drop (r .at) piece)
   pub ends : (r .progress .answer ≡ 0 → ⊥) → (last : Bool) → restOf v last out t (drop (t .at) piece) ≡ ended (r .progress) out′
 

@@ -111,14 +111,15 @@ fn settle(
     requires { ⌜ DecodeSizes (now classes) (now singles) (now pairs) ⌝ }
     requires { ⌜ LeadsAt (now classes) leads ⌝ }
     requires { ⌜ Ready (now piece) (now out) t × (t .at < length (now piece)) ⌝ }
-    requires { ⌜ (t .waits ≡ true) × (isLead (entry (now classes) (t .lead)) ≡ true) ⌝ }
+    requires { ⌜ (t .waits ≡ true) × (isLead (entry (now classes) (t .first)) ≡ true) ⌝ }
     ensures { λ r. ⌜ Advanced (converter (decoder (now (classes .entry)) (now (singles .entry)) (now (pairs .entry))) policy default) (now (piece .entry)) (now (out .entry)) t (now (out .exit)) r ⌝ }
 {
     let at = t.at;
     let s = t.progress;
-    let code = lookup::settle(classes, pairs, leads, t.lead, piece[at]);
+    let lead = t.first as u8;
+    let code = lookup::settle(classes, pairs, leads, lead, piece[at]);
     let means = code.means;
-    let d = policies::decoded(policy, default, t.lead, means);
+    let d = policies::decoded(policy, default, lead, means);
     let taken = progress::take_units(d, 1 + code.more, s, out);
     turns::past(t, code.more, taken)
 }
@@ -143,7 +144,7 @@ fn next_code(
     }
     let byte = piece[at];
     if lookup::is_lead(classes, byte) {
-        return turns::wait(t, byte);
+        return turns::wait(t, byte as u16);
     }
     let s = t.progress;
     let taken = take_alone(policy, default, classes, singles, byte, s, out);
@@ -189,7 +190,7 @@ fn codes_turn(
     requires { ⌜ DecodeSizes (now classes) (now singles) (now pairs) ⌝ }
     requires { ⌜ LeadsAt (now classes) leads ⌝ }
     requires { ⌜ Ready (now piece) (now out) t × (t .at < length (now piece)) ⌝ }
-    requires { ⌜ (t .waits ≡ true → isLead (entry (now classes) (t .lead)) ≡ true) ⌝ }
+    requires { ⌜ (t .waits ≡ true → isLead (entry (now classes) (t .first)) ≡ true) ⌝ }
     ensures { λ r. ⌜ Advanced (converter (decoder (now (classes .entry)) (now (singles .entry)) (now (pairs .entry))) policy default) (now (piece .entry)) (now (out .entry)) t (now (out .exit)) r ⌝ }
 {
     if t.waits {
@@ -230,6 +231,7 @@ fn at_end(
 ) -> Progress
     requires { ⌜ (length (now classes) ≡ 256) × (length (now singles) ≡ 256) ⌝ }
     requires { ⌜ (t .progress .answer ≡ 0) × (t .progress .written ≤ length (now out)) × (t .progress .used + oneIf (t .waits) < 2 ^ 64) ⌝ }
+    requires { ⌜ (t .waits ≡ true → t .first < 256) ⌝ }
     ensures { λ r. ⌜ ((pairs : List ℕ) → Closed (converter (decoder (now (classes .entry)) (now (singles .entry)) pairs) policy default) last (now (out .entry)) t (now (out .exit)) r) ⌝ }
 {
     let s = t.progress;
@@ -237,14 +239,9 @@ fn at_end(
         return s;
     }
     if last {
-        return take_alone(policy, default, classes, singles, t.lead, s, out);
+        return take_alone(policy, default, classes, singles, t.first as u8, s, out);
     }
-    Progress {
-        answer: 1,
-        used: s.used,
-        written: s.written,
-        flags: s.flags,
-    }
+    turns::left_waiting(t)
 }
 
 // Pages with lead bytes.
@@ -265,7 +262,7 @@ fn decode_codes(
     ensures { λ r. ⌜ Ends (decodeFed (now (classes .entry)) (now (singles .entry)) (now (pairs .entry)) policy default last (length (now (out .entry))) (optional pending lead) (now (piece .entry))) (now (out .entry)) (now (out .exit)) r ⌝ }
 {
     let leads = lookup::profile::leads_of(classes);
-    let mut t = turns::start(pending, lead);
+    let mut t = turns::start(pending, lead as u16);
     while t.at < piece.len() {
         t = codes_turn(
             policy,

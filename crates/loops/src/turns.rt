@@ -1,20 +1,21 @@
 // A turn of a loop: where it comes to in the piece, and how far the call is there.
 ghost use mathlib.Core.Path.{_≡_};
 ghost use Prim.Native.Nat.{ℕ, _+_, _-_, _≤_, _<_, _^_};
-ghost use Rattle.loops.specs.Turns.{startTurn, movedTurn, pastTurn, waitTurn};
+ghost use Rattle.loops.specs.Turns.{startTurn, movedTurn, pastTurn, waitTurn, leftWaiting};
 use engine::progress;
 use engine::progress::Progress;
 
-// How far the call is, the place in the piece, and the lead byte that was read and waits for the next one, if one does.
+// How far the call is, the place in the piece, and the unit that was read and waits for the next one, if one does: a lead byte or a
+// high surrogate.
 pub struct Turn {
     pub progress: Progress,
     pub at: usize,
     pub waits: bool,
-    pub lead: u8,
+    pub first: u16,
 }
 
-pub fn start(waits: bool, lead: u8) -> Turn
-    ensures { λ r. ⌜ r ≡ startTurn waits lead ⌝ }
+pub fn start(waits: bool, first: u16) -> Turn
+    ensures { λ r. ⌜ r ≡ startTurn waits first ⌝ }
 {
     let progress = Progress {
         answer: 0,
@@ -26,7 +27,7 @@ pub fn start(waits: bool, lead: u8) -> Turn
         progress,
         at: 0,
         waits,
-        lead,
+        first,
     }
 }
 
@@ -41,7 +42,7 @@ pub fn moved(t: Turn, at: usize, written: usize) -> Turn
         progress,
         at,
         waits: false,
-        lead: t.lead,
+        first: t.first,
     }
 }
 
@@ -54,20 +55,33 @@ pub fn past(t: Turn, count: usize, progress: Progress) -> Turn
         progress,
         at: t.at + count,
         waits: false,
-        lead: t.lead,
+        first: t.first,
     }
 }
 
-// One more unit of the piece was read, a lead byte, and waits.
-pub fn wait(t: Turn, lead: u8) -> Turn
+// One more unit of the piece was read, and waits.
+pub fn wait(t: Turn, first: u16) -> Turn
     requires { ⌜ t .at + 1 < 2 ^ 64 ⌝ }
-    ensures { λ r. ⌜ r ≡ waitTurn t lead ⌝ }
+    ensures { λ r. ⌜ r ≡ waitTurn t first ⌝ }
 {
     let progress = t.progress;
     Turn {
         progress,
         at: t.at + 1,
         waits: true,
-        lead,
+        first,
+    }
+}
+
+// The piece ends, not the text: the unit that waits is left waiting.
+pub fn left_waiting(t: Turn) -> Progress
+    ensures { λ r. ⌜ r ≡ leftWaiting (t .progress) ⌝ }
+{
+    let s = t.progress;
+    Progress {
+        answer: 1,
+        used: s.used,
+        written: s.written,
+        flags: s.flags,
     }
 }

@@ -309,7 +309,17 @@ pub fn encode_text(
     if number != 0 {
         return refused_conversion(number);
     }
-    let s = encoder::encode_loop(policy, numbers.default_byte, index, blocks, text, true, out);
+    let s = encoder::encode_loop(
+        policy,
+        numbers.default_byte,
+        index,
+        blocks,
+        false,
+        0,
+        text,
+        true,
+        out,
+    );
     accepted_conversion(s)
 }
 

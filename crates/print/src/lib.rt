@@ -121,12 +121,13 @@ fn put_direction(direction: Direction, out: &mut [u8], at: usize) -> usize {
     }
 }
 
-// A space, and the carried byte or `-`.
+// A space, and the carried byte or unit, or `-`.
 fn put_carried(pending: Pending, out: &mut [u8], at: usize) -> usize {
     let end = put_byte(b' ', out, at);
     match pending {
         Pending::Nothing => put_byte(b'-', out, end),
         Pending::Byte(byte) => put_hex_byte(byte, out, end),
+        Pending::High(unit) => put_hex_unit(unit, out, end),
     }
 }
 

@@ -335,8 +335,23 @@ fn all_digits(single: u8, pair: u8, invalid: u8) -> bool {
     invalid <= 9
 }
 
-// A byte in two hex digits, or `-`.
-pub fn carried_at(line: &[u8], at: usize) -> Carried {
+// How many hex digits say what a run carries: a byte in decoding, a unit in encoding.
+fn carried_digits(direction: Direction) -> usize {
+    match direction {
+        Direction::Decoding => 2,
+        Direction::Encoding => 4,
+    }
+}
+
+fn carried_of(direction: Direction, digits: &[u8]) -> Pending {
+    match direction {
+        Direction::Decoding => Pending::Byte(byte_of(digits, 0)),
+        Direction::Encoding => Pending::High(unit_of(digits, 0)),
+    }
+}
+
+// What a run of a direction carries, in its hex digits, or `-`.
+pub fn carried_at(line: &[u8], at: usize, direction: Direction) -> Carried {
     let digits = hex_at(line, at);
     let from = digits.from;
     let to = digits.to;
@@ -346,14 +361,15 @@ pub fn carried_at(line: &[u8], at: usize) -> Carried {
             next: digits.next,
         };
     }
-    if to - from != 2 {
+    if to - from != carried_digits(direction) {
         return Carried {
             value: Pending::Nothing,
             next: nowhere(line),
         };
     }
+    let value = carried_of(direction, &line[from..to]);
     Carried {
-        value: Pending::Byte(byte_of(&line[from..to], 0)),
+        value,
         next: digits.next,
     }
 }
@@ -551,16 +567,16 @@ pub fn name_at(line: &[u8], at: usize) -> Part
 // The ten words of a run.
 pub fn run_at(line: &[u8], at: usize) -> Record {
     let letter = direction_at(line, at);
+    let direction = letter.value;
     let page = number_at(line, letter.next, 65535);
     let single = number_at(line, page.next, 255);
     let pair = number_at(line, single.next, 255);
     let invalid = number_at(line, pair.next, 255);
-    let carried = carried_at(line, invalid.next);
+    let carried = carried_at(line, invalid.next, direction);
     let flags = number_at(line, carried.next, 255);
     let read = number_at(line, flags.next, u64::MAX);
     let written = number_at(line, read.next, u64::MAX);
     let ending = ending_at(line, written.next);
-    let direction = letter.value;
     let pending = carried.value;
     let policy = Policy {
         single: single.value as u8,

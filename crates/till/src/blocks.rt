@@ -1,5 +1,5 @@
 // The blocks of a job, one after the other. A block has at most 512 units of input, so 1,024 units or 2,048 bytes of room are
-// enough for what one of them gives, with a pending lead byte.
+// enough for what one of them gives, with a pending lead byte or high surrogate.
 ghost use Prim.Native.Nat.{_≤_};
 use crate::job::Job;
 use crate::report;

@@ -74,9 +74,16 @@ pub fn say_flags(flags: u8) {
     say(b"\n");
 }
 
-fn say_first_half(byte: u8) {
+fn say_lead(byte: u8) {
     say(b"the byte ");
     say_hex(byte);
+    say(b", the first half of a character");
+}
+
+fn say_high(unit: u16) {
+    say(b"the unit ");
+    say_hex((unit / 256) as u8);
+    say_hex((unit % 256) as u8);
     say(b", the first half of a character");
 }
 
@@ -84,7 +91,8 @@ fn say_pending(pending: Pending) {
     say(b"tillbox: pending: ");
     match pending {
         Pending::Nothing => say(b"nothing"),
-        Pending::Byte(byte) => say_first_half(byte),
+        Pending::Byte(byte) => say_lead(byte),
+        Pending::High(unit) => say_high(unit),
     }
     say(b"\n");
 }

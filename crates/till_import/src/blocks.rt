@@ -33,17 +33,21 @@ fn over_limit(read: usize, held: usize) -> usize {
     read + (Held::LIMIT - held)
 }
 
+// The unit before the one that is read next.
+fn unit_before(read: u64) -> u64 {
+    if read == 0 {
+        return 0;
+    }
+    read - 1
+}
+
 // The byte where a run stands: that of the pending one, if there is one.
 fn byte_of(run: Run) -> u64 {
     let pending = run.pending;
     match pending {
         Pending::Nothing => run.read,
-        Pending::Byte(_) => {
-            if run.read == 0 {
-                return 0;
-            }
-            run.read - 1
-        }
+        Pending::Byte(_) => unit_before(run.read),
+        Pending::High(_) => unit_before(run.read),
     }
 }
 

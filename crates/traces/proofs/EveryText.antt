@@ -16,7 +16,6 @@ use Rattle.engine.specs.declared.Direction.{Direction}
 use Rattle.engine.specs.declared.Direction.the-variants.{Decoding, Encoding}
 use Rattle.engine.specs.declared.Policy.{Policy}
 use Rattle.convert.specs.declared.Pending.{Pending}
-use Rattle.convert.specs.declared.Pending.the-variants.{Nothing, Byte}
 use Rattle.convert.specs.declared.Run.{Run}
 use Rattle.engine.specs.Engine.{Converter, converter, limit, Fed, feedFrom}
 use Rattle.convert.specs.Runs.{pieceLimit, readLimit, validRun, fresh}
@@ -25,7 +24,7 @@ use Rattle.engine.specs.Engine.{converterOf}
 use Rattle.engine.proofs.EngineLaws.{Waits, Shape}
 use Rattle.engine.proofs.BoundLaws.{roomy, widest, bounded-of}
 use Rattle.engine.proofs.DecodeLaws.{decoder-lead}
-use Rattle.convert.proofs.CallLaws.{Accepted, accepted-facts, valid-facts, pending-units, encoding-pending, no-pending, feed-shape}
+use Rattle.convert.proofs.CallLaws.{Accepted, accepted-facts, count-le-one, feed-shape}
 use Rattle.convert.proofs.RuleLaws.{rules-exact}
 use Rattle.convert.proofs.RefusalLaws.{accepted-of}
 use Rattle.traces.specs.Model.{Setting, Call, feeding, Model, opened, says, isAccepted, inHand, joinedBy, acceptedBy, next, play, Allowed, AllAllowed, wholeOf}
@@ -57,12 +56,8 @@ module _ (s : Setting) (h : Proper s) (good : GoodShape (s .tables)) (own : s .p
   unfolding given fedBy
   not-full =
       roomy (widest (s .direction)) (converterOf (s .direction) (s .tables) (m .run .policy)) (bounded-of (s .direction) (s .tables) (m .run .policy)) last enough (pendingUnit (m .run .pending)) piece
-      (widen (s .direction) (length (waitingUnits (pendingUnit (m .run .pending)))) (length piece) (omega (arith, pending-units (m .run .pending), one-at-most (m .run .pending))))
+      (widen (s .direction) (length (waitingUnits (pendingUnit (m .run .pending)))) (length piece) (count-le-one (m .run .pending)))
     where
-      one-at-most : (pending : Pending) → pendingCount pending ≤ 1
-      one-at-most Nothing = omega arith
-      one-at-most (Byte byte) = omega arith
-
       widen : (d : Direction) (a n : ℕ) → a ≤ 1 → widest d * (a + n) ≤ widest d * (1 + n)
       widen Decoding a n q = omega arith
       widen Encoding a n q = omega arith
@@ -117,7 +112,7 @@ module _ (s : Setting) (h : Proper s) (good : GoodShape (s .tables)) (own : s .p
   ends-or-reads = by-end (next s m call .ended) refl
     where
       reads-all : next s m call .ended ≡ false → (n : ℕ) → given .answer ≡ n → readOf (m .run .pending) (length piece) (given .answer) (given .used) ≡ length piece
-      reads-all e zero q = unfold readOf in rw (ne-eqb (given .answer) 1 (λ z. omega arith)) (omega (arith, formed .all q, length-append (waitingUnits (pendingUnit (m .run .pending))) piece, pending-units (m .run .pending)))
+      reads-all e zero q = unfold readOf in rw (ne-eqb (given .answer) 1 (λ z. omega arith)) (omega (arith, formed .all q, length-append (waitingUnits (pendingUnit (m .run .pending))) piece))
       reads-all e (suc zero) q = unfold readOf in rw (eq-eqb (given .answer) 1 q)
       reads-all e (suc (suc zero)) q = absurd (not-full q)
       reads-all e (suc (suc (suc zero))) q = absurd (true≢false (sym (ended-then ∙ unfold endedAfter in rw (eq-eqb (given .answer) 3 q)) ∙ e))

@@ -21,15 +21,15 @@ use Rattle.engine.specs.Engine.{converterOf}
 use Rattle.engine.proofs.EngineLaws.{Waits}
 use Rattle.engine.proofs.DecodeLaws.{decoder-lead}
 use Rattle.convert.specs.declared.Pending.{Pending}
-use Rattle.convert.specs.declared.Pending.the-variants.{Nothing, Byte}
+use Rattle.convert.specs.declared.Pending.the-variants.{Nothing, Byte, High}
 use Rattle.convert.specs.declared.Run.{Run}
 use Rattle.convert.specs.declared.Answer.{Answer}
-use Rattle.convert.specs.declared.Answer.the-variants.{AllRead, LeadPending, OutputFull, Stopped, BadShape, PieceTooLong, InvalidRun, OtherRun, PendingNotLead, RunEnded, ReadLimit}
+use Rattle.convert.specs.declared.Answer.the-variants.{AllRead, UnitPending, OutputFull, Stopped, BadShape, PieceTooLong, InvalidRun, OtherRun, PendingNotLead, RunEnded, ReadLimit}
 use Rattle.convert.specs.declared.Outcome.{Outcome}
 use Rattle.convert.specs.declared.Started.the-variants.{Accepted}
 use Rattle.convert.specs.Runs.{readLimit, RunRules, validRun, fresh, startOf, startedAs}
 use Rattle.convert.specs.Calls.{numberOf, leadIn, refusal, Called, pendingUnit, runCall, Answered}
-use Rattle.convert.proofs.CallLaws.{no-pending, valid-facts, refusal-named}
+use Rattle.convert.proofs.CallLaws.{PendingIn, valid-in, valid-facts, refusal-named}
 use Rattle.convert.proofs.RuleLaws.{rules-exact}
 use Rattle.convert.proofs.NumberLaws.{Numbers, numbers-exact, low-number, refused-number}
 use Rattle.checkpoint.specs.declared.Written.{Written}
@@ -58,7 +58,7 @@ Numbered n = (a : Answer) × (numberOf a ≡ n)
 
 low-numbered : (n : ℕ) → n ≤ 3 → Numbered n
 low-numbered zero h = (AllRead, refl)
-low-numbered (suc zero) h = (LeadPending, refl)
+low-numbered (suc zero) h = (UnitPending, refl)
 low-numbered (suc (suc zero)) h = (OutputFull, refl)
 low-numbered (suc (suc (suc zero))) h = (Stopped, refl)
 low-numbered (suc (suc (suc (suc n)))) h = absurd (omega arith)
@@ -165,10 +165,16 @@ traces-exist s h cs ok =
     }
 
 -- ---- what a list never meets
--- what is pending in a run that has read some of the text is a lead
+-- what is pending in a decoding run that has read some of the text is a lead; of an encoding run check 14 asks nothing
 pub lead-of : (p : CodePage) (policy : Policy) (pending : Pending) → Waits (converterOf Decoding p policy) (pendingUnit pending) → leadIn (p .classes) pending ≡ true
 lead-of p policy Nothing w = refl
 lead-of p policy (Byte byte) w = decoder-lead (p .classes) (p .singles) (p .pairs) policy (p .defaultUnit) byte w
+lead-of p policy (High unit) w = refl
+
+no-lead : (classes : List ℕ) (pending : Pending) → PendingIn Encoding pending → leadIn classes pending ≡ true
+no-lead classes Nothing i = refl
+no-lead classes (Byte byte) i = absurd i
+no-lead classes (High unit) i = refl
 
 module _ (s : Setting) (h : Proper s) (m : Model) (g : Kept s m) (good : GoodShape (s .tables)) (own : s .page ≡ s .tables .page) where
   pub reads-so-far : Reads (converterOf (s .direction) (s .tables) (s .policy)) (s .text) (m .run) (m .joined)
@@ -179,7 +185,7 @@ module _ (s : Setting) (h : Proper s) (m : Model) (g : Kept s m) (good : GoodSha
 
   pub lead-pending : (d : Direction) → s .direction ≡ d → leadIn (s .tables .classes) (m .run .pending) ≡ true
   lead-pending Decoding e = lead-of (s .tables) (s .policy) (m .run .pending) (subst (λ (d : Direction). Waits (converterOf d (s .tables) (s .policy)) (pendingUnit (m .run .pending))) e (reads-so-far .waits))
-  lead-pending Encoding e = rw (no-pending (m .run .pending) (m .run .direction) _ (sym e ∙ g .fair .direction) (valid-facts (m .run) (g .fair .valid) .pending))
+  lead-pending Encoding e = no-lead (s .tables .classes) (m .run .pending) (valid-in (m .run) Encoding (sym e ∙ g .fair .direction) (valid-facts (m .run) (g .fair .valid)))
 
   pub left-text : (piece rest : List ℕ) → drop (m .position) (s .text) ≡ piece ++ rest → m .run .read + (length piece + length rest) ≡ length (s .text)
   left-text piece rest begins = omega (arith, reads-so-far .inside, g .fair .read, length-drop (m .position) (s .text), ap length begins, length-append piece rest)

@@ -16,10 +16,10 @@ use Rattle.engine.specs.declared.Direction.{Direction}
 use Rattle.engine.specs.declared.Direction.the-variants.{Decoding, Encoding}
 use Rattle.engine.specs.declared.Policy.{Policy}
 use Rattle.convert.specs.declared.Pending.{Pending}
-use Rattle.convert.specs.declared.Pending.the-variants.{Nothing, Byte}
+use Rattle.convert.specs.declared.Pending.the-variants.{Nothing, Byte, High}
 use Rattle.convert.specs.declared.Run.{Run}
 use Rattle.engine.specs.Engine.{Converter, limit, Fed, halt, after, feedFrom, feed, whole}
-use Rattle.convert.specs.Runs.{readLimit, isDecoding, mostWritten, ifPending, validRun, fresh, startOf}
+use Rattle.convert.specs.Runs.{readLimit, mostWritten, validRun, fresh, startOf}
 use Rattle.convert.specs.Calls.{refusal, Called, pendingUnit, pendingCount, finalUnit, pendingAfter, endedAfter, runAfter, fedBy, acceptedCall, refusedCall, runCall}
 use Rattle.codepage.specs.Lent.{over}
 use Rattle.engine.specs.Engine.{converterOf}
@@ -70,26 +70,20 @@ below-front : (n : ℕ) (xs ys : List ℕ) → AllBelow n (xs ++ ys) → AllBelo
 below-front n [] ys h = tt
 below-front n (x ∷ xs) ys h = (h .0, below-front n xs ys (h .1))
 
-final-fits : (pending : Pending) (piece : List ℕ) → CarriedFits pending → AllBelow (2 ^ 8) piece → CarriedFits (finalUnit pending piece)
-final-fits pending [] c h = c
-final-fits pending (a ∷ piece) c h = final-fits (Byte a) piece (h .0) (h .1)
+final-fits : (direction : Direction) (pending : Pending) (piece : List ℕ) → CarriedFits pending → AllBelow (2 ^ widthOf direction) piece → CarriedFits (finalUnit direction pending piece)
+final-fits direction pending [] c h = c
+final-fits Decoding pending (a ∷ piece) c h = final-fits Decoding (Byte a) piece (h .0) (h .1)
+final-fits Encoding pending (a ∷ piece) c h = final-fits Encoding (High a) piece (h .0) (h .1)
 
-pending-fits : (pending : Pending) (piece : List ℕ) (answer used : ℕ) → CarriedFits pending → AllBelow (2 ^ 8) piece → CarriedFits (pendingAfter pending piece answer used)
+pending-fits : (direction : Direction) (pending : Pending) (piece : List ℕ) (answer used : ℕ) → CarriedFits pending → AllBelow (2 ^ widthOf direction) piece
+    → CarriedFits (pendingAfter direction pending piece answer used)
 unfolding pendingAfter
-pending-fits pending piece answer used c h = by-test (eqb answer 1) (eqb used 0)
+pending-fits direction pending piece answer used c h = by-test (eqb answer 1) (eqb used 0)
   where
-    by-test : (t₁ t₂ : Bool) → CarriedFits (pick t₁ (finalUnit pending piece) (pick t₂ pending Nothing))
-    by-test true t₂ = final-fits pending piece c h
+    by-test : (t₁ t₂ : Bool) → CarriedFits (pick t₁ (finalUnit direction pending piece) (pick t₂ pending Nothing))
+    by-test true t₂ = final-fits direction pending piece c h
     by-test false true = c
     by-test false false = tt
-
--- a run of encoding carries nothing
-encoding-fits : (pending : Pending) (direction : Direction) (b : Bool) → Encoding ≡ direction → ifPending pending (isDecoding direction && b) ≡ true → CarriedFits pending
-encoding-fits Nothing direction b e h = tt
-encoding-fits (Byte byte) direction b e h = absurd (false≢true (subst (λ (d : Direction). (isDecoding d && b) ≡ true) (sym e) h))
-
-fits-encoding : (run : Run) → Encoding ≡ run .direction → validRun run ≡ true → CarriedFits (run .pending)
-fits-encoding run e v = encoding-fits (run .pending) (run .direction) (not (run .ended) && ltb (run .written) (run .read)) e (valid-facts run v .pending)
 
 -- ---- the start
 pub fair-start : (s : Setting) → Proper s → Fair s (fresh (s .direction) (s .page) (s .policy)) 0 [] false
@@ -147,13 +141,13 @@ module _ (s : Setting) (h : Proper s) (run : Run) (position : ℕ) (joined : Lis
   valid-then : validRun (acceptedCall run piece last given .run) ≡ true
   valid-then = subst (λ (c : Called). validRun (c .run) ≡ true) call-is (call-kept (s .direction) run (s .tables) piece last room accepted)
 
-  carried-then : (d : Direction) → s .direction ≡ d → CarriedFits (acceptedCall run piece last given .run .pending)
+  carried-then : CarriedFits (acceptedCall run piece last given .run .pending)
   unfolding acceptedCall runAfter
-  carried-then Decoding e =
-      pending-fits (run .pending) piece (given .answer) (given .used) (g .carried)
-      (below-front (2 ^ 8) piece rest
-      (subst (λ (l : List ℕ). AllBelow (2 ^ 8) l) begins (below-drop (2 ^ 8) position (s .text) (subst (λ (d : Direction). AllBelow (2 ^ widthOf d) (s .text)) e (h .units)))))
-  carried-then Encoding e = fits-encoding (acceptedCall run piece last given .run) (sym e ∙ g .direction) valid-then
+  carried-then =
+      let n : ℕ = 2 ^ widthOf (run .direction) in
+      pending-fits (run .direction) (run .pending) piece (given .answer) (given .used) (g .carried)
+      (below-front n piece rest
+      (subst (λ (l : List ℕ). AllBelow n l) begins (below-drop n position (s .text) (subst (λ (d : Direction). AllBelow (2 ^ widthOf d) (s .text)) (g .direction) (h .units)))))
 
   fair-accepted : Fair s (acceptedCall run piece last given .run) (position + acceptedCall run piece last given .read) (joined ++ given .output) (endedAfter last (given .answer))
   unfolding acceptedCall runAfter
@@ -163,7 +157,7 @@ module _ (s : Setting) (h : Proper s) (run : Run) (position : ℕ) (joined : Lis
         direction = g .direction;
         page = g .page;
         policy = g .policy;
-        carried = carried-then (s .direction) refl;
+        carried = carried-then;
         read = ap (λ (n : ℕ). n + acceptedCall run piece last given .read) (g .read);
         written = ap (λ (n : ℕ). n + length (given .output)) (g .written) ∙ sym (length-append joined (given .output));
         end = refl;

@@ -13,12 +13,12 @@ use borrow.Author.Tests.{eqb-true, eqb-false, eq-eqb, ne-eqb}
 use Rattle.codepage.specs.Reading.{waitingUnits}
 use Rattle.codepage.specs.CodePage.{pick}
 use Rattle.convert.specs.declared.Pending.{Pending}
-use Rattle.convert.specs.declared.Pending.the-variants.{Nothing, Byte}
+use Rattle.convert.specs.declared.Pending.the-variants.{Nothing, Byte, High}
 use Rattle.convert.specs.declared.Run.{Run}
 use Rattle.engine.specs.Engine.{Converter, limit, endless, Fed, halt, after, feedFrom, feed}
 use Rattle.convert.specs.Calls.{pendingUnit, pendingCount, finalUnit, readOf, pendingAfter, endedAfter, runAfter, acceptedCall}
 use Rattle.engine.proofs.EngineLaws.{uncut, after-none, after-after, Cut, cut, Shape, shape-from, Waits, feed-wait, feed-end}
-use Rattle.convert.proofs.CallLaws.{pending-units, pendingUnits, count-le-one, final-is}
+use Rattle.convert.proofs.CallLaws.{pendingUnits, count-le-one, final-unit}
 
 -- What a run on a text has done of the whole reading, with its joined output.
 pub record Reads (v : Converter) (text : List ℕ) (run : Run) (joined : List ℕ) : Type 0 where
@@ -35,6 +35,7 @@ pub fed-as-one : (v : Converter) (last : Bool) (room : ℕ) (pending : Pending) 
 unfolding feed
 fed-as-one v last room Nothing piece h = refl
 fed-as-one v last room (Byte byte) piece h = sym (feed-wait v last (limit room) byte piece h)
+fed-as-one v last room (High unit) piece h = sym (feed-wait v last (limit room) unit piece h)
 
 module _ (v : Converter) (text : List ℕ) (run : Run) (joined piece rest : List ℕ) (last : Bool) (room : ℕ) (g : Reads v text run joined) (going : run .ended ≡ false)
     (whole-piece : drop (run .read) text ≡ piece ++ rest) (to-end : last ≡ true → rest ≡ []) where
@@ -50,7 +51,7 @@ module _ (v : Converter) (text : List ℕ) (run : Run) (joined piece rest : List
 
   count : length units ≡ pendingCount (run .pending) + length piece
   unfolding units
-  count = length-append (pendingUnits (run .pending)) piece ∙ ap (λ (n : ℕ). n + length piece) (pending-units (run .pending))
+  count = length-append (pendingUnits (run .pending)) piece
 
   left-text : length text ≡ run .read + (length piece + length rest)
   left-text = omega (arith, g .inside, length-drop (run .read) text, ap length whole-piece, length-append piece rest)
@@ -68,7 +69,7 @@ module _ (v : Converter) (text : List ℕ) (run : Run) (joined piece rest : List
   read′ = readOf (run .pending) (length piece) (f .answer) (f .used)
 
   abbrev pending′ : Pending
-  pending′ = pendingAfter (run .pending) piece (f .answer) (f .used)
+  pending′ = pendingAfter (run .direction) (run .pending) piece (f .answer) (f .used)
 
   -- what the call left: what is pending after it, and the text from its position on
   record Left (pending : Pending) (read : ℕ) : Type 0 where
@@ -91,7 +92,7 @@ module _ (v : Converter) (text : List ℕ) (run : Run) (joined piece rest : List
 
   left-some : (f .used ≡ 0 → ⊥) → Left Nothing (f .used - pendingCount (run .pending))
   left-some e =
-      let q : f .used ≡ length (pendingUnits (run .pending)) + (f .used - pendingCount (run .pending)) = omega (arith, count-le-one (run .pending), pending-units (run .pending)) in
+      let q : f .used ≡ length (pendingUnits (run .pending)) + (f .used - pendingCount (run .pending)) = omega (arith, count-le-one (run .pending)) in
       record {
         units-left =
             sym (drop-append-le (f .used) units rest (formed .within)) ∙ ap (drop (f .used)) (sym together)
@@ -104,23 +105,26 @@ module _ (v : Converter) (text : List ℕ) (run : Run) (joined piece rest : List
         waits = tt;
       }
 
-  left-wait : f .answer ≡ 1 → Left (finalUnit (run .pending) piece) (length piece)
+  left-wait : f .answer ≡ 1 → Left (finalUnit (run .direction) (run .pending) piece) (length piece)
   unfolding units
   left-wait e =
       let n : f .used + 1 ≡ length (pendingUnits (run .pending) ++ piece) = formed .holds e .0 in
-      rw (final-is (run .pending) piece (f .used) n)
-      (record {
+      let unit : ℕ = getD (pendingUnits (run .pending) ++ piece) (f .used) 0 in
+      let final : pendingUnit (finalUnit (run .direction) (run .pending) piece) ≡ some unit = final-unit (run .direction) (run .pending) piece (f .used) n in
+      let one : pendingCount (finalUnit (run .direction) (run .pending) piece) ≡ 1 = ap (λ (o : Option ℕ). length (waitingUnits o)) final in
+      record {
         units-left =
             ap (λ (l : List ℕ). l ++ rest)
             (drop-cons (pendingUnits (run .pending) ++ piece) (f .used) 0 (omega arith)
-            ∙ ap (λ (l : List ℕ). getD (pendingUnits (run .pending) ++ piece) (f .used) 0 ∷ l) (drop-of-length-le (pendingUnits (run .pending) ++ piece) {i = suc (f .used)} (omega arith)))
-            ∙ ap (λ (l : List ℕ). getD (pendingUnits (run .pending) ++ piece) (f .used) 0 ∷ l)
-            (sym (drop-append-seam piece rest) ∙ ap (drop (length piece)) (sym whole-piece) ∙ drop-drop (length piece) (run .read) text);
-        taken = omega (arith, count, g .behind);
+            ∙ ap (λ (l : List ℕ). unit ∷ l) (drop-of-length-le (pendingUnits (run .pending) ++ piece) {i = suc (f .used)} (omega arith)))
+            ∙ ap (λ (l : List ℕ). unit ∷ l)
+            (sym (drop-append-seam piece rest) ∙ ap (drop (length piece)) (sym whole-piece) ∙ drop-drop (length piece) (run .read) text)
+            ∙ ap (λ (o : Option ℕ). waitingUnits o ++ drop (run .read + length piece) text) (sym final);
+        taken = omega (arith, count, g .behind, one);
         inside = omega (arith, left-text);
-        behind = omega (arith, count);
-        waits = formed .holds e .1;
-      })
+        behind = omega (arith, count, one);
+        waits = subst (Waits v) (sym final) (formed .holds e .1);
+      }
 
   left : (t₁ t₂ : Bool) → eqb (f .answer) 1 ≡ t₁ → eqb (f .used) 0 ≡ t₂ → Left pending′ read′
   unfolding pendingAfter readOf
@@ -164,7 +168,7 @@ module _ (v : Converter) (text : List ℕ) (run : Run) (joined piece rest : List
   ended-all e l =
       let u : uncut v text ≡ after (run .read + read′ - pendingCount pending′) (joined ++ f .output) (bitOr (run .flags) (f .flags)) (halt 0) =
       rw (nothing-left e l, feed-end v true endless) at (goes-on (λ q. omega arith)) in
-      let z : pendingCount pending′ ≡ 0 = omega (arith, simp length-append at (ap length (nothing-left e l)), pending-units pending′) in
+      let z : pendingCount pending′ ≡ 0 = omega (arith, simp length-append at (ap length (nothing-left e l))) in
       (rw (u, append-nil), rw (u, or-zero-r), ap (λ (x : Fed). x .used) u ∙ omega arith)
 
   -- ONE ACCEPTED CALL keeps what the run and the joined output say of the whole reading.

@@ -9,7 +9,8 @@ use Prim.Native.Nat.{ℕ, zero, suc, _<_, _≤_, _^_}
 use native.Mathlib.Omega.{arith}
 use lib.ListN.{length, replicate, length-replicate}
 use Rattle.codepage.specs.CodePage.{CodePage}
-use Rattle.engine.specs.declared.Direction.the-variants.{Decoding}
+use Rattle.engine.specs.declared.Direction.{Direction}
+use Rattle.engine.specs.declared.Direction.the-variants.{Decoding, Encoding}
 use Rattle.engine.specs.declared.Policy.{Policy}
 use Rattle.convert.specs.declared.Run.{Run}
 use Rattle.convert.specs.Runs.{readLimit, fresh, startOf}
@@ -23,8 +24,8 @@ use Rattle.checkpoint.specs.Sample.{sampleRun, sampleLine}
 use Rattle.checkpoint.proofs.Computing.{lineRules}
 use Rattle.checkpoint.proofs.LineLaws.{sample-saved, sample-restored}
 use Rattle.traces.specs.Model.{Setting, Call, feeding, saving, loading, Model, Said, opened, says, play, next, Allowed, AllAllowed}
-use Rattle.traces.specs.Traces.{Entry, AllBelow, Meets, observed, AllMeet, handAfter, handAtEnd, callsOf, Proper, Trace}
-use Rattle.traces.specs.Examples.{onSample, interruptedText, interruptedLine, interrupted, MeetsNumber, Example, calling, line, sixteenRows, AllHold}
+use Rattle.traces.specs.Traces.{Entry, AllBelow, widthOf, Meets, observed, AllMeet, handAfter, handAtEnd, callsOf, Proper, Trace}
+use Rattle.traces.specs.Examples.{onSample, interruptedText, interruptedLine, interrupted, encodingOnSample, cutPairText, cutPairLine, cutPair, MeetsNumber, Example, calling, line, sixteenRows, AllHold}
 use Rattle.traces.proofs.ModelLaws.{kept-start}
 use Rattle.traces.proofs.ListLaws.{Played, result-exists, results-exist, fresh-started, TraceOf, traces-exist}
 use Rattle.traces.proofs.EveryTrace.{meets-says, over-list}
@@ -40,9 +41,12 @@ under s policy = record { tables = s .tables; direction = s .direction; page = s
 abbrev ofPage : Setting → ℕ → Setting
 ofPage s page = record { tables = s .tables; direction = s .direction; page = page; policy = s .policy; text = s .text }
 
--- a decoding list on any tables, of an accepted start
-proper : (s : Setting) → s .direction ≡ Decoding → startOf (s .direction) (s .page) (s .policy) .number ≡ 0 → s .page < 2 ^ 16 → AllBelow 256 (s .text) → length (s .text) ≤ readLimit → Proper s
-proper s d start page units within = record { start = start; page = page; units = rw d units; within = within }
+-- a list on any tables, of an accepted start
+proper-in : (d : Direction) (s : Setting) → s .direction ≡ d → startOf (s .direction) (s .page) (s .policy) .number ≡ 0 → s .page < 2 ^ 16 → AllBelow (2 ^ widthOf d) (s .text) → length (s .text) ≤ readLimit → Proper s
+proper-in d s e start page units within = record { start = start; page = page; units = rw e units; within = within }
+
+abbrev proper : (s : Setting) → s .direction ≡ Decoding → startOf (s .direction) (s .page) (s .policy) .number ≡ 0 → s .page < 2 ^ 16 → AllBelow 256 (s .text) → length (s .text) ≤ readLimit → Proper s
+proper = proper-in Decoding
 
 -- ---- THE INTERRUPTED RUN
 -- A block ends on 82; the run is saved and read back; 7C is next. Nothing is lost: the list has a trace, at whose end the model
@@ -64,6 +68,22 @@ interrupted-kept =
       traced =
           traces-exist (onSample interruptedText) ok interrupted
           ((0x7C ∷ 0x42 ∷ [], refl, λ e. absurd (false≢true e)), (tt, (inl (_, refl), (([], refl, λ e. refl), tt))));
+      joined-is = refl;
+      ended = refl;
+      position-is = refl;
+      flags-are = refl;
+    }
+
+-- A PAIR OF SURROGATES that a block cuts, over a saved line, is one character: 41 3F 42, flag 1.
+pub cut-pair-kept : Kept (encodingOnSample cutPairText) cutPair (0x41 ∷ 0x3F ∷ 0x42 ∷ []) 4 1
+unfolding listRules
+cut-pair-kept =
+    let ok : Proper (encodingOnSample cutPairText) = proper-in Encoding (encodingOnSample cutPairText) refl refl (omega arith) (omega arith, (omega arith, (omega arith, (omega arith, tt)))) (omega arith) in
+    record {
+      proper′ = ok;
+      traced =
+          traces-exist (encodingOnSample cutPairText) ok cutPair
+          ((0xDE00 ∷ 0x0042 ∷ [], refl, λ e. absurd (false≢true e)), (tt, (inl (_, refl), (([], refl, λ e. refl), tt))));
       joined-is = refl;
       ended = refl;
       position-is = refl;

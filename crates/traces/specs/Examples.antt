@@ -1,5 +1,5 @@
--- Worked lists on the sample page: a run whose line drops inside a two-byte character, a list for each number that a
--- list can meet, and the sixteen rows of document 01.
+-- Worked lists on the sample page: a run whose line drops inside a two-byte character, one whose line drops inside a pair of
+-- surrogates, a list for each number that a list can meet, and the sixteen rows of document 01.
 use mathlib.Core.Bool.{Bool, true, false}
 use mathlib.Core.List.{List, [], _∷_, _++_, map}
 use mathlib.Core.Option.{Option, none, some}
@@ -30,6 +30,21 @@ interruptedLine = 0x44 ∷ 9 ∷ 0x37 ∷ 9 ∷ 0x35 ∷ 0x35 ∷ 0x35 ∷ 9 ∷
 
 abbrev pub interrupted : List Call
 interrupted = feeding (0x41 ∷ 0x82 ∷ []) false (room 9) ∷ saving (room 44) ∷ loading interruptedLine ∷ feeding (0x7C ∷ 0x42 ∷ []) true (room 9) ∷ []
+
+-- an encoding list on the sample page
+abbrev pub encodingOnSample : (text : List ℕ) → Setting
+encodingOnSample text = record { tables = samplePage; direction = Encoding; page = 7; policy = digits 5 5 5; text = text }
+
+-- The same in encoding: a block ends on the high surrogate of the pair D83D DE00.
+abbrev pub cutPairText : List ℕ
+cutPairText = 0x0041 ∷ 0xD83D ∷ 0xDE00 ∷ 0x0042 ∷ []
+
+-- `E>7>555>D83D>0>2>1>on` and a line feed
+abbrev pub cutPairLine : List ℕ
+cutPairLine = 0x45 ∷ 9 ∷ 0x37 ∷ 9 ∷ 0x35 ∷ 0x35 ∷ 0x35 ∷ 9 ∷ 0x44 ∷ 0x38 ∷ 0x33 ∷ 0x44 ∷ 9 ∷ 0x30 ∷ 9 ∷ 0x32 ∷ 9 ∷ 0x31 ∷ 9 ∷ 0x6F ∷ 0x6E ∷ 0x0A ∷ []
+
+abbrev pub cutPair : List Call
+cutPair = feeding (0x0041 ∷ 0xD83D ∷ []) false (room 9) ∷ saving (room 44) ∷ loading cutPairLine ∷ feeding (0xDE00 ∷ 0x0042 ∷ []) true (room 9) ∷ []
 
 -- A trace of a list that meets a number: the last of its calls is answered with it.
 pub record MeetsNumber (s : Setting) (number : ℕ) : Type 0 where

@@ -36,15 +36,20 @@ decode-loop-requires : tie.Need-decode-loop-requires
 decode-loop-requires c κs =
     decode-requires _ _ _ _ (c .before .before .before .before .before .refusal .ensures) (c .before .before .before .before .if2 .left) _ _ (c .before .before .has-pending .ensures) (c .before .pending-byte .ensures)
 
-pending-after-requires : tie.Need-pending-after-requires
-pending-after-requires c κs = search needs
+pending-after-bytes-requires : tie.Need-pending-after-bytes-requires
+pending-after-bytes-requires c κs = search needs
 
 accepted-requires : tie.Need-accepted-requires
 accepted-requires c κs =
+    let at-decode-loop = c .before .before .before in
+    let at-pending-byte = at-decode-loop .before .before in
+    let at-has-pending = at-pending-byte .before in
+    let at-if2 = at-has-pending .before .before in
+    let loop = at-decode-loop .decode-loop in
     ran-needs
-    (decode-ran _ _ _ _ _ _ (c .before .before .before .before .before .before .before .before .before .refusal .ensures) (c .before .before .before .before .before .before .before .before .if2 .left) _ _ (c .before .before .before .before .before .before .has-pending .ensures)
-    (c .before .before .before .before .before .pending-byte .ensures) (c .before .before .before .decode-loop .ensures .0) (c .before .before .before .decode-loop .ensures .1))
-    (c .before .before .before .decode-loop .kept .1 .1 .1 .1 .1 .1 .1 .1 .1 .0)
+    (decode-ran _ _ _ _ _ _ (at-if2 .before .refusal .ensures) (at-if2 .if2 .left) _ _ (at-has-pending .has-pending .ensures)
+    (at-pending-byte .pending-byte .ensures) (loop .ensures .0) (loop .ensures .1))
+    (loop .kept .1 .1 .1 .1 .1 .1 .1 .1 .1 .0)
     (omega (arith, c .before .before .before .before .before .before .before .before .before .before .before .before .before .before .before .before .before .before .before .good .1 .1 .1 .1 .1 .1 .1 .1 .1 .0))
 
 same-length : tie.Need-same-length
@@ -60,7 +65,7 @@ returns-3 c =
     ran-answered
     (decode-ran _ _ _ _ _ _ (at-refusal .refusal .ensures) (at-if2 .if2 .left) _ _ (at-has-pending .has-pending .ensures)
     (at-pending-byte .pending-byte .ensures) (at-decode-loop .decode-loop .ensures .0) (at-decode-loop .decode-loop .ensures .1))
-    (c .before .pending-after .ensures) (c .accepted .ensures)
+    (c .before .pending-after-bytes .ensures) (c .accepted .ensures)
 
 pub decode-spec : {M : Type 1} → statement M
 decode-spec =
@@ -75,7 +80,7 @@ decode-spec =
     has-pending-requires
     pending-byte-requires
     decode-loop-requires
-    pending-after-requires
+    pending-after-bytes-requires
     accepted-requires
     same-length
     returns-3)

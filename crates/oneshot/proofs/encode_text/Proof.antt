@@ -1,3 +1,4 @@
+use mathlib.Core.Bool.{false≢true}
 use mathlib.Core.Path.{_≡_, _∙_, sym, ap, refl}
 use native.Mathlib.Omega.{arith}
 use lib.ListN.{length}
@@ -25,7 +26,8 @@ encode-loop-requires : tie.Need-encode-loop-requires
 encode-loop-requires c κs =
     let entry = c .before .before .before .before .before .before .before .before .before .before in
     let p : CodePage = codePage (entry .args .numbers) (entry .args .classes .now) (entry .args .singles .now) (entry .args .pairs .now) (entry .args .index .now) (entry .args .blocks .now) in
-    encode-text-needs (entry .args .policy) p _ (text-accepted Encoding (entry .args .policy) p _ (sym (c .before .before .text-refusal .ensures) ∙ c .before .if1 .left))
+    let n = encode-text-needs (entry .args .policy) p _ (text-accepted Encoding (entry .args .policy) p _ (sym (c .before .before .text-refusal .ensures) ∙ c .before .if1 .left)) in
+    (n .0, (n .1 .0, (n .1 .1, λ e. absurd (false≢true e))))
 
 accepted-conversion-requires : tie.Need-accepted-conversion-requires
 unfolding textFed

@@ -3,6 +3,7 @@ use native.Mathlib.Omega.{arith}
 use borrow.Author.Tests.{le-leb, lt-leb, eq-eqb, ne-eqb, not-true, not-false}
 use mathlib.Core.Path.{_∙_, sym}
 use Rattle.convert.specs.Runs.{validRun}
+use Rattle.convert.proofs.CallLaws.{most-twice}
 use borrow.Author.Needs.{needs}
 use Rattle.convert.proofs.rules.valid_run.Statement.{statement}
 use Rattle.convert.proofs.rules.valid_run.Tie as tie
@@ -61,8 +62,14 @@ returns-6 c =
       sym (c .before .end-agrees .ensures) ∙ not-true _ (c .if6 .taken),
     )
 
-pending-agrees-requires : tie.Need-pending-agrees-requires
-pending-agrees-requires c κs = search needs
+pending-allowed-requires : tie.Need-pending-allowed-requires
+pending-allowed-requires c κs =
+    let at-if5 = c .before .before in
+    let at-most-written = at-if5 .before .before in
+    let at-if4 = at-most-written .before in
+    let at-if1 = at-if4 .before .before .before .before .before .before in
+    let run = at-if1 .before .before .before .args .run in
+    (at-if4 .if4 .left, omega (arith, at-if5 .if5 .left, at-most-written .most-written .ensures, most-twice (run .direction) (run .read)))
 
 returns-7 : tie.Need-returns-7
 unfolding validRun
@@ -82,7 +89,7 @@ returns-7 c =
       ← at-most-written .most-written .ensures,
       le-leb _ _ (at-if5 .if5 .left),
       sym (c .before .before .end-agrees .ensures) ∙ not-false _ (c .before .if6 .left),
-    ) (c .pending-agrees .ensures ∙ sym (and-true _))
+    ) (c .pending-allowed .ensures ∙ sym (and-true _))
 
 pub valid-run-spec : {M : Type 1} → statement M
 valid-run-spec =
@@ -97,5 +104,5 @@ valid-run-spec =
     returns-5
     end-agrees-requires
     returns-6
-    pending-agrees-requires
+    pending-allowed-requires
     returns-7)

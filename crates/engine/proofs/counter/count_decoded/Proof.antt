@@ -1,6 +1,7 @@
 use borrow.Author.Needs.{needs}
 use Rattle.engine.proofs.CountLaws.{Counting, count-start, count-wait, count-settled, stop-count-settled, count-one, stop-count-one, count-end, count-last, came-units, units-short, units-least}
-use Rattle.engine.proofs.DecodeLaws.{pair-room, decoded-one, decoded-settled, decoder-more, settled-more, decoder-waits, decoder-lead}
+use Rattle.engine.proofs.DecodeLaws.{pair-room, decoded-one, decoded-settled, decoder-waits, decoder-lead}
+use Rattle.engine.proofs.SettledLaws.{settled-more, settled-size}
 use Rattle.engine.specs.Steps.{oneIf}
 use Rattle.engine.specs.Engine.{converter, endless, feedFrom}
 use Rattle.codepage.specs.Reading.{decoder}
@@ -62,7 +63,7 @@ returns c =
     let loop-test = c .before .before .before .before .before .before .before .before .before .loop-test in
     let if1 = c .before .before .before .before .before .before .before .if1 in
     let decoded = c .before .before .before .before .before .decoded in
-    stop-count-settled (turn .inv) came (if1 .taken) (loop-test .taken) (decoded-settled _ _ _ _ _ _ _ code _ (decoded .ensures)) (decoder-more _ _ _ _ _ _ _ code) (c .if2 .taken)
+    stop-count-settled (turn .inv) came (if1 .taken) (loop-test .taken) (decoded-settled _ _ _ _ _ _ _ code _ (decoded .ensures)) (settled-size _ _ _ _ _ code) (c .if2 .taken)
 
 add-i : tie.Need-add-i Inv-loop μ-loop
 add-i c =
@@ -82,7 +83,7 @@ loop-again c =
     let loop-test = c .before .before .before .before .before .before .before .before .before .before .loop-test in
     let if1 = c .before .before .before .before .before .before .before .before .if1 in
     let decoded = c .before .before .before .before .before .before .decoded in
-    count-settled (turn .inv) came (units-short _) (if1 .taken) (loop-test .taken) (decoded-settled _ _ _ _ _ _ _ code _ (decoded .ensures)) (decoder-more _ _ _ _ _ _ _ code)
+    count-settled (turn .inv) came (units-short _) (if1 .taken) (loop-test .taken) (decoded-settled _ _ _ _ _ _ _ code _ (decoded .ensures)) (settled-size _ _ _ _ _ code)
     (c .before .if2 .left)
 
 is-lead-requires : tie.Need-is-lead-requires Inv-loop μ-loop

@@ -1,99 +1,182 @@
-use Prim.Native.Nat.{ℕ, _-_, _+_, _≤_, _<_, _*_}
-use mathlib.Core.Bool.{true, false}
-use mathlib.Core.Option.{none}
-use native.Mathlib.Omega.{arith}
-use mathlib.Core.Path.{_≡_, refl, sym, ap, _∙_}
-use lib.ListN.{length, getD}
-use Rattle.codepage.specs.Reading.{encoder}
-use Rattle.engine.specs.Engine.{converter, endless, feedFrom}
-use Rattle.engine.proofs.EncodeLaws.{encoded-one, encoder-waits}
-use Rattle.engine.proofs.CountLaws.{Counting, count-start, count-one, stop-count-one, count-end, came-bytes, bytes-short}
 use borrow.Author.Needs.{needs}
+use Rattle.engine.proofs.CountLaws.{Counting, count-start, count-wait, count-settled, stop-count-settled, count-one, stop-count-one, count-end, count-last, came-bytes, bytes-short}
+use Rattle.engine.proofs.EncodeLaws.{encoded-one, encoded-settled, encoder-waits, encoder-high}
+use Rattle.engine.proofs.SettledLaws.{settled-more, settled-size}
+use Rattle.engine.specs.Steps.{oneIf}
+use Rattle.engine.specs.Engine.{converter, endless, feedFrom}
+use Rattle.codepage.specs.Reading.{encoder}
+use lib.ListN.{length, getD}
+use mathlib.Core.Path.{_≡_, refl, sym, ap, _∙_}
+use native.Mathlib.Omega.{arith}
+use mathlib.Core.List.{[]}
+use mathlib.Core.Option.{none}
+use mathlib.Core.Bool.{true}
+use Prim.Native.Nat.{ℕ, _-_, _+_, _≤_, _<_, _*_}
 use Rattle.engine.proofs.counter.count_encoded.Statement.{statement}
 use Rattle.engine.proofs.counter.count_encoded.Tie as tie
-use Rattle.engine.proofs.counter.count_encoded.Reads as reads
-use Rattle.engine.proofs.counter.count_encoded.Lts as lts
-use Rattle.lookup.proofs.unit_code.Reads as unit-code-reads
-use Rattle.engine.proofs.counter.bytes_written.Reads as bytes-written-reads
-use Rattle.engine.proofs.counter.count_code.Reads as count-code-reads
-use Rattle.engine.proofs.policies.encoded.Reads as encoded-reads
 
 abbrev Inv-loop : tie.InvT-loop
-Inv-loop policy default index blocks text s₀ i₀ s i =
-    Counting (converter (encoder index blocks) policy default) (feedFrom (converter (encoder index blocks) policy default) true endless none text) text false 0 s i
+Inv-loop policy default index blocks text waits₀ first₀ s₀ i₀ waits first s i =
+    Counting (converter (encoder index blocks) policy default) (feedFrom (converter (encoder index blocks) policy default) true endless none text) text waits first s i
 
 abbrev μ-loop : tie.MeasureT-loop
-μ-loop policy default index blocks text s₀ i₀ s i = length text - i
+μ-loop policy default index blocks text waits₀ first₀ s₀ i₀ waits first s i = (length text - i) + (length text - i) + oneIf waits
 
--- src/counter.rt:123:5
 loop-holds : tie.Need-loop-holds Inv-loop μ-loop
 loop-holds c = count-start _ _ (omega (arith, c .before .before .before .good .1 .1 .1 .1 .0))
 
--- src/counter.rt:124:62
-mul-unit-code : tie.Need-mul-unit-code Inv-loop μ-loop
-mul-unit-code c = omega arith
+mul-unit : tie.Need-mul-unit Inv-loop μ-loop
+mul-unit c = omega arith
 
--- src/counter.rt:124:62
-shared-slice-read-unit-code : tie.Need-shared-slice-read-unit-code Inv-loop μ-loop
-shared-slice-read-unit-code c = omega arith
+shared-slice-read-unit : tie.Need-shared-slice-read-unit Inv-loop μ-loop
+shared-slice-read-unit c = omega arith
 
--- src/counter.rt:124:13
-unit-code-requires : tie.Need-unit-code-requires Inv-loop μ-loop
-unit-code-requires c κs = c .before .before .before .before .before .before .pre .1
+settle-high-requires : tie.Need-settle-high-requires Inv-loop μ-loop
+settle-high-requires c κs = search needs
 
--- src/counter.rt:125:13
 encoded-requires : tie.Need-encoded-requires Inv-loop μ-loop
-encoded-requires c κs = c .before .before .before .before .before .before .before .pre .0
+encoded-requires c κs = c .before .before .before .before .before .before .before .before .pre .0
 
--- src/counter.rt:126:30
+add-count-code : tie.Need-add-count-code Inv-loop μ-loop
+add-count-code c =
+    let code = c .before .before .settle-high .ensures [] [] _ (encoder-high _ _ _ _ _ (c .before .before .before .before .before .before .loop .inv .waiting (c .before .before .before .if1 .taken))) in
+    omega (arith, settled-more _ _ _ code)
+
 bytes-written-requires : tie.Need-bytes-written-requires Inv-loop μ-loop
 bytes-written-requires c κs = search needs
 
--- src/counter.rt:126:9
 count-code-requires : tie.Need-count-code-requires Inv-loop μ-loop
 count-code-requires c κs =
-    let turn = c .before .before .before .before .before .loop in
-    let loop-test = c .before .before .before .before .loop-test in (
-      omega (arith, turn .inv .few, turn .inv .short, loop-test),
-      omega
-          (arith, c .bytes-written .ensures, bytes-short (c .before .encoded .result), turn .inv .little, turn .inv .short, loop-test),
-    )
+    let few = c .before .before .before .before .before .before .before .loop .inv .few in
+    let short = c .before .before .before .before .before .before .before .loop .inv .short in
+    let inside = c .before .before .before .before .before .before .loop-test .taken in
+    let code = c .before .before .before .settle-high .ensures [] [] _ (encoder-high _ _ _ _ _ (c .before .before .before .before .before .before .before .loop .inv .waiting (c .before .before .before .before .if1 .taken))) in
+    (omega (arith, settled-more _ _ _ code), omega (arith, c .bytes-written .ensures, bytes-short (c .before .before .encoded .result), c .before .before .before .before .before .before .before .loop .inv .little))
 
--- src/counter.rt:128:13
 returns : tie.Need-returns Inv-loop μ-loop
 returns c =
-    let turn = c .before .before .before .before .before .before .before .before .loop in
-    let loop-test = c .before .before .before .before .before .before .before .loop-test in
-    let unit-code = c .before .before .before .before .before .unit-code in
-    let encoded = c .before .before .before .before .encoded in
-    let bytes-written = c .before .before .before .bytes-written in
-    let count-code = c .before .before .count-code in
-    stop-count-one (turn .inv) (came-bytes _ _ _ _ _ (bytes-written .ensures) (count-code .ensures)) refl (loop-test .taken) (encoder-waits _ _ _ _ _)
-    (encoded-one _ _ _ _ _ _ _ (unit-code .ensures) (encoded .ensures _)) (c .if1 .taken)
+    let code = c .before .before .before .before .before .before .settle-high .ensures _ _ _ (encoder-high _ _ _ _ _ (c .before .before .before .before .before .before .before .before .before .before .loop .inv .waiting (c .before .before .before .before .before .before .before .if1 .taken))) in
+    let came = came-bytes _ _ _ _ _ (c .before .before .before .bytes-written .ensures) (c .before .before .count-code .ensures) in
+    let turn = c .before .before .before .before .before .before .before .before .before .before .loop in
+    let loop-test = c .before .before .before .before .before .before .before .before .before .loop-test in
+    let if1 = c .before .before .before .before .before .before .before .if1 in
+    let encoded = c .before .before .before .before .before .encoded in
+    stop-count-settled (turn .inv) came (if1 .taken) (loop-test .taken) (encoded-settled _ _ _ _ _ _ code _ (encoded .ensures _)) (settled-size _ _ _ _ _ code) (c .if2 .taken)
 
--- src/counter.rt:130:9
 add-i : tie.Need-add-i Inv-loop μ-loop
-add-i c = omega (arith, c .before .before .before .before .before .before .before .before .loop .inv .short, c .before .before .before .before .before .before .before .loop-test .taken)
+add-i c =
+    let code = c .before .before .before .before .before .before .before .settle-high .ensures [] [] _ (encoder-high _ _ _ _ _ (c .before .before .before .before .before .before .before .before .before .before .before .loop .inv .waiting (c .before .before .before .before .before .before .before .before .if1 .taken))) in
+    omega (arith, settled-more _ _ _ code, c .before .before .before .before .before .before .before .before .before .before .before .loop .inv .short, c .before .before .before .before .before .before .before .before .before .before .loop-test .taken)
 
--- src/counter.rt:123:5
 loop-less : tie.Need-loop-less Inv-loop μ-loop
-loop-less c = omega (arith, c .before .before .before .before .before .before .before .loop-test .taken)
+loop-less c =
+    let code = c .before .before .before .before .before .before .before .settle-high .ensures [] [] _ (encoder-high _ _ _ _ _ (c .before .before .before .before .before .before .before .before .before .before .before .loop .inv .waiting (c .before .before .before .before .before .before .before .before .if1 .taken))) in
+    omega (arith, settled-more _ _ _ code, ap oneIf (c .before .before .before .before .before .before .before .before .if1 .taken), c .before .before .before .before .before .before .before .before .before .before .loop-test .taken)
 
--- src/counter.rt:123:5
 loop-again : tie.Need-loop-again Inv-loop μ-loop
 loop-again c =
-    let turn = c .before .before .before .before .before .before .before .before .loop in
-    let loop-test = c .before .before .before .before .before .before .before .loop-test in
-    let unit-code = c .before .before .before .before .before .unit-code in
-    let encoded = c .before .before .before .before .encoded in
-    let bytes-written = c .before .before .before .bytes-written in
-    let count-code = c .before .before .count-code in
-    count-one (turn .inv) (came-bytes _ _ _ _ _ (bytes-written .ensures) (count-code .ensures)) (bytes-short _) refl (loop-test .taken) (encoder-waits _ _ _ _ _)
-    (encoded-one _ _ _ _ _ _ _ (unit-code .ensures) (encoded .ensures _)) (c .if1 .left)
+    let code = c .before .before .before .before .before .before .before .settle-high .ensures _ _ _ (encoder-high _ _ _ _ _ (c .before .before .before .before .before .before .before .before .before .before .before .loop .inv .waiting (c .before .before .before .before .before .before .before .before .if1 .taken))) in
+    let came = came-bytes _ _ _ _ _ (c .before .before .before .before .bytes-written .ensures) (c .before .before .before .count-code .ensures) in
+    let turn = c .before .before .before .before .before .before .before .before .before .before .before .loop in
+    let loop-test = c .before .before .before .before .before .before .before .before .before .before .loop-test in
+    let if1 = c .before .before .before .before .before .before .before .before .if1 in
+    let encoded = c .before .before .before .before .before .before .encoded in
+    count-settled (turn .inv) came (bytes-short _) (if1 .taken) (loop-test .taken) (encoded-settled _ _ _ _ _ _ code _ (encoded .ensures _)) (settled-size _ _ _ _ _ code)
+    (c .before .if2 .left)
 
--- src/counter.rt:104:1
+is-high-requires : tie.Need-is-high-requires Inv-loop μ-loop
+is-high-requires c κs = search needs
+
+add-i-2 : tie.Need-add-i-2 Inv-loop μ-loop
+add-i-2 c = omega arith
+
+loop-less-2 : tie.Need-loop-less-2 Inv-loop μ-loop
+loop-less-2 c = omega arith
+
+loop-again-2 : tie.Need-loop-again-2 Inv-loop μ-loop
+loop-again-2 c = count-wait (c .before .before .before .before .before .loop .inv) (c .before .before .if1 .left) (c .before .before .before .before .loop-test .taken) (encoder-waits _ _ _ _ _ _ (sym (c .before .is-high .ensures) ∙ c .if3 .taken))
+
+unit-alone-requires : tie.Need-unit-alone-requires Inv-loop μ-loop
+unit-alone-requires c κs = c .before .before .before .before .before .before .before .before .before .pre .1
+
+encoded-requires-2 : tie.Need-encoded-requires-2 Inv-loop μ-loop
+encoded-requires-2 c κs = c .before .before .before .before .before .before .before .before .before .before .pre .0
+
+bytes-written-requires-2 : tie.Need-bytes-written-requires-2 Inv-loop μ-loop
+bytes-written-requires-2 c κs = search needs
+
+count-code-requires-2 : tie.Need-count-code-requires-2 Inv-loop μ-loop
+count-code-requires-2 c κs =
+    let turn = c .before .before .before .before .before .before .before .before .loop in
+    let loop-test = c .before .before .before .before .before .before .before .loop-test in (
+      omega (arith, turn .inv .few, turn .inv .short, loop-test),
+      omega
+          (arith, c .bytes-written2 .ensures, bytes-short (c .before .encoded2 .result), turn .inv .little, turn .inv .short, loop-test),
+    )
+
 returns-2 : tie.Need-returns-2 Inv-loop μ-loop
-returns-2 c = count-end (c .before .loop .inv) refl (c .loop-test .left)
+returns-2 c =
+    let turn = c .before .before .before .before .before .before .before .before .before .before .before .loop in
+    let loop-test = c .before .before .before .before .before .before .before .before .before .before .loop-test in
+    let if1 = c .before .before .before .before .before .before .before .before .if1 in
+    let is-high = c .before .before .before .before .before .before .before .is-high in
+    let if3 = c .before .before .before .before .before .before .if3 in
+    let unit-alone = c .before .before .before .before .before .unit-alone in
+    let encoded2 = c .before .before .before .before .encoded2 in
+    let bytes-written2 = c .before .before .before .bytes-written2 in
+    let count-code2 = c .before .before .count-code2 in
+    stop-count-one (turn .inv) (came-bytes _ _ _ _ _ (bytes-written2 .ensures) (count-code2 .ensures)) (if1 .left) (loop-test .taken)
+    (encoder-waits _ _ _ _ _ _ (sym (is-high .ensures) ∙ if3 .left)) (encoded-one _ _ _ _ _ _ _ (unit-alone .ensures) (encoded2 .ensures _)) (c .if4 .taken)
+
+add-i-3 : tie.Need-add-i-3 Inv-loop μ-loop
+add-i-3 c = omega (arith, c .before .before .before .before .before .before .before .before .before .before .before .loop .inv .short, c .before .before .before .before .before .before .before .before .before .before .loop-test .taken)
+
+loop-less-3 : tie.Need-loop-less-3 Inv-loop μ-loop
+loop-less-3 c = omega (arith, c .before .before .before .before .before .before .before .before .before .before .loop-test .taken)
+
+loop-again-3 : tie.Need-loop-again-3 Inv-loop μ-loop
+loop-again-3 c =
+    let turn = c .before .before .before .before .before .before .before .before .before .before .before .loop in
+    let loop-test = c .before .before .before .before .before .before .before .before .before .before .loop-test in
+    let if1 = c .before .before .before .before .before .before .before .before .if1 in
+    let is-high = c .before .before .before .before .before .before .before .is-high in
+    let if3 = c .before .before .before .before .before .before .if3 in
+    let unit-alone = c .before .before .before .before .before .unit-alone in
+    let encoded2 = c .before .before .before .before .encoded2 in
+    let bytes-written2 = c .before .before .before .bytes-written2 in
+    let count-code2 = c .before .before .count-code2 in
+    count-one (turn .inv) (came-bytes _ _ _ _ _ (bytes-written2 .ensures) (count-code2 .ensures)) (bytes-short _) (if1 .left) (loop-test .taken)
+    (encoder-waits _ _ _ _ _ _ (sym (is-high .ensures) ∙ if3 .left)) (encoded-one _ _ _ _ _ _ _ (unit-alone .ensures) (encoded2 .ensures _)) (c .if4 .left)
+
+unit-alone-requires-2 : tie.Need-unit-alone-requires-2 Inv-loop μ-loop
+unit-alone-requires-2 c κs = c .before .before .before .before .before .before .pre .1
+
+encoded-requires-3 : tie.Need-encoded-requires-3 Inv-loop μ-loop
+encoded-requires-3 c κs = c .before .before .before .before .before .before .before .pre .0
+
+bytes-written-requires-3 : tie.Need-bytes-written-requires-3 Inv-loop μ-loop
+bytes-written-requires-3 c κs = search needs
+
+count-code-requires-3 : tie.Need-count-code-requires-3 Inv-loop μ-loop
+count-code-requires-3 c κs =
+    let turn = c .before .before .before .before .before .loop in (
+      omega (arith, turn .inv .few, turn .inv .short, turn .inv .inside),
+      omega
+          (arith, c .bytes-written3 .ensures, bytes-short (c .before .encoded3 .result), turn .inv .little, turn .inv .short, turn .inv .inside),
+    )
+
+returns-3 : tie.Need-returns-3 Inv-loop μ-loop
+returns-3 c =
+    let turn = c .before .before .before .before .before .before .loop in
+    let loop-test = c .before .before .before .before .before .loop-test in
+    let if5 = c .before .before .before .before .if5 in
+    let unit-alone2 = c .before .before .before .unit-alone2 in
+    let encoded3 = c .before .before .encoded3 in
+    count-last (turn .inv) (came-bytes _ _ _ _ _ (c .before .bytes-written3 .ensures) (c .count-code3 .ensures)) (if5 .taken) (loop-test .left)
+    (encoded-one _ _ _ _ _ _ _ (unit-alone2 .ensures) (encoded3 .ensures _))
+
+returns-4 : tie.Need-returns-4 Inv-loop μ-loop
+returns-4 c = count-end (c .before .before .loop .inv) (c .if5 .left) (c .before .loop-test .left)
 
 pub count-encoded-spec : {M : Type 1} → statement M
 count-encoded-spec =
@@ -102,14 +185,32 @@ count-encoded-spec =
     Inv-loop
     μ-loop
     loop-holds
-    mul-unit-code
-    shared-slice-read-unit-code
-    unit-code-requires
+    mul-unit
+    shared-slice-read-unit
+    settle-high-requires
     encoded-requires
+    add-count-code
     bytes-written-requires
     count-code-requires
     returns
     add-i
     loop-less
     loop-again
-    returns-2)
+    is-high-requires
+    add-i-2
+    loop-less-2
+    loop-again-2
+    unit-alone-requires
+    encoded-requires-2
+    bytes-written-requires-2
+    count-code-requires-2
+    returns-2
+    add-i-3
+    loop-less-3
+    loop-again-3
+    unit-alone-requires-2
+    encoded-requires-3
+    bytes-written-requires-3
+    count-code-requires-3
+    returns-3
+    returns-4)

@@ -10,39 +10,30 @@ use Rattle.engine.proofs.progress.full.Reads as full-reads
 use Rattle.engine.proofs.progress.stopped.Reads as stopped-reads
 use Rattle.engine.proofs.progress.taken.Reads as taken-reads
 
--- src/progress.rt:80:9
 stopped-requires : tie.Need-stopped-requires
 stopped-requires c κs = search needs
 
--- src/progress.rt:80:9
 returns : tie.Need-returns
-returns c = rw (c .stopped .ensures) (bytes-stop _ _ _ (c .before .before .before .pre .0) (c .before .if1 .taken))
+returns c = rw (c .stopped .ensures) (bytes-stop _ _ _ _ (c .before .before .before .pre .0) (c .before .if1 .taken))
 
--- src/progress.rt:83:9
 taken-requires : tie.Need-taken-requires
 taken-requires c κs = search needs
 
--- src/progress.rt:83:9
 returns-2 : tie.Need-returns-2
-returns-2 c = rw (c .taken .ensures) (bytes-none _ _ _ (c .before .before .before .before .before .pre .0) (c .before .before .before .if1 .left) (c .before .if2 .taken))
+returns-2 c = rw (c .taken .ensures) (bytes-none _ _ _ _ (c .before .before .before .before .before .pre .0) (c .before .before .before .if1 .left) (c .before .if2 .taken))
 
--- src/progress.rt:87:23
 cast-out : tie.Need-cast-out
 cast-out c = search needs
 
--- src/progress.rt:87:13
 slice-write-out : tie.Need-slice-write-out
 slice-write-out c = search needs
 
--- src/progress.rt:88:13
 taken-requires-2 : tie.Need-taken-requires-2
 taken-requires-2 c κs = search needs
 
--- src/progress.rt:88:13
 same-length : tie.Need-same-length
 same-length c = search needs
 
--- src/progress.rt:88:13
 returns-3 : tie.Need-returns-3
 returns-3 c =
     let start = c .before .before .before .before .before .before .before .before .before in
@@ -50,57 +41,44 @@ returns-3 c =
     let if2 = c .before .before .before .before .before .if2 in
     let if3 = c .before .before .before .if3 in
     let if4 = c .before .before .if4 in
-    rw (c .taken2 .ensures) (bytes-one _ _ _ (start .pre .0) (if1 .left) (if2 .left) (if3 .taken) (if4 .taken))
+    rw (c .taken2 .ensures) (bytes-one _ _ _ _ (start .pre .0) (if1 .left) (if2 .left) (if3 .taken) (if4 .taken))
 
--- src/progress.rt:90:9
 full-requires : tie.Need-full-requires
 full-requires c κs = search needs
 
--- src/progress.rt:90:9
 returns-4 : tie.Need-returns-4
-returns-4 c = rw (c .full .ensures) (bytes-one-full _ _ _ (c .before .before .before .before .before .before .before .before .pre .0) (c .before .before .before .before .before .before .if1 .left) (c .before .before .before .before .if2 .left) (c .before .before .if3 .taken) (c .before .if4 .left))
+returns-4 c = rw (c .full .ensures) (bytes-one-full _ _ _ _ (c .before .before .before .before .before .before .before .before .pre .0) (c .before .before .before .before .before .before .if1 .left) (c .before .before .before .before .if2 .left) (c .before .before .if3 .taken) (c .before .if4 .left))
 
--- src/progress.rt:92:8
 sub-if5 : tie.Need-sub-if5
 sub-if5 c = search needs
 
--- src/progress.rt:93:9
 full-requires-2 : tie.Need-full-requires-2
 full-requires-2 c κs = search needs
 
--- src/progress.rt:93:9
 returns-5 : tie.Need-returns-5
-returns-5 c = rw (c .full2 .ensures) (bytes-two-full _ _ _ (c .before .before .before .before .before .before .before .before .pre .0) (c .before .before .before .before .before .before .if1 .left) (c .before .before .before .before .if2 .left) (c .before .before .if3 .left) (c .before .if5 .taken))
+returns-5 c = rw (c .full2 .ensures) (bytes-two-full _ _ _ _ (c .before .before .before .before .before .before .before .before .pre .0) (c .before .before .before .before .before .before .if1 .left) (c .before .before .before .before .if2 .left) (c .before .before .if3 .left) (c .before .if5 .taken))
 
--- src/progress.rt:95:15
 cast-out-2 : tie.Need-cast-out-2
 cast-out-2 c = search needs
 
--- src/progress.rt:95:5
 slice-write-out-2 : tie.Need-slice-write-out-2
 slice-write-out-2 c = search needs
 
--- src/progress.rt:96:19
 cast-out-3 : tie.Need-cast-out-3
 cast-out-3 c = search needs
 
--- src/progress.rt:96:9
 add-out : tie.Need-add-out
 add-out c = search needs
 
--- src/progress.rt:96:5
 slice-write-out-3 : tie.Need-slice-write-out-3
 slice-write-out-3 c = simp length-set (omega arith)
 
--- src/progress.rt:97:5
 taken-requires-3 : tie.Need-taken-requires-3
 taken-requires-3 c κs = search needs
 
--- src/progress.rt:74:1
 same-length-2 : tie.Need-same-length-2
 same-length-2 c = search needs
 
--- src/progress.rt:74:1
 returns-6 : tie.Need-returns-6
 returns-6 c =
     let start = c .before .before .before .before .before .before .before .before .before .before in
@@ -108,7 +86,7 @@ returns-6 c =
     let if2 = c .before .before .before .before .before .before .if2 in
     let if3 = c .before .before .before .before .if3 in
     let if5 = c .before .before .before .if5 in
-    rw (c .taken3 .ensures) (bytes-two _ _ _ (start .pre .0) (if1 .left) (if2 .left) (if3 .left) (if5 .left))
+    rw (c .taken3 .ensures) (bytes-two _ _ _ _ (start .pre .0) (if1 .left) (if2 .left) (if3 .left) (if5 .left))
 
 pub take-bytes-spec : {M : Type 1} → statement M
 take-bytes-spec =

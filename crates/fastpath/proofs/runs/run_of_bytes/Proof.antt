@@ -33,7 +33,7 @@ smaller-requires c κs = search needs
 
 -- src/runs.rt:142:5
 loop-holds : tie.Need-loop-holds Inv-loop μ-loop
-loop-holds c = (omega arith, refl, ran-at (ran-start (c .before .before .before .before .before .pre .1 .1 .0) (c .before .before .before .before .before .pre .1 .1 .1)) (omega arith) (omega arith))
+loop-holds c = (omega arith, refl, ran-at (ran-start (c .before .before .before .before .before .pre .1 .1 .0 .0) (c .before .before .before .before .before .pre .1 .1 .0 .1)) (omega arith) (omega arith))
 
 -- src/runs.rt:143:66
 add-code-of : tie.Need-add-code-of Inv-loop μ-loop
@@ -49,7 +49,7 @@ shared-slice-read-code-of c = omega arith
 
 -- src/runs.rt:143:13
 code-of-requires : tie.Need-code-of-requires Inv-loop μ-loop
-code-of-requires c κs = (c .before .before .before .before .before .before .before .before .pre .0, c .before .before .before .before .before .before .before .before .pre .1 .0)
+code-of-requires c κs = (c .before .before .before .before .before .before .before .before .pre .0, (c .before .before .before .before .before .before .before .before .pre .1 .0, c .before .before .before .before .before .before .before .before .pre .1 .1 .1 _))
 
 -- src/runs.rt:145:13
 same-length : tie.Need-same-length Inv-loop μ-loop
@@ -87,7 +87,7 @@ loop-again c =
       omega arith,
       simp length-set
           (turn .inv .1),
-      ran-at (ran-byte _ _ (turn .inv .2) (code-of .result) (omega arith) (code-of .ensures .1 (omega arith)) (omega arith) (omega arith)) (omega arith) (omega arith),
+      ran-at (ran-byte _ _ (turn .inv .2) (code-of .result) (omega arith) (code-of .ensures (omega arith)) (omega arith) (omega arith)) (omega arith) (omega arith),
     )
 
 -- src/runs.rt:127:1

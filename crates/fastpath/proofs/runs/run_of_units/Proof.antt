@@ -36,7 +36,7 @@ smaller-requires c κs = search needs
 
 -- src/runs.rt:201:5
 loop-holds : tie.Need-loop-holds Inv-loop μ-loop
-loop-holds c = (omega arith, refl, omega arith, ran-at (ran-start (c .before .before .before .before .before .pre .1 .1 .0) (c .before .before .before .before .before .pre .1 .1 .1)) (omega arith) refl)
+loop-holds c = (omega arith, refl, omega arith, ran-at (ran-start (c .before .before .before .before .before .pre .1 .1 .0 .0) (c .before .before .before .before .before .pre .1 .1 .0 .1)) (omega arith) refl)
 
 -- src/runs.rt:202:66
 add-code-of : tie.Need-add-code-of Inv-loop μ-loop
@@ -52,7 +52,7 @@ shared-slice-read-code-of c = omega arith
 
 -- src/runs.rt:202:13
 code-of-requires : tie.Need-code-of-requires Inv-loop μ-loop
-code-of-requires c κs = (c .before .before .before .before .before .before .before .before .pre .0, c .before .before .before .before .before .before .before .before .pre .1 .0)
+code-of-requires c κs = (c .before .before .before .before .before .before .before .before .pre .0, (c .before .before .before .before .before .before .before .before .pre .1 .0, c .before .before .before .before .before .before .before .before .pre .1 .1 .1 _))
 
 -- src/runs.rt:205:23
 add-t22 : tie.Need-add-t22 Inv-loop μ-loop
@@ -121,7 +121,7 @@ loop-again c =
       simp length-set (turn .inv .1),
       omega (arith, c .byte-count .ensures, two-bytes (code-of .result)),
       ran-at
-          (ran-unit _ _ (turn .inv .3) (code-of .result) (omega arith) (code-of .ensures .1 (if1 .left)) _ _ _ (first-byte .ensures) (c .before .second-byte .ensures)
+          (ran-unit _ _ (turn .inv .3) (code-of .result) (omega arith) (code-of .ensures (if1 .left)) _ _ _ (first-byte .ensures) (c .before .second-byte .ensures)
           (c .byte-count .ensures) (omega arith)) (omega arith) refl,
     )
 

@@ -4,7 +4,7 @@ use native.Mathlib.Omega.{arith}
 use Rattle.codepage.specs.Reading.{decoder}
 use Rattle.engine.specs.Engine.{converter}
 use Rattle.engine.specs.Steps.{optional, decodeFed}
-use Rattle.engine.proofs.DecodeLaws.{decoder-waits, decoder-lead}
+use Rattle.engine.proofs.DecodeLaws.{lead-below, decoder-waits, decoder-lead}
 use Rattle.loops.specs.Turns.{stepsLeft}
 use Rattle.loops.proofs.TurnedLaws.{Loop, loop-start, loop-turn, loop-stop, loop-end}
 use borrow.Author.Needs.{needs}
@@ -47,9 +47,12 @@ loop-again c = loop-turn (c .before .before .before .before .before .before .bef
 at-end-requires : tie.Need-at-end-requires Inv-loop μ-loop
 at-end-requires c κs =
     let start = c .before .before .before .before .before .before .before .before .before .before .before in
-    let turn = c .before .before .before .loop in
-    let g = turn .inv .ready in
-    ((start .pre .0 .all-classes, start .pre .0 .all-singles), (g .going, g .within, omega (arith, g .few, g .inside, start .good .1 .1 .1 .1 .1 .1 .1 .0)))
+    let sizes = start .pre .0 in
+    let inv = c .before .before .before .loop .inv in
+    let g = inv .ready in (
+      (sizes .all-classes, sizes .all-singles),
+      ((g .going, g .within, omega (arith, g .few, g .inside, start .good .1 .1 .1 .1 .1 .1 .1 .0)), λ e. lead-below (start .args .classes .now) _ (sizes .all-classes) (decoder-lead _ _ _ _ _ _ (inv .waiting e))),
+    )
 
 same-length-2 : tie.Need-same-length-2 Inv-loop μ-loop
 same-length-2 c = c .before .before .at-end .ensures (c .before .before .before .before .before .before .before .before .before .before .before .before .before .before .args .pairs .now) .same ∙ c .before .before .before .before .before .before .loop .inv .same

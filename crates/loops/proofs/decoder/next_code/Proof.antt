@@ -19,6 +19,9 @@ shared-slice-read-byte c = search needs
 is-lead-requires : tie.Need-is-lead-requires
 is-lead-requires c κs = search needs
 
+cast-wait : tie.Need-cast-wait
+cast-wait c = omega (arith, c .before .before .shared-slice-known4 .given (c .before .before .before .before .before .before .before .before .args .t .at))
+
 wait-requires : tie.Need-wait-requires
 wait-requires c κs = search needs
 
@@ -55,4 +58,4 @@ returns-3 c =
     )
 
 pub next-code-spec : {M : Type 1} → statement M
-next-code-spec = tie.close (tie.spec returns shared-slice-read-byte is-lead-requires wait-requires returns-2 take-alone-requires past-requires same-length returns-3)
+next-code-spec = tie.close (tie.spec returns shared-slice-read-byte is-lead-requires cast-wait wait-requires returns-2 take-alone-requires past-requires same-length returns-3)

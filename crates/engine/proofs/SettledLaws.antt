@@ -1,0 +1,26 @@
+-- A waiting unit, settled by the one after it, over any reader: what the program looked up is what the code does.
+use mathlib.Core.Path.{_≡_, sym, ap, _∙_}
+use Prim.Native.Nat.{ℕ, _≤_}
+use native.Mathlib.Omega.{arith}
+use lib.ListN.{length}
+use Rattle.codepage.specs.Reading.{Reader, settled}
+use Rattle.codepage.proofs.ReadingLaws.{settled-first, more-le}
+use Rattle.lookup.specs.declared.SettledCode.{SettledCode}
+use Rattle.lookup.specs.Profile.{SettledAs}
+use Rattle.engine.specs.declared.Policy.{Policy}
+use Rattle.engine.specs.Engine.{Effect, effectOf, converter}
+use Rattle.engine.specs.Steps.{doesSettled}
+
+pub settled-more : (r : Reader) (c b : ℕ) {k : SettledCode} → SettledAs (settled r c b) k → k .more ≤ 1
+settled-more r c b a = omega (arith, a .more, more-le r c b)
+
+module _ (r : Reader) (policy : Policy) (default c b : ℕ) {k : SettledCode} (a : SettledAs (settled r c b) k) where
+  pub settled-does : {e : Effect} → e ≡ effectOf (r .writes) policy default c (k .means) → e ≡ doesSettled (converter r policy default) c b
+  unfolding converter
+  settled-does q =
+      q ∙ ap (effectOf (r .writes) policy default c) (a .means)
+      ∙ ap (λ (first : ℕ). effectOf (r .writes) policy default first (settled r c b .means)) (sym (settled-first r c b))
+
+  pub settled-size : k .more ≡ length (settled (converter r policy default .reader) c b .more)
+  unfolding converter
+  settled-size = a .more
