@@ -4,12 +4,13 @@
     kill_test.py [--tillbox PROGRAM] [--rounds N] [--seed N] [--size BYTES]
 
 Each round makes a random input: text of code page 932 mixed with damaged bytes (decode), or units of that text mixed with
-random units (encode). The input grows in steps of random length; at each step tillbox is started with a checkpoint and killed
-(SIGKILL) at a random moment, several times. After each kill the saved line must be a whole one, and the output up to its written
-total must be the beginning of the right one. The last step is marked `last` and repeated until it is not killed. Then output,
+emoji, halves of them and random units (encode). The input grows in steps of random length; at each step tillbox is started with
+a checkpoint and killed (SIGKILL) at a random moment, several times. After each kill the saved line must be a whole one, and the
+output up to its written total must be the beginning of the right one. The last step is marked `last` and repeated until it is not killed. Then output,
 saved line, and uncut runs with and without a checkpoint are compared with the second converter's answer (second_converter.py).
-Then, if strace can be used, a fresh and a resumed job are killed at their system calls, one after the other: at each call
-that opens, syncs, cuts, renames or closes a file, and at those that read and write blocks around a checkpoint.
+Then, if strace can be used, a fresh and a resumed job that decode, and a resumed one that encodes, are killed at their system
+calls, one after the other: at each call that opens, syncs, cuts, renames or closes a file, and at those that read and write blocks
+around a checkpoint. A resumed job begins in the middle of a character: between the bytes of a pair, or between two surrogates.
 Prints 'N passed, M failed'; the exit status is 0 exactly if none failed.
 """
 
@@ -55,13 +56,18 @@ def random_journal(chance, size):
 
 
 def random_units(chance, size):
-    """Units of the text with random ones in between."""
+    """Units of the text with emoji, halves of surrogate pairs and random units in between."""
     units = []
     text = struct.unpack(f"<{len(TEXT)}H", TEXT.encode("utf-16le"))
     while len(units) < size:
-        if chance.random() < 0.9:
+        kind = chance.random()
+        if kind < 0.8:
             start = chance.randrange(len(text))
             units += text[start : start + chance.randrange(1, 30)]
+        elif kind < 0.9:
+            units += [0xD83D, chance.randrange(0xDE00, 0xDE50)]
+        elif kind < 0.95:
+            units.append(chance.choice([0xD800, 0xD83D, 0xDBFF, 0xDC00, 0xDE00, 0xDFFF]))
         else:
             units.append(chance.randrange(65536))
     return units[:size]
@@ -77,22 +83,23 @@ class Job:
         self.policy = "".join(chance.choice("12345") for _ in range(3))
         if chance.random() < 0.3:
             self.policy = "555"
-        digits = tuple(int(digit) for digit in self.policy)
-        if self.decodes:
-            self.input = random_journal(chance, size)
-            taken = converter.take_whole_text(converter.DECODING, digits, table, self.input, converter.NO_END_OF_ROOM)
-            self.right = struct.pack(f"<{len(taken.output)}H", *taken.output)
-            self.units = len(self.input)
-        else:
-            units = random_units(chance, size // 2)
-            taken = converter.take_whole_text(converter.ENCODING, digits, table, units, converter.NO_END_OF_ROOM)
-            self.input = struct.pack(f"<{len(units)}H", *units)
-            self.right = bytes(taken.output)
-            self.units = len(units)
-        letter = "D" if self.decodes else "E"
-        fields = [letter, "932", self.policy, "-", str(taken.flags), str(self.units), str(len(taken.output)), "over"]
-        self.last_line = "\t".join(fields) + "\n"
+        self.set_text(table, random_journal(chance, size) if self.decodes else random_units(chance, size // 2))
         self.kills = self.unfinished = 0
+
+    def set_text(self, table, text):
+        """The text, bytes or units, and what is right for it."""
+        self.text = list(text)
+        letter = converter.DECODING if self.decodes else converter.ENCODING
+        digits = tuple(int(digit) for digit in self.policy)
+        taken = converter.take_whole_text(letter, digits, table, self.text, converter.NO_END_OF_ROOM)
+        if self.decodes:
+            self.input = bytes(self.text)
+            self.right = struct.pack(f"<{len(taken.output)}H", *taken.output)
+        else:
+            self.input = struct.pack(f"<{len(self.text)}H", *self.text)
+            self.right = bytes(taken.output)
+        fields = [letter, "932", self.policy, "-", str(taken.flags), str(len(self.text)), str(len(taken.output)), "over"]
+        self.last_line = "\t".join(fields) + "\n"
 
     def words(self, *names, last=False):
         return [self.program, self.command] + (["last"] if last else []) + ["policy", self.policy, TABLE, *names]
@@ -191,6 +198,7 @@ def play(chance, program, table, direction, size, totals):
 CALLS = ["openat", "pread64", "lseek", "ftruncate", "fsync", "unlink", "rename", "close", "read", "write"]
 # 130 blocks and a half, and the first half of a character at its end
 PART = 66304 + 255
+CUT_CHARACTER = {"decode": (0x61, 0x94, 0x4E), "encode": (0x61, 0xD83D, 0xDE00)}
 
 
 def can_trace():
@@ -199,18 +207,12 @@ def can_trace():
     return subprocess.run(["strace", "-o", "/dev/null", "true"], stderr=subprocess.DEVNULL).returncode == 0
 
 
-def call_job(chance, program, table):
-    """A decoding job of two such parts."""
-    job = Job(chance, program, table, "decode", 2 * PART)
-    text = bytearray(job.input)
-    text[PART - 2 : PART + 1] = b"a\x94\x4e"
-    job.input = bytes(text)
-    digits = tuple(int(digit) for digit in job.policy)
-    taken = converter.take_whole_text(converter.DECODING, digits, table, job.input, converter.NO_END_OF_ROOM)
-    job.right = struct.pack(f"<{len(taken.output)}H", *taken.output)
-    fields = ["D", "932", job.policy, "-", str(taken.flags), str(job.units), str(len(taken.output)), "over"]
-    job.last_line = "\t".join(fields) + "\n"
-    return job
+def call_job(chance, program, table, direction):
+    """A job of two such parts; how many bytes the first has."""
+    width = {"decode": 1, "encode": 2}[direction]
+    job = Job(chance, program, table, direction, 2 * PART * width)
+    job.set_text(table, job.text[: PART - 2] + list(CUT_CHARACTER[direction]) + job.text[PART + 1 :])
+    return job, PART * width
 
 
 def killed_at(job, call, number, last):
@@ -222,14 +224,14 @@ def killed_at(job, call, number, last):
     return done.returncode == -9
 
 
-def kill_and_resume(job, call, number, resumed):
-    """One kill of a fresh or a resumed job, and the job called again. False: it was not killed."""
+def kill_and_resume(job, call, number, part):
+    """One kill of a fresh job, or of one resumed behind a part, and the job called again. False: it was not killed."""
     for name in ("output", "checkpoint", "checkpoint.new"):
         if os.path.exists(name):
             os.remove(name)
     with open("input", "wb") as file:
-        file.write(job.input[:PART] if resumed else job.input)
-    if resumed:
+        file.write(job.input if part is None else job.input[:part])
+    if part is not None:
         job.start(False, None)
         with open("input", "wb") as file:
             file.write(job.input)
@@ -246,14 +248,14 @@ def kill_and_resume(job, call, number, resumed):
     return True
 
 
-def at_each_call(chance, program, table, call, resumed):
+def at_each_call(chance, program, table, call, direction, resumed):
     """Kills a job at each call of a kind, or at those around the start, the checkpoint and the end. How many kills there were."""
-    job = call_job(chance, program, table)
+    job, part = call_job(chance, program, table, direction)
     kills, number = 0, 1
     with tempfile.TemporaryDirectory() as folder:
         os.chdir(folder)
         try:
-            while kill_and_resume(job, call, number, resumed):
+            while kill_and_resume(job, call, number, part if resumed else None):
                 kills += 1
                 number = 126 if number == 5 and call in ("read", "write") else number + 1
                 if number == 140 and call in ("read", "write"):
@@ -266,13 +268,13 @@ def at_each_call(chance, program, table, call, resumed):
 def every_call(chance, program, table):
     """A test for each kind of call and each job."""
     passed = failed = kills = 0
-    for resumed in (False, True):
+    for direction, resumed in (("decode", False), ("decode", True), ("encode", True)):
         for call in CALLS:
             try:
-                kills += at_each_call(chance, program, table, call, resumed)
+                kills += at_each_call(chance, program, table, call, direction, resumed)
                 passed += 1
             except Wrong as wrong:
-                print(f"{'resumed' if resumed else 'fresh'} job, {call}: {wrong}")
+                print(f"{'resumed' if resumed else 'fresh'} job, {direction}, {call}: {wrong}")
                 failed += 1
     print(f"killed at {kills} system calls")
     return passed, failed

@@ -69,6 +69,24 @@ def refused(*words, says):
     equal(after, before, f"files after {words}")
 
 
+def units_text(*units):
+    """Units as a file has them."""
+    return struct.pack(f"<{len(units)}H", *units)
+
+
+def remove(*names):
+    for name in names:
+        if os.path.exists(name):
+            os.remove(name)
+
+
+FLAG_NAMES = ("undefined single", "undefined pair", "invalid", "stopped")
+
+
+def flags_text(flags):
+    return ", ".join(name for place, name in enumerate(FLAG_NAMES) if flags >> place & 1) or "none"
+
+
 def summary(read_total, written, flags="none", pending="nothing", state="the run has ended", units=("bytes", "units")):
     return [f"read {read_total} {units[0]}, written {written} {units[1]}", f"flags: {flags}", f"pending: {pending}", state]
 
@@ -330,9 +348,7 @@ def test_a_waiting_half_before_a_line_feed():
     half = "the byte 94, the first half of a character"
     whole = b"tea\x94\n120\n"
     for policy, units, flags in (("555", "tea\u30fb\n120\n", "4 9 9"), ("551", "tea\n120\n", "4 9 8"), ("553", "tea?\n120\n", "4 9 9")):
-        for name in ("ledger", "checkpoint"):
-            if os.path.exists(name):
-                os.remove(name)
+        remove("ledger", "checkpoint")
         write("journal", whole[:4])
         goes = summary(4, 3, pending=half, state="the run goes on")
         tillbox("decode", "policy", policy, "cp932.tbl", "journal", "ledger", "checkpoint", says=goes)
@@ -391,7 +407,7 @@ def test_a_run_stops():
     equal(read("ledger"), b"A\0B\0", "the ledger")
     equal(read("checkpoint"), line("D 7 055 - 9 3 2 over"), "the line")
     refused("decode", "sample.tbl", "journal", "ledger", "checkpoint", says=["error 15: the run has ended (checkpoint)"] + says)
-    write("units", struct.pack("<3H", 0x41, 0xD83D, 0x42))
+    write("units", units_text(0x41, 0x1234, 0x42))
     stop = "stopped by policy; the next unread unit is at 2"
     says = summary(2, 1, flags="undefined single, stopped", state=stop, units=("units", "bytes")) + ["the run has ended"]
     tillbox("encode", "policy", "055", "sample.tbl", "units", "receipt", word="stopped", says=says)
@@ -450,9 +466,7 @@ def test_a_left_over_new_file():
 def every_cut(text, units):
     """Every cut of a text of page 7, in two calls, gives the same ledger."""
     for place in range(len(text) + 1):
-        for name in ("ledger", "checkpoint"):
-            if os.path.exists(name):
-                os.remove(name)
+        remove("ledger", "checkpoint")
         write("journal", text[:place])
         tillbox("decode", "sample.tbl", "journal", "ledger", "checkpoint")
         write("journal", text)
@@ -468,6 +482,232 @@ def test_every_cut_of_a_text():
 def test_every_cut_of_a_text_with_broken_halves():
     # 81 before 0A, 82 before 7F and 82 at the end are codes alone; 81 82 and 82 80 are one code each
     every_cut(b"\x81\n\x82\x7fa\x81\x82\x82\x80b\x82", "\u30fb\n\u30fb\x7fa\u30fb\u30fbb\u30fb")
+
+
+# ---------------------------------------------------------------------------------------------------------------
+# Surrogates
+# ---------------------------------------------------------------------------------------------------------------
+
+HALF = "the unit D83D, the first half of a character"
+
+
+def encoded(read_total, written, flags="none", pending="nothing", state="the run has ended"):
+    return summary(read_total, written, flags, pending, state, units=("units", "bytes"))
+
+
+def test_emoji_in_a_shop_name():
+    # one question mark for each character that the page has not
+    write("ledger", "喫茶\U0001f375みどり\U0001f33f\n緑茶 120円\n".encode("utf-16le"))
+    tillbox("encode", "cp932.tbl", "ledger", "receipt", says=encoded(18, 24, flags="undefined single"))
+    equal(read("receipt"), "喫茶?みどり?\n緑茶 120円\n".encode("cp932"), "the receipt")
+    tillbox("encode", "policy", "155", "cp932.tbl", "ledger", "receipt", says=encoded(18, 22, flags="undefined single"))
+    equal(read("receipt"), "喫茶みどり\n緑茶 120円\n".encode("cp932"), "the receipt")
+    # the default byte of page 1252 is 3F too; the third digit is not asked
+    write("ledger", "Café \U0001f600 Ölberg\n".encode("utf-16le"))
+    tillbox("encode", "policy", "550", "cp1252.tbl", "ledger", "receipt", says=encoded(15, 14, flags="undefined single"))
+    equal(read("receipt"), "Café ? Ölberg\n".encode("cp1252"), "the receipt")
+
+
+def test_surrogates_alone():
+    for units, receipt, flags in (
+        ((0x41, 0xD83D, 0x42), b"A?B", "invalid"),
+        ((0x41, 0xDE00, 0x42), b"A?B", "invalid"),
+        ((0xDE00, 0xD83D), b"??", "invalid"),
+        ((0xD83D, 0xD83D, 0xDE00), b"??", "undefined single, invalid"),
+        ((0xD83D, 0xDE00, 0xDE00), b"??", "undefined single, invalid"),
+        ((0xD83D, 0x0A, 0x42), b"?\nB", "invalid"),
+        ((0x41, 0xD83D), b"A?", "invalid"),
+        ((0xD7FF, 0xDC00), b"??", "undefined single, invalid"),
+        ((0xDBFF, 0xE000), b"?\xf0\x40", "invalid"),
+    ):
+        write("ledger", units_text(*units))
+        tillbox("encode", "cp932.tbl", "ledger", "receipt", says=encoded(len(units), len(receipt), flags=flags))
+        equal(read("receipt"), receipt, f"the receipt of {units}")
+
+
+def test_the_first_half_of_a_pair_waits():
+    goes = encoded(2, 1, pending=HALF, state="the run goes on")
+    for after, units, receipt, last_line in (
+        ("its other half", (0x41, 0xD83D, 0xDE00), b"A?", "- 1 3 2 over"),
+        ("another unit", (0x41, 0xD83D, 0x42), b"A?B", "- 4 3 3 over"),
+        ("another first half", (0x41, 0xD83D, 0xD83D), b"A??", "- 4 3 3 over"),
+        ("the end of the text", (0x41, 0xD83D), b"A?", "- 4 2 2 over"),
+    ):
+        remove("receipt", "checkpoint")
+        write("ledger", units_text(0x41, 0xD83D))
+        # a second call on the same ledger changes nothing
+        for _ in range(2):
+            tillbox("encode", "cp932.tbl", "ledger", "receipt", "checkpoint", says=goes)
+            equal(read("checkpoint"), line("E 932 555 D83D 0 2 1 on"), "the line")
+            equal(read("receipt"), b"A", "the receipt")
+        write("ledger", units_text(*units))
+        says = encoded(len(units), len(receipt), flags=flags_text(int(last_line.split(" ")[1])))
+        tillbox("encode", "last", "cp932.tbl", "ledger", "receipt", "checkpoint", says=says)
+        equal(read("receipt"), receipt, f"the receipt before {after}")
+        equal(read("checkpoint"), line(f"E 932 555 {last_line}"), f"the line before {after}")
+
+
+def test_half_a_unit_after_the_first_half_of_a_pair():
+    # three bytes of a pair: the first half waits, the byte after it is not read
+    pair = "\U0001f600".encode("utf-16le")
+    write("ledger", pair[:3])
+    goes = encoded(1, 0, pending=HALF, state="the run goes on")
+    tillbox("encode", "cp932.tbl", "ledger", "receipt", "checkpoint", says=goes)
+    write("ledger", pair)
+    tillbox("encode", "last", "cp932.tbl", "ledger", "receipt", "checkpoint", says=encoded(2, 1, flags="undefined single"))
+    equal(read("receipt"), b"?", "the receipt")
+
+
+def test_a_run_stops_at_surrogates():
+    # the next unread unit is the one behind a pair, or behind a half alone, whether it waited or not
+    for policy, units, waits, place, flags in (
+        ("055", (0x41, 0xD83D, 0xDE00, 0x42), 2, 3, 9),
+        ("550", (0x41, 0xD83D, 0x42), 2, 2, 12),
+        ("550", (0x41, 0xD83D, 0xD83D), 2, 2, 12),
+        ("550", (0x41, 0xDE00, 0x42), 1, 2, 12),
+    ):
+        stop = f"stopped by policy; the next unread unit is at {place}"
+        says = encoded(place, 1, flags=flags_text(flags), state=stop) + ["the run has ended"]
+        write("ledger", units_text(*units))
+        tillbox("encode", "policy", policy, "cp932.tbl", "ledger", "receipt", word="stopped", says=says)
+        equal(read("receipt"), b"A", "the receipt")
+        remove("receipt", "checkpoint")
+        write("ledger", units_text(*units[:waits]))
+        tillbox("encode", "policy", policy, "cp932.tbl", "ledger", "receipt", "checkpoint")
+        write("ledger", units_text(*units))
+        tillbox("encode", "cp932.tbl", "ledger", "receipt", "checkpoint", word="stopped", says=says)
+        equal(read("receipt"), b"A", "the receipt")
+        equal(read("checkpoint"), line(f"E 932 {policy} - {flags} {place} 1 over"), "the line")
+
+
+def test_a_pair_at_the_end_of_a_block():
+    # the first half is the last of the first block's 512 units, or stands around that place
+    for before in (510, 511, 512, 1022, 1023):
+        a, b = [0x61] * before, [0x62] * 600
+        for middle, receipt, flags in (
+            ([0xD83D, 0xDE00], b"?", "undefined single"),
+            ([0xD83D], b"?", "invalid"),
+            ([0xD83D, 0xD83D, 0xDE00], b"??", "undefined single, invalid"),
+            ([0xDE00], b"?", "invalid"),
+        ):
+            for end in (b, []):
+                wanted = b"a" * before + receipt + b"b" * len(end)
+                count = before + len(middle) + len(end)
+                write("ledger", units_text(*a, *middle, *end))
+                tillbox("encode", "cp932.tbl", "ledger", "receipt", says=encoded(count, len(wanted), flags=flags))
+                equal(read("receipt"), wanted, f"the receipt of {before} units, then {middle}")
+    # a half alone, then a block of two-byte codes: one byte more is written than two for each unit of the block
+    write("ledger", units_text(*[0x61] * 511, 0xD83D, *[0x5E74] * 512, 0x62))
+    tillbox("encode", "cp932.tbl", "ledger", "receipt", says=encoded(1025, 511 + 1 + 1024 + 1, flags="invalid"))
+    equal(read("receipt"), b"a" * 511 + b"?" + b"\x94\x4e" * 512 + b"b", "the receipt")
+
+
+def test_a_pair_cut_by_a_saved_line():
+    # the ledger has the first block and the first half of a pair; the other half comes the day after
+    whole = units_text(*[0x61] * 511, 0xD83D, 0xDE00, *[0x62] * 511)
+    write("ledger", whole[: 2 * 512])
+    tillbox("encode", "cp932.tbl", "ledger", "receipt", "checkpoint", says=encoded(512, 511, pending=HALF, state="the run goes on"))
+    equal(read("checkpoint"), line("E 932 555 D83D 0 512 511 on"), "the line")
+    write("ledger", whole)
+    tillbox("encode", "last", "cp932.tbl", "ledger", "receipt", "checkpoint", says=encoded(1024, 1023, flags="undefined single"))
+    equal(read("receipt"), b"a" * 511 + b"?" + b"b" * 511, "the receipt")
+
+
+def test_a_pair_cut_by_the_line_of_128_blocks():
+    # the receipt may not grow over 65,800 bytes: the job fails behind the line of block 128, whose last unit is a first half
+    wanted = b"a" * 65535 + b"?" + b"b" * 2000
+    write("ledger", units_text(*[0x61] * 65535, 0xD83D, 0xDE00, *[0x62] * 2000))
+    says = ["error: cannot write receipt: File too large"]
+    tillbox("encode", "last", "cp932.tbl", "ledger", "receipt", "checkpoint", word="failed", says=says, limit=65800)
+    equal(read("checkpoint"), line("E 932 555 D83D 0 65536 65535 on"), "the line")
+    # what is behind the line in the receipt is written over
+    write("receipt", read("receipt")[:65535] + b"no part of it" * 1000)
+    says = encoded(67537, 67536, flags="undefined single")
+    tillbox("encode", "last", "cp932.tbl", "ledger", "receipt", "checkpoint", says=says)
+    equal(read("receipt"), wanted, "the receipt")
+    equal(read("checkpoint"), line("E 932 555 - 1 67537 67536 over"), "the line")
+
+
+def test_checkpoints_with_a_unit():
+    write("ledger", units_text(0x41, 0xD83D, 0xDE00))
+    write("receipt", b"A, and what no line speaks of")
+    for text in (
+        "83 0 2 1 on", "DC00 0 2 1 on", "D7FF 0 2 1 on", "d83d 0 2 1 on", "D83 0 2 1 on", "D83D 0 2 3 on", "D83D 0 0 0 on",
+        "D83D 0 2 1 over",
+    ):
+        write("checkpoint", line("E 932 555 " + text))
+        refused("encode", "cp932.tbl", "ledger", "receipt", "checkpoint", says=["error 18: not a saved line (checkpoint)"])
+    for text in ("0083 0 2 1 on", "D83D 0 2 1 on"):
+        write("checkpoint", line("D 932 555 " + text))
+        refused("decode", "cp932.tbl", "journal", "ledger", "checkpoint", says=["error 18: not a saved line (checkpoint)"])
+    write("checkpoint", line("E 932 555 D83D 0 2 1 on"))
+    other = "error 13: the run is of the other direction or of another page (checkpoint)"
+    refused("encode", "cp1252.tbl", "ledger", "receipt", "checkpoint", says=[other])
+    refused("decode", "cp932.tbl", "journal", "receipt", "checkpoint", says=[other])
+    # a unit whose halves are no lead bytes of the page, and a line that an older tillbox saved
+    write("checkpoint", line("E 932 555 D841 0 2 1 on"))
+    tillbox("encode", "last", "cp932.tbl", "ledger", "receipt", "checkpoint", says=encoded(3, 2, flags="undefined single"))
+    equal(read("receipt"), b"A?", "the receipt")
+    write("checkpoint", line("E 932 555 - 0 1 1 on"))
+    tillbox("encode", "last", "cp932.tbl", "ledger", "receipt", "checkpoint", says=encoded(3, 2, flags="undefined single"))
+    equal(read("receipt"), b"A?", "the receipt")
+
+
+def test_every_cut_of_a_text_with_surrogates():
+    # a pair, A, a first half alone, B, a second half alone, a first half before a pair, a first half at the end
+    units = (0xD83D, 0xDE00, 0x41, 0xD83D, 0x42, 0xDE00, 0xD83D, 0xD83D, 0xDE01, 0xDBFF)
+    whole = units_text(*units)
+    # every second cut is in the middle of a unit
+    for place in range(len(whole) + 1):
+        remove("receipt", "checkpoint")
+        write("ledger", whole[:place])
+        tillbox("encode", "sample.tbl", "ledger", "receipt", "checkpoint")
+        write("ledger", whole)
+        says = encoded(len(units), 8, flags="undefined single, invalid")
+        tillbox("encode", "last", "sample.tbl", "ledger", "receipt", "checkpoint", says=says)
+        equal(read("receipt"), b"?A?B????", f"the receipt of the cut at {place}")
+
+
+def random_ledger(rng, size):
+    """Words of a ledger with emoji in them, and halves of pairs; size units."""
+    words = [
+        "喫茶\U0001f375みどり", "\U0001f363寿司\U0001f363", "total 1,234\n", "緑茶　120円\n", "Café \U0001f600\n", "\u2603", "\ue000",
+    ]
+    units = []
+    while len(units) < size:
+        if rng.random() < 0.9:
+            word = rng.choice(words).encode("utf-16le")
+            units += struct.unpack(f"<{len(word) // 2}H", word)
+        else:
+            units.append(rng.choice([0xD800, 0xD83D, 0xDBFF, 0xDC00, 0xDE00, 0xDFFF, rng.randrange(65536)]))
+    return units[:size]
+
+
+def test_encoding_of_random_ledgers():
+    # encoded by the second converter, at most 65,536 units at once; uncut, and cut in two places
+    rng = random.Random(9)
+    for name, page in (("cp932.tbl", 932), ("cp1252.tbl", 1252), ("sample.tbl", 7)):
+        table = second_converter.read_image_file(name, ["."])
+        for size in (1, 2, 511, 512, 513, 514, 1024, 1025, 20000):
+            units = random_ledger(rng, size)
+            policy = rng.choice(["555", "551", "155", "151", "234", "543"])
+            out = [0] * (2 * size)
+            answer = second_converter.convert_call(second_converter.ENCODING, tuple(map(int, policy)), table, units, out)
+            receipt = bytes(out[: answer.written])
+            says = encoded(size, len(receipt), flags=flags_text(answer.flags))
+            write("ledger", units_text(*units))
+            tillbox("encode", "policy", policy, name, "ledger", "receipt", says=says)
+            equal(read("receipt"), receipt, f"the receipt of {size} units on page {page}")
+            remove("receipt", "checkpoint")
+            for place in sorted(rng.randrange(2 * size + 1) for _ in range(2)):
+                write("ledger", units_text(*units)[:place])
+                tillbox("encode", "policy", policy, name, "ledger", "receipt", "checkpoint")
+            write("ledger", units_text(*units))
+            tillbox("encode", "last", "policy", policy, name, "ledger", "receipt", "checkpoint", says=says)
+            equal(read("receipt"), receipt, f"the receipt of {size} units on page {page}, cut")
+            over = line(f"E {page} {policy} - {answer.flags} {size} {len(receipt)} over")
+            equal(read("checkpoint"), over, "the line")
+
 
 # ---------------------------------------------------------------------------------------------------------------
 # Import
@@ -709,10 +949,8 @@ def test_import_of_random_bytes():
             out = [0] * (2 * size)
             answer = second_converter.convert_call(second_converter.DECODING, (5, 5, 5), table, list(journal), out)
             text = struct.pack(f"<{answer.written}H", *out[: answer.written]).decode("utf-16le", "surrogatepass")
-            names = ["undefined single", "undefined pair", "invalid"]
-            flags = ", ".join(names[i] for i in range(3) if answer.flags >> i & 1) or "none"
             write("journal", journal)
-            compare_import(name, text, flags=flags, read_total=size)
+            compare_import(name, text, flags=flags_text(answer.flags), read_total=size)
 
 
 def main():

@@ -134,7 +134,7 @@ def check_coverage(options):
     """The stored answers have every number in every command that can give it."""
     wanted = {
         "decode": (0, 1, 2, 3, 10, 11, 12, 13, 14, 15, 16),
-        "encode": (0, 2, 3, 10, 11, 12, 13, 15, 16),
+        "encode": (0, 1, 2, 3, 10, 11, 12, 13, 15, 16),
         "start": (0, 17),
         "count": (0, 3, 10, 11, 17),
         "convert": (0, 2, 3, 10, 11, 17),
@@ -189,6 +189,10 @@ def byte_reader(table):
     )
 
 
+# The codes of a unit text, in the same way: 'Reading one unit for bytes', with CR 5.
+UNIT_READER = re.compile("(?P<pair>[\ud800-\udbff][\udc00-\udfff])|(?P<alone>[\ud800-\udfff])|(?P<unit>.)", re.DOTALL)
+
+
 def whole_reading(table, direction, digits, text):
     """Document 01's uncut reading: output, flags, read."""
     steps = []  # (size, flag, unit or bytes or None, first byte)
@@ -203,8 +207,12 @@ def whole_reading(table, direction, digits, text):
             else:
                 steps.append((len(code), 4, 0xFFFF, code[0]))
     else:
-        for unit in text:
-            steps.append((1, 1, table.blocks[256 * table.index[unit >> 8] + (unit & 0xFF)], None))
+        for match in UNIT_READER.finditer("".join(map(chr, text))):
+            if match.lastgroup == "unit":
+                high, low = divmod(ord(match.group()), 256)
+                steps.append((1, 1, table.blocks[256 * table.index[high] + low], None))
+            else:
+                steps.append((len(match.group()), {"pair": 1, "alone": 4}[match.lastgroup], 0xFFFF, None))
     output, flags, total = [], 0, 0
     default = table.default_unit if direction == "D" else table.default_byte
     for size, flag, value, first in steps:
@@ -231,7 +239,10 @@ def check_lists(options):
         direction = chance.choice("DE")
         digits = tuple(chance.choice((0, 1, 2, 3, 4, 5, 5)) for _ in range(3))
         size = chance.randrange(25)
-        makers = {"D": (random_scripts.random_bytes, random_scripts.random_halves), "E": (random_scripts.random_units,)}
+        makers = {
+            "D": (random_scripts.random_bytes, random_scripts.random_halves),
+            "E": (random_scripts.random_units, random_scripts.random_surrogates),
+        }
         text = chance.choice(makers[direction])(chance, tables, size)
         whole = whole_reading(table, direction, digits, text)
         run = converter.start_call(direction, table.page, digits)
@@ -269,11 +280,11 @@ def check_lists(options):
             expect(converter.keeps_run_rules(run), f"list {number}: the run breaks the rules")
             if ended:
                 expect((joined, run.flags, run.read) == whole, f"list {number}: ended otherwise than the uncut reading")
-        # to the end, one element at a time, with just enough room
+        # to the end, one element at a time, with just enough room: for a carried one that is a code alone, and one more code
         run = converter.start_call(direction, table.page, digits)
         joined = []
         for place in range(size + 1):
-            out = [-1] * 2
+            out = [-1] * (2 if direction == "D" else 3)
             outcome = converter.run_call(direction, run, table, text[place : place + 1], place == size, out)
             if outcome.number == 15:
                 break
@@ -283,18 +294,20 @@ def check_lists(options):
         expect((counted.flags, counted.read, counted.written) == (whole[1], whole[2], len(whole[0])), "counting")
 
 
-def fed_in_pieces(table, digits, text, ends, room):
-    """The run after a text is fed, each piece from the first unread byte on, in calls that all have this room, until a call moves
-    nothing; the joined output. Each call keeps the reading promise."""
-    run, joined = converter.start_call("D", table.page, digits), []
+def fed_in_pieces(table, direction, digits, text, ends, room):
+    """The run after a text is fed, each piece from the first unread element on, in calls that all have this room, until a call
+    moves nothing; the joined output. Each call with room for a code keeps the reading promise, and each run has a line."""
+    run, joined = converter.start_call(direction, table.page, digits), []
     for end in ends:
         while not run.ended:
             out = [-1] * room
             piece = text[run.read : end]
-            after = converter.run_call("D", run, table, piece, end == len(text), out)
+            after = converter.run_call(direction, run, table, piece, end == len(text), out)
             joined += out[: after.written]
             settled = run.carried is not None and after.run.carried is None
-            expect(after.read >= 1 or settled or not piece or room == 0, f"{bytes(text).hex()}: nothing is read or settled")
+            has_room = room >= (1 if direction == "D" else 2)
+            expect(after.read >= 1 or settled or not piece or not has_room, f"{text}: nothing is read or settled")
+            expect(converter.load_call(converter.line_of(after.run)) == after.run, f"{text}: the run is not read back")
             moved = after.run != run
             run = after.run
             if not moved:
@@ -302,22 +315,32 @@ def fed_in_pieces(table, digits, text, ends, room):
     return run, joined
 
 
-def check_cut_halves(options):
-    """Every cutting of every short text of leads and bytes after them, with rooms 0 to 3, against the uncut reading."""
-    table = load_table("sample.tbl")
+def check_cuttings(table, direction, elements, policies, ends_with_room):
+    """Every cutting of every text of up to four of the elements, with rooms 0 to 3, against the uncut reading."""
     for count in range(5):
         places = range(1, count)
         cuttings = [(*cut, count) for number in range(max(count, 1)) for cut in itertools.combinations(places, number)]
-        for text in itertools.product((0x82, 0x0A, 0x7C, 0x80), repeat=count):
-            for digit in (0, 1, 5):
-                output, flags, total = whole_reading(table, "D", (5, 5, digit), text)
-                for ends, room in itertools.product(cuttings, (0, 1, 2, 3)):
-                    run, joined = fed_in_pieces(table, (5, 5, digit), text, ends, room)
-                    name = f"{bytes(text).hex()}, pieces up to {ends}, digit {digit}, room {room}"
-                    expect(joined == output[: len(joined)], f"{name}: output is no beginning of the uncut one")
-                    expect(run.ended or room == 0, f"{name}: not ended")
-                    if run.ended:
-                        expect((joined, run.flags, run.read) == (output, flags, total), f"{name}: another end")
+        for text, digits in itertools.product(itertools.product(elements, repeat=count), policies):
+            output, flags, total = whole_reading(table, direction, digits, text)
+            for ends, room in itertools.product(cuttings, (0, 1, 2, 3)):
+                run, joined = fed_in_pieces(table, direction, digits, text, ends, room)
+                name = f"{text}, pieces up to {ends}, digits {digits}, room {room}"
+                expect(joined == output[: len(joined)], f"{name}: output is no beginning of the uncut one")
+                expect(run.ended or room < ends_with_room, f"{name}: not ended")
+                if run.ended:
+                    expect((joined, run.flags, run.read) == (output, flags, total), f"{name}: another end")
+
+
+def check_cut_halves(options):
+    """Every cutting of every short text of leads and bytes after them."""
+    policies = ((5, 5, 0), (5, 5, 1), (5, 5, 5))
+    check_cuttings(load_table("sample.tbl"), "D", (0x82, 0x0A, 0x7C, 0x80), policies, 1)
+
+
+def check_cut_surrogates(options):
+    """Every cutting of every short text of high and low surrogates and other units, with codes of one byte and of two."""
+    policies = ((5, 5, 0), (5, 5, 1), (5, 5, 5), (0, 5, 5), (1, 5, 0))
+    check_cuttings(load_table("surrogate_codes.tbl"), "E", (0xD83D, 0xDE00, 0xD7FF, 0xE000), policies, 2)
 
 
 def check_return(options):
@@ -326,7 +349,7 @@ def check_return(options):
         table = load_table("sample.tbl" if page == 7 else f"cp{page}.tbl")
         units, codes = [], []
         for unit in range(0x10000):
-            encoded = converter.read_unit(table, unit)
+            encoded = converter.read_unit(table, unit, None)
             if encoded.kind != 0:
                 continue
             decoded = converter.read_code(table, encoded.meaning[0], (encoded.meaning + [None])[1])
@@ -335,7 +358,7 @@ def check_return(options):
                 codes += encoded.meaning
         expect(len(units) > 100, f"page {page}: too few units")
         if page != 7:
-            known = sum(1 for unit in range(0x10000) if converter.read_unit(table, unit).kind == 0)
+            known = sum(1 for unit in range(0x10000) if converter.read_unit(table, unit, None).kind == 0)
             expect(known == len(units), f"page {page}: a code does not come back")
         out = [0] * len(codes)
         expect(converter.convert_call("E", (0, 0, 0), table, units, out).number == 0 and out == codes, f"page {page}")
@@ -435,18 +458,10 @@ def wrong_converters():
     def line_without_carried(run):
         return right["line_of"](converter.replace(run, carried=None))
 
-    def drop_on_empty_piece(table, digits, carried, piece, last, room):
-        taken = right["take_bytes"](table, digits, carried, piece, last, room)
-        return converter.replace(taken, carried=None) if not piece else taken
-
-    def flag_for_carried(table, digits, carried, piece, last, room):
-        taken = right["take_bytes"](table, digits, carried, piece, last, room)
-        return converter.replace(taken, flags=taken.flags | 4) if taken.number == 1 else taken
-
     def high_byte_in_last_place(direction, run, table, piece, last, out):
         outcome = right["run_call"](direction, run, table, piece, last, out)
         if outcome.number == 2 and direction == "E" and outcome.written == len(out) - 1:
-            code = right["read_unit"](table, piece[outcome.read]).meaning
+            code = right["read_unit"](table, piece[outcome.read], None).meaning
             if len(code) == 2:
                 out[-1] = code[0]
         return outcome
@@ -483,27 +498,6 @@ def wrong_converters():
         if table.classes[first] in (0, 4) and second is not None:
             return converter.Code(2, 4, [])
         return code
-
-    def surrogates_undefined(table, unit):
-        return converter.Code(1, 1, []) if 0xD800 <= unit <= 0xDFFF else right["read_unit"](table, unit)
-
-    def carry_with_room_only(table, digits, carried, piece, last, room):
-        taken = right["take_bytes"](table, digits, carried, piece, last, room)
-        if taken.number == 1 and room == len(taken.output) and carried is None:
-            return converter.replace(taken, number=2, read=taken.read - 1, carried=None)
-        return taken
-
-    def carry_in_last_call(table, digits, carried, piece, last, room):
-        taken = right["take_bytes"](table, digits, carried, piece, last, room)
-        if last and taken.number == 2 and piece and taken.read == len(piece) - 1 and table.classes[piece[-1]] in (2, 6):
-            return converter.replace(taken, read=len(piece), carried=piece[-1])
-        return taken
-
-    def stop_needs_room(table, digits, carried, piece, last, room):
-        taken = right["take_bytes"](table, digits, carried, piece, last, room)
-        if taken.number == 3 and room == len(taken.output):
-            return right["take_bytes"](table, tuple(digit or 5 for digit in digits), carried, piece, last, room)
-        return taken
 
     def weigh_what_is_read(run, direction, table, piece):
         refusal = right["run_call_refusal"](run, direction, table, piece)
@@ -557,18 +551,12 @@ def wrong_converters():
 
     return (
         ("the carried byte is dropped when saved", "line_of", line_without_carried),
-        ("the carried byte is dropped at an empty piece", "take_bytes", drop_on_empty_piece),
-        ("a carried lead sets the invalid flag", "take_bytes", flag_for_carried),
         ("the high byte goes into the last free place", "run_call", high_byte_in_last_place),
         ("the default unit's low half is the default byte", "policy_output", low_half_of_default_unit),
         ("pair blocks by the distance to 80", "read_code", blocks_by_distance),
         ("a table entry before the class", "read_code", entry_before_class),
         ("a character equal to the default unit is undefined", "read_code", default_is_undefined),
         ("a never byte takes a second one", "read_code", never_takes_two),
-        ("surrogates are not looked up", "read_unit", surrogates_undefined),
-        ("a lead is carried only with room", "take_bytes", carry_with_room_only),
-        ("a lead is carried in a last call", "take_bytes", carry_in_last_call),
-        ("stopping needs room", "take_bytes", stop_needs_room),
         ("16 weighs less than the piece", "run_call_refusal", weigh_what_is_read),
         ("15 before 12 and 13", "run_call_refusal", ended_before_rules),
         ("16 before 15", "run_call_refusal", limit_before_end),
@@ -585,9 +573,97 @@ def wrong_converters():
     )
 
 
+def wrong_takings(direction):
+    """The same for taking codes in one direction: what is carried, then what is settled alone and leaves the next one unread."""
+    take_codes = converter.take_codes
+
+    def may_be_carried(table, element):
+        return converter.may_be_carried(direction, table, element)
+
+    def changed(change):
+        """Taking codes in this direction, with what was taken changed."""
+
+        def wrong(asked, table, digits, carried, piece, last, room):
+            taken = take_codes(asked, table, digits, carried, piece, last, room)
+            return taken if asked != direction else change(taken, table, digits, carried, piece, last, room)
+
+        return wrong
+
+    def drop_on_empty_piece(taken, table, digits, carried, piece, last, room):
+        return taken if piece else converter.replace(taken, carried=None)
+
+    def flag_for_carried(taken, table, digits, carried, piece, last, room):
+        return converter.replace(taken, flags=taken.flags | 4) if taken.number == 1 else taken
+
+    def carry_with_room_only(taken, table, digits, carried, piece, last, room):
+        if taken.number == 1 and room == len(taken.output) and carried is None:
+            return converter.replace(taken, number=2, read=taken.read - 1, carried=None)
+        return taken
+
+    def carry_in_last_call(taken, table, digits, carried, piece, last, room):
+        if last and taken.number == 2 and piece and taken.read == len(piece) - 1 and may_be_carried(table, piece[-1]):
+            return converter.replace(taken, read=len(piece), carried=piece[-1])
+        return taken
+
+    def stop_needs_room(taken, table, digits, carried, piece, last, room):
+        if taken.number == 3 and room == len(taken.output):
+            return take_codes(direction, table, tuple(digit or 5 for digit in digits), carried, piece, last, room)
+        return taken
+
+    def settled_alone(taken, table, carried, piece):
+        """What was carried is settled, and the next one is none of its code."""
+        if carried is None or not piece or taken.carried is not None:
+            return False
+        return converter.read_next(direction, table, carried, piece[0]).size == 1
+
+    def next_counted(taken, table, digits, carried, piece, last, room):
+        if settled_alone(taken, table, carried, piece):
+            return converter.replace(taken, read=min(taken.read + 1, len(piece)))
+        return taken
+
+    def stop_reads_next(taken, table, digits, carried, piece, last, room):
+        if taken.number == 3 and taken.flags & 4 and taken.read < len(piece):
+            first = piece[taken.read - 1] if taken.read else carried
+            if first is not None and may_be_carried(table, first):
+                return converter.replace(taken, read=taken.read + 1)
+        return taken
+
+    def nothing_read_nothing_done(taken, table, digits, carried, piece, last, room):
+        if taken.number == 2 and taken.read == 0 and carried is not None:
+            return converter.Taken(2, 0, [], 0, carried)
+        return taken
+
+    def kept_if_nothing_written(taken, table, digits, carried, piece, last, room):
+        if taken.number == 2 and taken.read == 0 and not taken.output and carried is not None:
+            return converter.Taken(2, 0, [], 0, carried)
+        return taken
+
+    def all_read_when_settled(taken, table, digits, carried, piece, last, room):
+        if taken.number == 2 and taken.read == 0 and settled_alone(taken, table, carried, piece):
+            return converter.replace(taken, number=0)
+        return taken
+
+    what = {"D": "lead", "E": "high surrogate"}[direction]
+    carrying = (
+        (f"a carried {what} is dropped at an empty piece", drop_on_empty_piece),
+        (f"a carried {what} sets the invalid flag", flag_for_carried),
+        (f"a {what} is carried only with room", carry_with_room_only),
+        (f"a {what} is carried in a last call", carry_in_last_call),
+        (f"stopping needs room, direction {direction}", stop_needs_room),
+    )
+    settling = (
+        (f"the next one is counted as read when a carried {what} is settled alone", next_counted),
+        (f"stopping at a {what} alone reads the next one too", stop_reads_next),
+        (f"a call that reads nothing does nothing, direction {direction}", nothing_read_nothing_done),
+        (f"a call that reads and writes nothing does nothing, direction {direction}", kept_if_nothing_written),
+        (f"a {what} settled with nothing read is answered 0", all_read_when_settled),
+    )
+    return tuple(tuple((title, "take_codes", changed(change)) for title, change in part) for part in (carrying, settling))
+
+
 def wrong_half_converters():
     """The same for a lead and a byte that may not be second (document 02, CR 2)."""
-    read_code, take_bytes = converter.read_code, converter.take_bytes
+    read_code, take_codes = converter.read_code, converter.take_codes
 
     def sized(size_of):
         """Where a lead is followed by a byte that may not be second, the code has another size."""
@@ -610,47 +686,11 @@ def wrong_half_converters():
         alone = table.classes[first] in (2, 6) and second is not None and code.size == 1
         return converter.Code(1, 2, []) if alone else code
 
-    def settled_alone(table, carried, piece, taken):
-        """The carried lead was settled and the next byte is none of its code."""
-        return bool(carried is not None and piece and taken.carried is None and read_code(table, carried, piece[0]).size == 1)
-
-    def next_counted(table, digits, carried, piece, last, room):
-        taken = take_bytes(table, digits, carried, piece, last, room)
-        if settled_alone(table, carried, piece, taken):
-            return converter.replace(taken, read=min(taken.read + 1, len(piece)))
-        return taken
-
-    def stop_reads_next(table, digits, carried, piece, last, room):
-        taken = take_bytes(table, digits, carried, piece, last, room)
-        if taken.number == 3 and taken.flags & 4 and taken.read < len(piece) and piece[taken.read] < 0x80:
-            lead = piece[taken.read - 1] if taken.read else carried
-            if lead is not None and table.classes[lead] in (2, 6):
-                return converter.replace(taken, read=taken.read + 1)
-        return taken
-
-    def nothing_read_nothing_done(table, digits, carried, piece, last, room):
-        taken = take_bytes(table, digits, carried, piece, last, room)
-        if taken.number == 2 and taken.read == 0 and carried is not None:
-            return converter.Taken(2, 0, [], 0, carried)
-        return taken
-
-    def kept_if_nothing_written(table, digits, carried, piece, last, room):
-        taken = take_bytes(table, digits, carried, piece, last, room)
-        if taken.number == 2 and taken.read == 0 and not taken.output and carried is not None:
-            return converter.Taken(2, 0, [], 0, carried)
-        return taken
-
-    def all_read_when_settled(table, digits, carried, piece, last, room):
-        taken = take_bytes(table, digits, carried, piece, last, room)
-        if taken.number == 2 and taken.read == 0 and settled_alone(table, carried, piece, taken):
-            return converter.replace(taken, number=0)
-        return taken
-
-    def carried_takes_next(table, digits, carried, piece, last, room):
-        if carried is not None and piece and read_code(table, carried, piece[0]).size == 1:
+    def carried_takes_next(direction, table, digits, carried, piece, last, room):
+        if direction == "D" and carried is not None and piece and read_code(table, carried, piece[0]).size == 1:
             # as after a byte of 80 or more, which may not be second on the sample page
-            return take_bytes(table, digits, carried, [0x80] + piece[1:], last, room)
-        return take_bytes(table, digits, carried, piece, last, room)
+            return take_codes(direction, table, digits, carried, [0x80] + piece[1:], last, room)
+        return take_codes(direction, table, digits, carried, piece, last, room)
 
     on_sample = (
         ("a byte below 80 is taken with the lead", "read_code", sized(lambda table, second: 2)),
@@ -661,12 +701,7 @@ def wrong_half_converters():
         ("only a line feed is left unread", "read_code", sized(lambda table, second: 1 if second == 0x0A else 2)),
         ("a byte that may be second is not asked for", "read_code", any_low_byte),
         ("a lead that is a code alone is an undefined pair", "read_code", low_is_pair),
-        ("the next byte is counted as read when a carried lead is settled alone", "take_bytes", next_counted),
-        ("stopping reads the next byte too", "take_bytes", stop_reads_next),
-        ("a call that reads nothing does nothing", "take_bytes", nothing_read_nothing_done),
-        ("a call that reads and writes nothing does nothing", "take_bytes", kept_if_nothing_written),
-        ("a lead settled with nothing read is answered 0", "take_bytes", all_read_when_settled),
-        ("a carried lead takes the next byte", "take_bytes", carried_takes_next),
+        ("a carried lead takes the next byte", "take_codes", carried_takes_next),
     )
     on_other_tables = (
         ("only a single is left unread", "read_code",
@@ -675,6 +710,170 @@ def wrong_half_converters():
          sized(lambda table, second: 1 if second < 0x80 and table.singles[second] != 0xFFFF else 2)),
     )
     return on_sample, on_other_tables
+
+
+def wrong_surrogate_converters():
+    """The same for surrogates (document 02, CR 5)."""
+    right = {name: getattr(converter, name) for name in dir(converter)}
+    high, low = right["HIGH_SURROGATES"], right["LOW_SURROGATES"]
+    surrogates = range(0xD800, 0xE000)
+
+    def looked_up(table, unit):
+        """Document 01's rule before CR 5."""
+        code = table.blocks[256 * table.index[unit >> 8] + (unit & 0xFF)]
+        if code == 0xFFFF:
+            return converter.Code(1, 1, [])
+        return converter.Code(1, 0, [code] if code < 0x100 else [code >> 8, code & 0xFF])
+
+    def reading(wrong_code):
+        """Reading a surrogate is wrong where wrong_code gives a code; it is told the right one."""
+
+        def wrong(table, unit, following):
+            code = right["read_unit"](table, unit, following)
+            return (wrong_code(code, table, unit, following) if unit in surrogates else None) or code
+
+        return wrong
+
+    def pair_as(size, kind):
+        return reading(lambda code, table, unit, following: converter.Code(size, kind, []) if code.size == 2 else None)
+
+    def alone_as(size, kind, which):
+        """A surrogate that is invalid by itself, and which asks for it and the unit after it, has another size or kind."""
+        return reading(lambda code, table, unit, following: converter.Code(size, kind, [])
+                       if code.size == 1 and which(unit, following) else None)
+
+    def looked_up_if(which):
+        return reading(lambda code, table, unit, following: looked_up(table, unit) if which(code, unit) else None)
+
+    def looked_up_with_code(code, table, unit, following):
+        found = looked_up(table, unit)
+        return found if found.kind == 0 else None
+
+    def with_digits(digits_of):
+        def wrong(direction, table, digits, carried, piece, last, room):
+            digits = digits_of(digits) if direction == "E" else digits
+            return right["take_codes"](direction, table, digits, carried, piece, last, room)
+
+        return wrong
+
+    def carried_forgotten(direction, table, digits, carried, piece, last, room):
+        """A carried unit is settled before the next one is looked at."""
+        if direction == "D" or carried is None or not piece:
+            return right["take_codes"](direction, table, digits, carried, piece, last, room)
+        alone = right["take_codes"](direction, table, digits, carried, [], True, room)
+        if alone.number != 0:
+            return alone
+        rest = right["take_codes"](direction, table, digits, None, piece, last, room - len(alone.output))
+        return converter.replace(rest, output=alone.output + rest.output, flags=alone.flags | rest.flags)
+
+    def carried_by(which):
+        """In encoding, what is carried."""
+
+        def wrong(direction, table, first):
+            return which(first) if direction == "E" else right["may_be_carried"](direction, table, first)
+
+        return wrong
+
+    def carries_if(rule):
+        """The run rule for a carried unit; the others are asked of the run without it."""
+
+        def wrong(run):
+            if run.direction == "D" or run.carried is None:
+                return right["keeps_run_rules"](run)
+            return right["keeps_run_rules"](converter.replace(run, carried=None)) and rule(run)
+
+        return wrong
+
+    def goes_on(run):
+        return run.carried in high and not run.ended
+
+    def no_lead_in_encoding(run, direction, table, piece):
+        refusal = right["run_call_refusal"](run, direction, table, piece)
+        if refusal in (None, 15, 16) and run.carried is not None and table.classes[run.carried & 0xFF] not in (2, 6):
+            return 14
+        return refusal
+
+    def line_without_carried(run):
+        return right["line_of"](converter.replace(run, carried=None) if run.direction == "E" else run)
+
+    def low_half_carried(run):
+        return f"00{run.carried & 0xFF:02X}" if run.direction == "E" and run.carried is not None else right["carried_field"](run)
+
+    def any_digits(direction, field):
+        return re.fullmatch(rb"-|[0-9A-F]{2}|[0-9A-F]{4}", field) is not None
+
+    def small_letters(direction, field):
+        return right["is_carried_field"](direction, field.upper())
+
+    def counted_alone(direction, digits, table, text):
+        """Counting takes each unit for a text of its own."""
+        counted = right["count_call"](direction, digits, table, text)
+        if direction == "D" or isinstance(counted, int) or counted.number != 0:
+            return counted
+        parts = [right["count_call"](direction, digits, table, [unit]) for unit in text]
+        return converter.replace(counted, written=sum(part.written for part in parts))
+
+    return (
+        ("D7FF is a high surrogate", "HIGH_SURROGATES", range(0xD7FF, 0xDC00)),
+        ("D800 is no high surrogate", "HIGH_SURROGATES", range(0xD801, 0xDC00)),
+        ("DBFF is no high surrogate", "HIGH_SURROGATES", range(0xD800, 0xDBFF)),
+        ("DC00 is a high surrogate", "HIGH_SURROGATES", range(0xD800, 0xDC01)),
+        ("DBFF is a low surrogate", "LOW_SURROGATES", range(0xDBFF, 0xE000)),
+        ("DC00 is no low surrogate", "LOW_SURROGATES", range(0xDC01, 0xE000)),
+        ("DFFF is no low surrogate", "LOW_SURROGATES", range(0xDC00, 0xDFFF)),
+        ("E000 is a low surrogate", "LOW_SURROGATES", range(0xDC00, 0xE001)),
+        ("a pair is one unit", "read_unit", pair_as(1, 1)),
+        ("a pair is invalid", "read_unit", pair_as(2, 4)),
+        ("a pair is an undefined pair", "read_unit", pair_as(2, 2)),
+        ("a pair is two invalid units", "read_unit", pair_as(1, 4)),
+        ("a surrogate alone is undefined", "read_unit", alone_as(1, 1, lambda unit, following: True)),
+        ("a high surrogate alone is undefined", "read_unit", alone_as(1, 1, lambda unit, following: unit in high)),
+        ("a low surrogate alone is undefined", "read_unit", alone_as(1, 1, lambda unit, following: unit in low)),
+        ("a high surrogate at the text's end is undefined", "read_unit",
+         alone_as(1, 1, lambda unit, following: unit in high and following is None)),
+        ("a high surrogate takes the next unit, whatever it is", "read_unit",
+         alone_as(2, 4, lambda unit, following: unit in high and following is not None)),
+        ("a high surrogate takes a high one", "read_unit",
+         alone_as(2, 4, lambda unit, following: unit in high and following is not None and following in high)),
+        ("two high surrogates are a pair", "read_unit",
+         alone_as(2, 1, lambda unit, following: unit in high and following is not None and following in high)),
+        ("a low surrogate and a high one are a pair", "read_unit",
+         alone_as(2, 1, lambda unit, following: unit in low and following is not None and following in high)),
+        ("surrogates are ordinary units, as before", "read_unit", looked_up_if(lambda code, unit: True)),
+        ("a surrogate alone is looked up", "read_unit", looked_up_if(lambda code, unit: code.size == 1)),
+        ("a high surrogate alone is looked up", "read_unit", looked_up_if(lambda code, unit: code.size == 1 and unit in high)),
+        ("a low surrogate alone is looked up", "read_unit", looked_up_if(lambda code, unit: code.size == 1 and unit in low)),
+        ("a surrogate that has a code in the table is written", "read_unit", reading(looked_up_with_code)),
+        ("the first digit for every code", "take_codes", with_digits(lambda digits: (digits[0],) * 3)),
+        ("the third digit for every code", "take_codes", with_digits(lambda digits: (digits[2],) * 3)),
+        ("a carried unit is settled before the next is seen", "take_codes", carried_forgotten),
+        ("any surrogate is carried", "may_be_carried", carried_by(lambda unit: unit in surrogates)),
+        ("low surrogates are carried", "may_be_carried", carried_by(lambda unit: unit in low)),
+        ("nothing is carried in encoding", "may_be_carried", carried_by(lambda unit: False)),
+        ("any unit is carried", "may_be_carried", carried_by(lambda unit: True)),
+        ("a carried unit asks for written plus 1", "keeps_run_rules",
+         carries_if(lambda run: goes_on(run) and run.written + 1 <= 2 * run.read)),
+        ("a carried unit asks for written plus 3", "keeps_run_rules",
+         carries_if(lambda run: goes_on(run) and run.written + 3 <= 2 * run.read)),
+        ("a carried unit asks for written below read", "keeps_run_rules",
+         carries_if(lambda run: goes_on(run) and run.written < run.read)),
+        ("a carried unit asks nothing of written", "keeps_run_rules", carries_if(goes_on)),
+        ("no encoding run carries a unit", "keeps_run_rules", carries_if(lambda run: False)),
+        ("any unit may be carried by the rules", "keeps_run_rules",
+         carries_if(lambda run: not run.ended and run.written + 2 <= 2 * run.read)),
+        ("any surrogate may be carried by the rules", "keeps_run_rules",
+         carries_if(lambda run: run.carried in surrogates and not run.ended and run.written + 2 <= 2 * run.read)),
+        ("an ended run may carry a unit", "keeps_run_rules",
+         carries_if(lambda run: run.carried in high and run.written + 2 <= 2 * run.read)),
+        ("14 in encoding too", "run_call_refusal", no_lead_in_encoding),
+        ("two hex digits in an E line", "CARRIED_DIGITS", {"D": 2, "E": 2}),
+        ("four hex digits in a D line", "CARRIED_DIGITS", {"D": 4, "E": 4}),
+        ("two or four hex digits in any line", "is_carried_field", any_digits),
+        ("small hex digits are read", "is_carried_field", small_letters),
+        ("the carried unit is dropped when saved", "line_of", line_without_carried),
+        ("the carried unit's low half is shown", "carried_field", low_half_carried),
+        ("counting takes each unit alone", "count_call", counted_alone),
+    )
 
 
 class SeparatedByLowHalf(dict):
@@ -812,10 +1011,13 @@ def expect_found_out(wrong_ones, names):
 def check_wrong_converters(options):
     """Each wrong converter is found out by at least one of the small fixed scripts."""
     expect_found_out(wrong_converters(), ("rows", "calls", "policies", "shapes", "lines", "refusals", "edges"))
+    carrying, settling = wrong_takings("D")
     on_sample, on_other_tables = wrong_half_converters()
+    expect_found_out(carrying + on_other_tables, ("calls",))
     for names in (("calls",), ("bad_halves",)):
-        expect_found_out(on_sample, names)
-    expect_found_out(on_other_tables, ("calls",))
+        expect_found_out(settling + on_sample, names)
+    carrying, settling = wrong_takings("E")
+    expect_found_out(carrying + settling + wrong_surrogate_converters(), ("surrogates",))
     expect_found_out(wrong_field_converters(), ("fields",))
 
 
@@ -864,6 +1066,7 @@ CHECKS = (
     ("further random lists", check_further_lists),
     ("lists of calls against the uncut reading", check_lists),
     ("every cutting of leads and bytes after them", check_cut_halves),
+    ("every cutting of surrogates and other units", check_cut_surrogates),
     ("texts that come back", check_return),
     ("one line a run, one run a line", check_lines),
     ("lists of calls against the fields of the uncut text", check_fields),
