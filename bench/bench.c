@@ -17,7 +17,7 @@ typedef struct {
     const table_set *tables;
     till_run run;
     iconv_t iconv;
-    size_t unread; /* units that iconv left unread at a block's end: the next block begins with them */
+    size_t unread; /* units that a peer left unread at a block's end: the next block begins with them */
     UConverter *icu;
     void *ers;
     int strict, replaced; /* strict: ICU stops where it would substitute; replaced: something was not converted */
@@ -45,7 +45,16 @@ static size_t feed_till(state *s, const void *in, size_t n, int last, void *out,
     return o.written;
 }
 
-/* iconv stops at each bad place: the caller writes the default and goes on one unit further, as callers of iconv do. */
+/* How many bytes iconv's caller goes on at a bad place: one unit, in encoding a whole surrogate pair. */
+static size_t bad_bytes(int direction, const char *from, size_t left)
+{
+    const uint8_t *b = (const uint8_t *)from;
+    if (direction != ENCODE)
+        return 1;
+    return left >= 4 && (b[1] & 0xFC) == 0xD8 && (b[3] & 0xFC) == 0xDC ? 4 : 2;
+}
+
+/* iconv stops at each bad place: the caller writes the default and goes on behind it, as callers of iconv do. */
 static size_t feed_iconv(state *s, const void *in, size_t n, int last, void *out, size_t room)
 {
     size_t unit = s->direction == ENCODE ? 2 : 1, wide = s->direction == ENCODE ? 1 : 2;
@@ -62,8 +71,9 @@ static size_t feed_iconv(state *s, const void *in, size_t n, int last, void *out
         if ((errno != EILSEQ && errno != EINVAL) || left < unit)
             die("iconv did not read a block");
         s->replaced = 1;
-        from += unit;
-        left -= unit;
+        size_t bad = bad_bytes(s->direction, from, left);
+        from += bad;
+        left -= bad;
         if (s->direction == ENCODE) {
             *to++ = (char)s->tables->default_byte;
         } else {
@@ -98,8 +108,11 @@ static size_t feed_icu(state *s, const void *in, size_t n, int last, void *out, 
     return written;
 }
 
+/* encoding_rs takes a high surrogate at a block's end for one alone: the caller leaves it unread. */
 static size_t feed_ers(state *s, const void *in, size_t n, int last, void *out, size_t room)
 {
+    s->unread = s->direction == ENCODE && !last && (((const uint16_t *)in)[n - 1] & 0xFC00) == 0xD800;
+    n -= s->unread;
     ptrdiff_t written =
         s->direction == ENCODE ? ers_encode(s->ers, in, n, last, out, room) : ers_decode(s->ers, in, n, last, out, room);
     if (written < 0)
@@ -123,6 +136,9 @@ static void open_state(state *s, const table_set *t, int direction)
     s->icu = ucnv_open(t->page == 932 ? "ibm-943_P15A-2003" : "ibm-5348_P100-1997", &error);
     if (U_FAILURE(error))
         die("ICU has no such page");
+    ucnv_setSubstChars(s->icu, "?", 1, &error);
+    if (U_FAILURE(error))
+        die("ICU does not write 3F");
     s->ers = direction == ENCODE ? ers_encoder(t->page) : ers_decoder(t->page);
 }
 
@@ -155,10 +171,12 @@ static size_t pass(state *s, int peer, const uint8_t *text, size_t units, size_t
     return written;
 }
 
+#define TEXTS 5
+
 static const struct {
     const char *name;
-    int page, damaged;
-} texts[4] = {{"ascii", 0, 0}, {"japanese", 0, 0}, {"latin", 1, 0}, {"damaged", 0, 1}};
+    int page, damaged, encode_only;
+} texts[TEXTS] = {{"ascii", 0, 0, 0}, {"japanese", 0, 0, 0}, {"latin", 1, 0, 0}, {"damaged", 0, 1, 0}, {"emoji", 0, 0, 1}};
 
 /* How many codes (decoding: single bytes and pairs) or units (encoding) a peer converts as the till converter does. */
 static void agreement(const table_set *t, int direction, int peer)
@@ -223,7 +241,7 @@ typedef struct {
     double best[PEERS];
 } cell;
 
-#define CELLS 16
+#define CELLS 18
 #define ROUNDS 4
 
 static size_t cell_pass(cell *c, int peer, int step)
@@ -281,8 +299,8 @@ int main(int argc, char **argv)
     static cell cells[CELLS];
     int n = 0, low = 0, differing = 0;
     for (int direction = 0; direction < 2; direction++)
-        for (int k = 0; k < 4; k++)
-            for (size_t block = 512; block <= 65536; block *= 128)
+        for (int k = 0; k < TEXTS; k++)
+            for (size_t block = 512; block <= 65536 && (direction == ENCODE || !texts[k].encode_only); block *= 128)
                 differing |= open_cell(&cells[n++], argv[1], k, direction, block);
     /* several rounds over all cells, so that a busy second of the machine does not spoil one of them */
     for (int round = 0; round < ROUNDS; round++)

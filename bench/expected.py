@@ -1,5 +1,6 @@
 #!/usr/bin/env python3
-"""Converts the benchmark's texts by the second converter: FOLDER/NAME.decoded and NAME.encoded; and cuts those of the cutter: NAME.cut.
+"""Converts the benchmark's texts by the second converter: FOLDER/NAME.decoded and NAME.encoded (`emoji` is encoded only); and cuts
+those of the cutter: NAME.cut.
 
 Use: expected.py FOLDER. Pieces of 65,536 units, policy 555, the last one marked last.
 """
@@ -49,22 +50,24 @@ def cut(text):
 
 def main():
     folder = sys.argv[1]
+
+    def units_of(name):
+        with open("%s/%s.units" % (folder, name), "rb") as f:
+            data = f.read()
+        return list(struct.unpack("<%dH" % (len(data) // 2), data))
+
     for name in ("journal", "figures", "notes"):
-        with open("%s/%s.units" % (folder, name), "rb") as f:
-            data = f.read()
         with open("%s/%s.cut" % (folder, name), "w") as f:
-            f.write("%d %d %d\n" % cut(list(struct.unpack("<%dH" % (len(data) // 2), data))))
-    for name, page in (("ascii", "cp932"), ("japanese", "cp932"), ("latin", "cp1252"), ("damaged", "cp932")):
+            f.write("%d %d %d\n" % cut(units_of(name)))
+    for name, page in (("ascii", "cp932"), ("japanese", "cp932"), ("latin", "cp1252"), ("damaged", "cp932"), ("emoji", "cp932")):
         table = second.read_image_file(page + ".tbl", [os.path.join(HERE, "..", "tables")])
-        with open("%s/%s.bytes" % (folder, name), "rb") as f:
-            units = convert(second.DECODING, table, list(f.read()))
-        with open("%s/%s.decoded" % (folder, name), "wb") as f:
-            f.write(struct.pack("<%dH" % len(units), *units))
-        with open("%s/%s.units" % (folder, name), "rb") as f:
-            data = f.read()
-        text = list(struct.unpack("<%dH" % (len(data) // 2), data))
+        if name != "emoji":
+            with open("%s/%s.bytes" % (folder, name), "rb") as f:
+                units = convert(second.DECODING, table, list(f.read()))
+            with open("%s/%s.decoded" % (folder, name), "wb") as f:
+                f.write(struct.pack("<%dH" % len(units), *units))
         with open("%s/%s.encoded" % (folder, name), "wb") as f:
-            f.write(bytes(convert(second.ENCODING, table, text)))
+            f.write(bytes(convert(second.ENCODING, table, units_of(name))))
 
 
 main()

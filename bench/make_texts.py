@@ -1,7 +1,8 @@
 #!/usr/bin/env python3
 """Makes the benchmark's texts in a folder: NAME.bytes (for decoding) and NAME.units (UTF-16LE, for encoding).
 
-Each has about 1 MiB of bytes and comes from a fixed seed, so that every run measures the same texts.
+Each has about 1 MiB of bytes and comes from a fixed seed, so that every run measures the same texts. The text `emoji` is for
+encoding only: its page has none.
 """
 import random
 import struct
@@ -61,6 +62,18 @@ def journal_line(r):
         r.randrange(1, 20), r.randrange(10, 20000), remark)
 
 
+EMOJI = '\U0001f375 \U0001f363 \U0001f338 \U0001f600 \U0001f389 \U0001f370 \U0001f41f \U0001f96c'.split()
+
+
+def emoji_line(r):
+    """A receipt's line: shop, number, article, number of pieces, price. Every third shop has emoji about its name."""
+    shop = r.choice(SHOPS)
+    if r.randrange(3) == 0:
+        shop = r.choice(EMOJI) + shop + r.choice(EMOJI)
+    return '%s No.%06d %s %d点 %d円\n' % (
+        shop, r.randrange(1000000), r.choice(JAPANESE), r.randrange(1, 20), r.randrange(10, 20000))
+
+
 def figures_line(r):
     """A journal of figures alone, with short fields: number, time, article number, number, price."""
     return '%06d|%02d:%02d|%d|%d|%d\n' % (
@@ -73,31 +86,31 @@ def notes_line(r):
 
 
 def text_of(line, r, page):
-    """Lines until they have SIZE bytes on the page."""
+    """Lines until they have SIZE bytes on the page; a character that it has not counts one."""
     lines = []
     size = 0
     while size < SIZE:
         lines.append(line(r))
-        size += len(lines[-1].encode(page))
+        size += len(lines[-1].encode(page, 'replace'))
     return ''.join(lines)
 
 
 def main():
     folder = sys.argv[1]
 
-    def write(name, byte_text, units):
-        with open('%s/%s.bytes' % (folder, name), 'wb') as f:
-            f.write(byte_text)
-        with open('%s/%s.units' % (folder, name), 'wb') as f:
-            f.write(units)
+    def write(name, content):
+        with open('%s/%s' % (folder, name), 'wb') as f:
+            f.write(content)
 
     for name, line, page in (('ascii', ascii_line, 'cp932'), ('japanese', japanese_line, 'cp932'), ('latin', latin_line, 'cp1252'),
                              ('journal', journal_line, 'cp932'), ('figures', figures_line, 'cp932'), ('notes', notes_line, 'cp932')):
         text = text_of(line, random.Random('till ' + name), page)
-        write(name, text.encode(page), text.encode('utf-16-le'))
+        write(name + '.bytes', text.encode(page))
+        write(name + '.units', text.encode('utf-16-le'))
+    write('emoji.units', text_of(emoji_line, random.Random('till emoji'), 'cp932').encode('utf-16-le'))
     r = random.Random('till damaged')
-    write('damaged', bytes(r.randrange(256) for _ in range(SIZE)),
-          struct.pack('<%dH' % (SIZE // 2), *(r.randrange(65536) for _ in range(SIZE // 2))))
+    write('damaged.bytes', bytes(r.randrange(256) for _ in range(SIZE)))
+    write('damaged.units', struct.pack('<%dH' % (SIZE // 2), *(r.randrange(65536) for _ in range(SIZE // 2))))
 
 
 main()

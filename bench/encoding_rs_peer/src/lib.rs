@@ -42,7 +42,7 @@ pub unsafe extern "C" fn ers_decode(d: *mut Decoder, src: *const u8, n: usize, l
     }
 }
 
-/// Encodes a block, with 3F for each unit without a code; the bytes written, or -1 if the room did not do.
+/// Encodes a block, with 3F for each character without a code; the bytes written, or -1 if the room did not do.
 #[no_mangle]
 pub unsafe extern "C" fn ers_encode(e: *mut Encoder, src: *const u16, n: usize, last: i32, dst: *mut u8, room: usize) -> isize {
     let src = std::slice::from_raw_parts(src, n);
@@ -56,14 +56,12 @@ pub unsafe extern "C" fn ers_encode(e: *mut Encoder, src: *const u16, n: usize, 
         match result {
             EncoderResult::InputEmpty => return to as isize,
             EncoderResult::OutputFull => return -1,
-            EncoderResult::Unmappable(c) => {
-                for _ in 0..c.len_utf16() {
-                    if to == room {
-                        return -1;
-                    }
-                    dst[to] = b'?';
-                    to += 1;
+            EncoderResult::Unmappable(_) => {
+                if to == room {
+                    return -1;
                 }
+                dst[to] = b'?';
+                to += 1;
             }
         }
     }
