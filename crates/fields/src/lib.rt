@@ -100,10 +100,7 @@ const LINE_FEED: u16 = 0x0A;
 fn is_separator(unit: u16) -> bool
     ensures { λ r. ⌜ r ≡ isSeparator unit ⌝ }
 {
-    if unit == BAR {
-        return true;
-    }
-    unit == LINE_FEED
+    (unit == BAR) | (unit == LINE_FEED)
 }
 
 // What a separator ends.

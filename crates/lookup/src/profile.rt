@@ -46,11 +46,14 @@ fn singles_below(classes: &[u8], to: usize) -> bool
     mark == 0
 }
 
-// Whether every byte is single.
+// Whether every byte is single. Where the first lead bytes of most pages stand is looked at first.
 pub fn only_singles(classes: &[u8]) -> bool
     requires { ⌜ length (now classes) ≡ 256 ⌝ }
     ensures { λ r. ⌜ (r ≡ true → (byte : ℕ) → byte < 256 → isSingle (entry (now (classes .entry)) byte) ≡ true) ⌝ }
 {
+    if !singles_below(&classes[128..192], 64) {
+        return false;
+    }
     singles_below(classes, 256)
 }
 

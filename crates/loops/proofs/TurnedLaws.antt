@@ -23,7 +23,7 @@ use Rattle.engine.proofs.LoopLaws.{later}
 use Rattle.engine.proofs.TurnLaws.{one-step, settled-step, wait-step, no-more}
 use Rattle.fastpath.specs.Runs.{Ran}
 use Rattle.loops.specs.declared.turns.Turn.{Turn}
-use Rattle.loops.specs.Turns.{startTurn, movedTurn, pastTurn, waitTurn, leftWaiting, stepsLeft, Ready, restOf, Turned, Advanced, Closed}
+use Rattle.loops.specs.Turns.{startTurn, movedTurn, pastTurn, waitTurn, leftWaiting, stepsLeft, Ready, restOf, Turned, Advanced, Closed, Loop}
 
 pub took-as : {k k′ : Effect} {n : ℕ} {s : Progress} {out : List ℕ} {r : Progress} {out′ : List ℕ} → k ≡ k′ → Took k n s out r out′ → Took k′ n s out r out′
 took-as {n = n} {s = s} {out = out} {r = r} {out′ = out′} e w = subst (λ (x : Effect). Took x n s out r out′) e w
@@ -169,11 +169,14 @@ module _ {R : Reader} {piece out : List ℕ} {t : Turn} {out₁ : List ℕ} {i w
     ap (λ (x : Turn). x .waits) q,
   )
 
+  pub turned-moved : (policy : Policy) (default : ℕ) → t .waits ≡ false → Ran R piece out (t .at) (t .progress .written) out₁ i w → m ≡ movedTurn t i w → Turned (converter R policy default) piece out t out₁ m
+  turned-moved policy default e a q = subst (Turned (converter R policy default) piece out t out₁) (sym q) (turned-ran policy default e a)
+
   pub ran-then : (policy : Policy) (default : ℕ) {out₂ : List ℕ} {r : Turn} → t .at < length piece → t .waits ≡ false → Ran R piece out (t .at) (t .progress .written) out₁ i w
       → m ≡ movedTurn t i w → Turned (converter R policy default) piece out₁ m out₂ r → (m .at < length piece → stepsLeft piece r < stepsLeft piece m)
       → Advanced (converter R policy default) piece out t out₂ r
   ran-then policy default {out₂} {r} h e a q b falls =
-      let ran = subst (Turned (converter R policy default) piece out t out₁) (sym q) (turned-ran policy default e a) in
+      let ran = turned-moved policy default e a q in
       record { turned = turned-then ran (ap (λ (x : Turn). x .progress .answer) q) b; falls = nearer (ltb (m .at) (length piece)) refl (ran .left) (b .left) }
     where
       nearer : (t′ : Bool) → ltb (m .at) (length piece) ≡ t′ → stepsLeft piece m ≤ stepsLeft piece t → stepsLeft piece r ≤ stepsLeft piece m → stepsLeft piece r < stepsLeft piece t
@@ -237,14 +240,6 @@ module _ {v : Converter} {last : Bool} {out : List ℕ} {t : Turn} where
       either (suc n) z = w .ends (λ y. omega arith) (halt 0)
 
 -- ---- the loop
--- F is what the whole call gives, and t and out what it has come to.
-pub record Loop (v : Converter) (last : Bool) (F : Fed) (out₀ piece out : List ℕ) (t : Turn) : Type 0 where
-  pub ready : Ready piece out t
-  pub waiting : t .waits ≡ true → v .reader .waits (t .first) ≡ true
-  pub sum : F ≡ restOf v last out t (drop (t .at) piece)
-  pub same : length out ≡ length out₀
-  pub kept : drop (t .progress .written) out ≡ drop (t .progress .written) out₀
-
 one-at-most : (b : Bool) → oneIf b ≤ 1
 one-at-most true = omega arith
 one-at-most false = omega arith
@@ -262,6 +257,14 @@ loop-start v last waits first piece out w q =
       same = refl;
       kept = refl;
     })
+
+-- the turn that a call begins with
+pub start-ready : {piece out : List ℕ} {waits : Bool} {first : ℕ} {t : Turn} → t ≡ startTurn waits first → Ready piece out t
+start-ready {piece} {out} {waits} q =
+    subst (Ready piece out) (sym q) (record { going = refl; inside = omega arith; within = omega arith; few = omega (arith, one-at-most waits) })
+
+pub start-waits : (P : ℕ → Type 0) {waits : Bool} {first : ℕ} {t : Turn} → t ≡ startTurn waits first → (waits ≡ true → P first) → t .waits ≡ true → P (t .first)
+start-waits P q h e = subst P (sym (ap (λ (x : Turn). x .first) q)) (h (sym (ap (λ (x : Turn). x .waits) q) ∙ e))
 
 ends-of : (F : Fed) (out₀ out : List ℕ) (r : Progress) → F ≡ ended r out → r .written ≤ length out → drop (r .written) out ≡ drop (r .written) out₀ → length out ≡ length out₀
     → Ends F out₀ out r

@@ -70,3 +70,11 @@ pub record Closed (v : Converter) (last : Bool) (out : List ℕ) (t : Turn) (out
   pub grows : t .progress .written ≤ r .written
   pub kept : drop (r .written) out′ ≡ drop (r .written) out
   pub gives : restOf v last out t [] ≡ ended r out′
+
+-- F is what the whole call gives, and t and out what it has come to.
+pub record Loop (v : Converter) (last : Bool) (F : Fed) (out₀ piece out : List ℕ) (t : Turn) : Type 0 where
+  pub ready : Ready piece out t
+  pub waiting : t .waits ≡ true → v .reader .waits (t .first) ≡ true
+  pub sum : F ≡ restOf v last out t (drop (t .at) piece)
+  pub same : length out ≡ length out₀
+  pub kept : drop (t .progress .written) out ≡ drop (t .progress .written) out₀

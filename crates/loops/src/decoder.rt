@@ -9,16 +9,17 @@ ghost use Rattle.codepage.specs.CodePage.{entry, isSingle, isLead};
 ghost use Rattle.codepage.specs.Lent.{over};
 ghost use Rattle.codepage.specs.Reading.{decoder};
 ghost use Rattle.lookup.specs.Profile.{LeadsAt};
-ghost use Rattle.engine.specs.Engine.{converter};
+ghost use Rattle.engine.specs.Engine.{Fed, converter};
 ghost use Rattle.engine.specs.Steps.{doesAlone, summary, Took, Ends, DecodeSizes, optional, oneIf, decodeFed};
 ghost use Rattle.loops.specs.Ways.{Way};
-ghost use Rattle.loops.specs.Turns.{stepsLeft, Ready, Turned, Advanced, Closed};
+ghost use Rattle.loops.specs.Turns.{stepsLeft, Ready, Turned, Advanced, Closed, Loop};
 use crate::turns;
 use crate::turns::Turn;
 use engine::Policy;
 use engine::policies;
 use engine::progress;
 use engine::progress::Progress;
+use fastpath::mixed;
 use fastpath::plain;
 use fastpath::runs;
 use lookup::profile::Leads;
@@ -244,25 +245,136 @@ fn at_end(
     turns::left_waiting(t)
 }
 
-// Pages with lead bytes.
-fn decode_codes(
+// Codes that have characters, many at a time, if the page keeps text below 80 as it is.
+fn first_run(
     policy: Policy,
     default: u16,
     classes: &[u8],
     singles: &[u16],
     pairs: &[u16],
-    pending: bool,
-    lead: u8,
+    leads: Leads,
     piece: &[u8],
+    t: Turn,
+    out: &mut [u16],
+) -> Turn
+    requires { ⌜ DecodeSizes (now classes) (now singles) (now pairs) ⌝ }
+    requires { ⌜ LeadsAt (now classes) leads ⌝ }
+    requires { ⌜ Ready (now piece) (now out) t × (t .waits ≡ false) ⌝ }
+    ensures { λ r. ⌜ Turned (converter (decoder (now (classes .entry)) (now (singles .entry)) (now (pairs .entry))) policy default) (now (piece .entry)) (now (out .entry)) t (now (out .exit)) r ⌝ }
+{
+    if !lookup::profile::plain_bytes(classes, singles) {
+        return t;
+    }
+    let s = t.progress;
+    let place = mixed::run_of_mixed(leads, classes, singles, pairs, piece, t.at, s.written, out);
+    turns::moved(t, place.read, place.written)
+}
+
+// Settles the lead byte that waits, if there is one and the piece has a byte.
+fn settle_first(
+    policy: Policy,
+    default: u16,
+    classes: &[u8],
+    singles: &[u16],
+    pairs: &[u16],
+    leads: Leads,
+    piece: &[u8],
+    t: Turn,
+    out: &mut [u16],
+) -> Turn
+    requires { ⌜ DecodeSizes (now classes) (now singles) (now pairs) ⌝ }
+    requires { ⌜ LeadsAt (now classes) leads ⌝ }
+    requires { ⌜ Ready (now piece) (now out) t ⌝ }
+    requires { ⌜ (t .waits ≡ true → isLead (entry (now classes) (t .first)) ≡ true) ⌝ }
+    ensures { λ r. ⌜ Turned (converter (decoder (now (classes .entry)) (now (singles .entry)) (now (pairs .entry))) policy default) (now (piece .entry)) (now (out .entry)) t (now (out .exit)) r ⌝ }
+{
+    if !t.waits {
+        return t;
+    }
+    if piece.len() <= t.at {
+        return t;
+    }
+    settle(
+        policy,
+        default,
+        classes,
+        singles,
+        pairs,
+        leads,
+        piece,
+        t,
+        out,
+    )
+}
+
+// The beginning of a piece: a lead byte that waits is settled, and codes that have characters are taken many at a time.
+fn begin(
+    policy: Policy,
+    default: u16,
+    classes: &[u8],
+    singles: &[u16],
+    pairs: &[u16],
+    leads: Leads,
+    piece: &[u8],
+    t: Turn,
+    out: &mut [u16],
+) -> Turn
+    requires { ⌜ DecodeSizes (now classes) (now singles) (now pairs) ⌝ }
+    requires { ⌜ LeadsAt (now classes) leads ⌝ }
+    requires { ⌜ Ready (now piece) (now out) t ⌝ }
+    requires { ⌜ (t .waits ≡ true → isLead (entry (now classes) (t .first)) ≡ true) ⌝ }
+    ensures { λ r. ⌜ Turned (converter (decoder (now (classes .entry)) (now (singles .entry)) (now (pairs .entry))) policy default) (now (piece .entry)) (now (out .entry)) t (now (out .exit)) r ⌝ }
+{
+    let next = settle_first(
+        policy,
+        default,
+        classes,
+        singles,
+        pairs,
+        leads,
+        piece,
+        t,
+        out,
+    );
+    let s = next.progress;
+    if s.answer != 0 {
+        return next;
+    }
+    if next.waits {
+        return next;
+    }
+    first_run(
+        policy,
+        default,
+        classes,
+        singles,
+        pairs,
+        leads,
+        piece,
+        next,
+        out,
+    )
+}
+
+// The turns of a call from a place on, and its end.
+fn decode_rest(
+    policy: Policy,
+    default: u16,
+    classes: &[u8],
+    singles: &[u16],
+    pairs: &[u16],
+    leads: Leads,
+    piece: &[u8],
+    from: Turn,
     last: bool,
     out: &mut [u16],
 ) -> Progress
     requires { ⌜ DecodeSizes (now classes) (now singles) (now pairs) ⌝ }
-    requires { ⌜ (pending ≡ true → isLead (entry (now classes) lead) ≡ true) ⌝ }
-    ensures { λ r. ⌜ Ends (decodeFed (now (classes .entry)) (now (singles .entry)) (now (pairs .entry)) policy default last (length (now (out .entry))) (optional pending lead) (now (piece .entry))) (now (out .entry)) (now (out .exit)) r ⌝ }
+    requires { ⌜ LeadsAt (now classes) leads ⌝ }
+    requires { ⌜ Ready (now piece) (now out) from × (from .waits ≡ true → isLead (entry (now classes) (from .first)) ≡ true) ⌝ }
+    ensures { λ r. ⌜ (length (now (out .exit)) ≡ length (now (out .entry))) × ((F : Fed) (before : List ℕ) → Loop (converter (decoder (now (classes .entry)) (now (singles .entry)) (now (pairs .entry))) policy default) last F before (now (piece .entry)) (now (out .entry)) from → Ends F before (now (out .exit)) r) ⌝ }
 {
-    let leads = lookup::profile::leads_of(classes);
-    let mut t = turns::start(pending, lead as u16);
+    let mut t = from;
     while t.at < piece.len() {
         t = codes_turn(
             policy,
@@ -281,6 +393,54 @@ fn decode_codes(
         }
     }
     at_end(policy, default, classes, singles, t, last, out)
+}
+
+// Pages with lead bytes.
+fn decode_codes(
+    policy: Policy,
+    default: u16,
+    classes: &[u8],
+    singles: &[u16],
+    pairs: &[u16],
+    pending: bool,
+    lead: u8,
+    piece: &[u8],
+    last: bool,
+    out: &mut [u16],
+) -> Progress
+    requires { ⌜ DecodeSizes (now classes) (now singles) (now pairs) ⌝ }
+    requires { ⌜ (pending ≡ true → isLead (entry (now classes) lead) ≡ true) ⌝ }
+    ensures { λ r. ⌜ Ends (decodeFed (now (classes .entry)) (now (singles .entry)) (now (pairs .entry)) policy default last (length (now (out .entry))) (optional pending lead) (now (piece .entry))) (now (out .entry)) (now (out .exit)) r ⌝ }
+{
+    let leads = lookup::profile::leads_of(classes);
+    let start = turns::start(pending, lead as u16);
+    let t = begin(
+        policy,
+        default,
+        classes,
+        singles,
+        pairs,
+        leads,
+        piece,
+        start,
+        out,
+    );
+    let s = t.progress;
+    if s.answer != 0 {
+        return s;
+    }
+    decode_rest(
+        policy,
+        default,
+        classes,
+        singles,
+        pairs,
+        leads,
+        piece,
+        t,
+        last,
+        out,
+    )
 }
 
 // How a call goes on: 1 not at all, its piece was plain and is copied; 2 by singles; else by codes.

@@ -5,9 +5,9 @@ use mathlib.Core.Path.{_≡_, _∙_, refl, ap}
 use Rattle.codepage.specs.Reading.{decoder}
 use Rattle.engine.specs.Engine.{converter}
 use Rattle.engine.specs.Steps.{decodeFed}
-use Rattle.loops.specs.Turns.{stepsLeft}
+use Rattle.loops.specs.Turns.{stepsLeft, Loop}
 use Rattle.loops.specs.declared.turns.Turn.{Turn}
-use Rattle.loops.proofs.TurnedLaws.{Loop, loop-start, loop-turn, loop-stop, loop-end, closed-none}
+use Rattle.loops.proofs.TurnedLaws.{loop-start, loop-turn, loop-stop, loop-end, closed-none}
 use borrow.Author.Needs.{needs}
 use Rattle.loops.proofs.decoder.decode_singles.Statement.{statement}
 use Rattle.loops.proofs.decoder.decode_singles.Tie as tie

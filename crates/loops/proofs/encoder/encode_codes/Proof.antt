@@ -6,8 +6,8 @@ use Rattle.codepage.specs.Reading.{encoder}
 use Rattle.engine.specs.Engine.{converter}
 use Rattle.engine.specs.Steps.{optional, encodeFed}
 use Rattle.engine.proofs.EncodeLaws.{encoder-waits, encoder-high}
-use Rattle.loops.specs.Turns.{stepsLeft}
-use Rattle.loops.proofs.TurnedLaws.{Loop, loop-start, loop-turn, loop-stop, loop-end}
+use Rattle.loops.specs.Turns.{stepsLeft, Loop}
+use Rattle.loops.proofs.TurnedLaws.{loop-start, loop-turn, loop-stop, loop-end}
 use Rattle.loops.proofs.encoder.encode_codes.Statement.{statement}
 use Rattle.loops.proofs.encoder.encode_codes.Tie as tie
 
