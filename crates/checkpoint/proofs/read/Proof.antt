@@ -34,14 +34,16 @@ closing-at-requires c κs = search needs
 
 returns : tie.Need-returns
 returns c =
-    let at-number-at4 = c .before .before .before in
+    let at-closing-at = c .before .before in
+    let at-place = at-closing-at .before in
+    let at-number-at4 = at-place in
     let at-number-at3 = at-number-at4 .before in
     let at-number-at2 = at-number-at3 .before in
     let at-carried-at = at-number-at2 .before in
     let at-digits-at = at-carried-at .before in
     let at-number-at = at-digits-at .before in
     let at-letter-at = at-number-at .before in
-    sym (not-a-line _ _ _ (all-found _ (record { direction = at-letter-at .letter-at .result .value; page = at-number-at .number-at .result .value; policy = at-digits-at .digits-at .result .value; pending = at-carried-at .carried-at .result .value; flags = at-number-at2 .number-at2 .result .value; read = at-number-at3 .number-at3 .result .value; written = at-number-at4 .number-at4 .result .value; ended = c .before .before .closing-at .result .value }) _ _ _ _ _ _ _ _ (at-letter-at .letter-at .ensures) (at-number-at .number-at .ensures .1) (at-digits-at .digits-at .ensures) (at-carried-at .carried-at .ensures) (at-number-at2 .number-at2 .ensures .1) (at-number-at3 .number-at3 .ensures .1) (at-number-at4 .number-at4 .ensures .1) (c .before .before .closing-at .ensures)) (c .if1 .taken))
+    sym (not-a-line _ _ _ (all-found _ (record { direction = at-letter-at .letter-at .result .value; page = at-number-at .number-at .result .value; policy = at-digits-at .digits-at .result .value; pending = at-carried-at .carried-at .result .value; flags = at-number-at2 .number-at2 .result .value; read = at-number-at3 .number-at3 .result .value; written = at-number-at4 .number-at4 .result .value; ended = at-closing-at .closing-at .result .value }) _ _ _ _ _ _ _ _ (at-letter-at .letter-at .ensures) (at-number-at .number-at .ensures .1) (at-digits-at .digits-at .ensures) (at-carried-at .carried-at .ensures) (at-number-at2 .number-at2 .ensures .1) (at-number-at3 .number-at3 .ensures .1) (at-number-at4 .number-at4 .ensures .1) (at-closing-at .closing-at .ensures)) (c .if1 .taken))
 
 cast-t17 : tie.Need-cast-t17
 cast-t17 c = search needs
@@ -54,7 +56,8 @@ valid-run-requires c κs = search needs
 
 returns-2 : tie.Need-returns-2
 returns-2 c =
-    let at-before = c .before .before .before .before in
+    let at-place = c .before .before .before .before in
+    let at-before = at-place in
     let at-if1 = at-before .before in
     let at-closing-at = at-if1 .before .before in
     let at-number-at4 = at-closing-at .before in
@@ -68,7 +71,8 @@ returns-2 c =
 
 returns-3 : tie.Need-returns-3
 returns-3 c =
-    let at-before = c .before .before .before .before in
+    let at-place = c .before .before .before .before in
+    let at-before = at-place in
     let at-if1 = at-before .before in
     let at-closing-at = at-if1 .before .before in
     let at-number-at4 = at-closing-at .before in

@@ -26,7 +26,12 @@ same-length c = search needs
 
 returns-2 : tie.Need-returns-2
 returns-2 c =
-    found-held _ _ _ _ _ _ _ _ (sym (length-take-le _ _ (c .before .before .before .before .before .before .before .before .before .pre .1))) (c .before .before .before .before .before .before .read-with .ensures) (c .before .before .before .before .before .fresh .ensures) (c .before .before .before .before .if1 .left) (c .before .before .lay .ensures)
+    let at-lay = c .before .before in
+    let at-if1 = at-lay .before .before in
+    let at-fresh = at-if1 .before in
+    let at-read-with = at-fresh .before in
+    let start = at-read-with .before .before .before in
+    found-held _ _ _ _ _ _ _ _ (sym (length-take-le _ _ (start .pre .1))) (at-read-with .read-with .ensures) (at-fresh .fresh .ensures) (at-if1 .if1 .left) (at-lay .lay .ensures)
 
 pub complete-spec : {M : Type 1} → statement M
 complete-spec =

@@ -13,7 +13,9 @@ nowhere-requires : tie.Need-nowhere-requires
 nowhere-requires c κs = search needs
 
 returns : tie.Need-returns
-returns c = (omega arith, found-none _ (field (upTo (c .before .before .before .args .limit) number)) _ _ _ (field-none (upTo (c .before .before .before .args .limit) number) _ _ (limited-end _ _ _ (c .before .if1 .taken))) (c .nowhere .ensures))
+returns c =
+    let start = c .before .before .before in
+    (omega arith, found-none _ (field (upTo (start .args .limit) number)) _ _ _ (field-none (upTo (start .args .limit) number) _ _ (limited-end _ _ _ (c .before .if1 .taken))) (c .nowhere .ensures))
 
 shared-slice-read-digit-value : tie.Need-shared-slice-read-digit-value
 shared-slice-read-digit-value c = search needs
@@ -26,10 +28,12 @@ nowhere-requires-2 c κs = search needs
 
 returns-2 : tie.Need-returns-2
 returns-2 c =
-    let at-before = c .before .before .before in
+    let at-digit-value = c .before .before in
+    let at-place = at-digit-value .before in
+    let at-before = at-place in
     let at-if1 = at-before .before in
     let entry = at-if1 .before .before in
-    (omega arith, found-none _ (field (upTo (entry .args .limit) number)) _ _ _ (field-none (upTo (entry .args .limit) number) _ _ (limited-none _ _ _ (at-if1 .if1 .left) (digit-none (getD (entry .args .line .now) (entry .args .at) 0) _ (c .before .before .digit-value .ensures) (c .before .if2 .taken)))) (c .nowhere2 .ensures))
+    (omega arith, found-none _ (field (upTo (entry .args .limit) number)) _ _ _ (field-none (upTo (entry .args .limit) number) _ _ (limited-none _ _ _ (at-if1 .if1 .left) (digit-none (getD (entry .args .line .now) (entry .args .at) 0) _ (at-digit-value .digit-value .ensures) (c .before .if2 .taken)))) (c .nowhere2 .ensures))
 
 add-tab-at : tie.Need-add-tab-at
 add-tab-at c = search needs
@@ -39,7 +43,8 @@ tab-at-requires c κs = search needs
 
 returns-3 : tie.Need-returns-3
 returns-3 c =
-    let at-digit-value = c .before .before .before in
+    let at-place = c .before .before .before in
+    let at-digit-value = at-place in
     let at-if1 = at-digit-value .before .before in
     let entry = at-if1 .before .before in
     let zero-first : at-digit-value .digit-value .result ≡ 0 = omega (arith, c .before .if3 .taken) in
@@ -59,7 +64,8 @@ tab-at-requires-2 c κs = search needs
 
 returns-4 : tie.Need-returns-4
 returns-4 c =
-    let at-digit-value = c .before .before .before .before in
+    let at-place = c .before .before .before .before in
+    let at-digit-value = at-place in
     let at-if1 = at-digit-value .before .before in
     let entry = at-if1 .before .before in
     (c .before .more-digits .ensures .0, field-found (upTo (entry .args .limit) number) _ _ _ _ _ (c .before .more-digits .ensures .1 ∙ sym (limited-first _ _ _ _ (at-if1 .if1 .left) (value-some _ _ (at-digit-value .digit-value .ensures) (omega arith)) (omega arith))) (c .tab-at2 .ensures))

@@ -34,8 +34,10 @@ loop-less c = omega arith
 
 loop-again : tie.Need-loop-again Inv-loop μ-loop
 loop-again c =
-    let entry = c .before .before .before in
-    (omega arith, omega arith, simp length-set (c .before .before .loop .inv .2), ap (λ (l : List ℕ). set l (entry .args .at + c .before .before .loop .i) (getD (entry .args .bytes .now) (c .before .before .loop .i) 0)) (c .before .before .loop .inv .3) ∙ copy-turn _ _ _ (c .before .before .loop .i) (c .before .loop-test .taken))
+    let turn = c .before .before in
+    let at-place = turn .before in
+    let entry = at-place in
+    (omega arith, omega arith, simp length-set (turn .loop .inv .2), ap (λ (l : List ℕ). set l (entry .args .at + turn .loop .i) (getD (entry .args .bytes .now) (turn .loop .i) 0)) (turn .loop .inv .3) ∙ copy-turn _ _ _ (turn .loop .i) (c .before .loop-test .taken))
 
 add-result : tie.Need-add-result Inv-loop μ-loop
 add-result c = omega arith

@@ -8,25 +8,29 @@ use Rattle.checkpoint.proofs.writer.put_line.Tie as tie
 
 put-start-requires : tie.Need-put-start-requires
 put-start-requires c κs =
-    let a = c .before .before .args in
-    (c .before .before .pre .0, front-room (startFields (a .run)) (fieldOf (carriedOf (a .run .pending))) _ _ (front-room ((startFields (a .run)) ++ (fieldOf (carriedOf (a .run .pending)))) (totalFields (a .run)) _ _ (front-room ((startFields (a .run)) ++ (fieldOf (carriedOf (a .run .pending))) ++ (totalFields (a .run))) (closingOf (a .run .ended)) _ _ (line-room (a .run) _ (c .before .before .pre .1)))))
+    let start = c .before .before in
+    let a = start .args in
+    (start .pre .0, front-room (startFields (a .run)) (fieldOf (carriedOf (a .run .pending))) _ _ (front-room ((startFields (a .run)) ++ (fieldOf (carriedOf (a .run .pending)))) (totalFields (a .run)) _ _ (front-room ((startFields (a .run)) ++ (fieldOf (carriedOf (a .run .pending))) ++ (totalFields (a .run))) (closingOf (a .run .ended)) _ _ (line-room (a .run) _ (start .pre .1)))))
 
 put-carried-requires : tie.Need-put-carried-requires
 put-carried-requires c κs =
-    let at-put-start = c .before .before .before in
+    let at-place = c .before .before .before in
+    let at-put-start = at-place in
     let entry = at-put-start .before .before .before in
     put-room (fieldOf (carriedOf (entry .args .run .pending))) (at-put-start .put-start .ensures) (front-room ((startFields (entry .args .run)) ++ (fieldOf (carriedOf (entry .args .run .pending)))) (totalFields (entry .args .run)) _ _ (front-room ((startFields (entry .args .run)) ++ (fieldOf (carriedOf (entry .args .run .pending))) ++ (totalFields (entry .args .run))) (closingOf (entry .args .run .ended)) _ _ (line-room (entry .args .run) _ (entry .pre .1))))
 
 put-totals-requires : tie.Need-put-totals-requires
 put-totals-requires c κs =
-    let at-put-carried = c .before .before .before in
+    let at-place = c .before .before .before in
+    let at-put-carried = at-place in
     let at-put-start = at-put-carried .before .before .before .before in
     let entry = at-put-start .before .before .before in
     put-room (totalFields (entry .args .run)) (put-then (at-put-start .put-start .ensures) (at-put-carried .put-carried .ensures)) (front-room ((startFields (entry .args .run)) ++ (fieldOf (carriedOf (entry .args .run .pending))) ++ (totalFields (entry .args .run))) (closingOf (entry .args .run .ended)) _ _ (line-room (entry .args .run) _ (entry .pre .1)))
 
 put-closing-requires : tie.Need-put-closing-requires
 put-closing-requires c κs =
-    let at-put-totals = c .before .before .before in
+    let at-place = c .before .before .before in
+    let at-put-totals = at-place in
     let at-put-carried = at-put-totals .before .before .before .before in
     let at-put-start = at-put-carried .before .before .before .before in
     let entry = at-put-start .before .before .before in
@@ -37,11 +41,13 @@ same-length c = search needs
 
 returns : tie.Need-returns
 returns c =
-    let at-put-totals = c .before .before .before .before .before .before in
+    let at-put-closing = c .before .before in
+    let at-place = at-put-closing .before .before .before .before in
+    let at-put-totals = at-place in
     let at-put-carried = at-put-totals .before .before .before .before in
     let at-put-start = at-put-carried .before .before .before .before in
     let entry = at-put-start .before .before .before in
-    put-is (line-parts (entry .args .run)) (put-then (put-then (put-then (at-put-start .put-start .ensures) (at-put-carried .put-carried .ensures)) (at-put-totals .put-totals .ensures)) (c .before .before .put-closing .ensures))
+    put-is (line-parts (entry .args .run)) (put-then (put-then (put-then (at-put-start .put-start .ensures) (at-put-carried .put-carried .ensures)) (at-put-totals .put-totals .ensures)) (at-put-closing .put-closing .ensures))
 
 pub put-line-spec : {M : Type 1} → statement M
 put-line-spec =

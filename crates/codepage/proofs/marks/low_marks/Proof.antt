@@ -34,7 +34,8 @@ loop-less c = omega arith
 
 loop-again : tie.Need-loop-again Inv-loop μ-loop
 loop-again c =
-    let at-loop = c .before .before .before .before in
+    let at-place = c .before .before .before .before in
+    let at-loop = at-place in
     let entry = at-loop .before .before in
     (omega arith, omega arith, marked-more badClass 0 (entry .args .classes .now) 0 (at-loop .loop .i) (at-loop .loop .mark) _ _ (at-loop .loop .inv .0) (at-loop .loop .inv .2) (c .before .low-mark .ensures (at-loop .loop .i) (omega arith)) (c .larger .ensures .0 .0) (c .larger .ensures .0 .1) (c .larger .ensures .1))
 

@@ -27,7 +27,8 @@ returns-2 c =
 
 low-marks-requires : tie.Need-low-marks-requires
 low-marks-requires c κs =
-    let entry = c .before .before .before .before .before .before .before .before .before in
+    let at-place = c .before .before .before .before .before .before .before .before .before in
+    let entry = at-place in
     classes-size (length (entry .args .classes .now)) (length (entry .args .singles .now)) (length (entry .args .index .now)) (length (entry .args .blocks .now)) (sym (c .before .good-sizes .ensures) ∙ not-false _ (c .if2 .left))
 
 returns-3 : tie.Need-returns-3
@@ -38,9 +39,11 @@ returns-3 c =
 
 high-marks-requires : tie.Need-high-marks-requires
 high-marks-requires c κs =
-    let at-good-sizes = c .before .before .before in
+    let at-if2 = c .before .before in
+    let at-place = at-if2 .before in
+    let at-good-sizes = at-place in
     let entry = at-good-sizes .before .before .before .before .before .before .before .before in
-    classes-size (length (entry .args .classes .now)) (length (entry .args .singles .now)) (length (entry .args .index .now)) (length (entry .args .blocks .now)) (sym (at-good-sizes .good-sizes .ensures) ∙ not-false _ (c .before .before .if2 .left))
+    classes-size (length (entry .args .classes .now)) (length (entry .args .singles .now)) (length (entry .args .index .now)) (length (entry .args .blocks .now)) (sym (at-good-sizes .good-sizes .ensures) ∙ not-false _ (at-if2 .if2 .left))
 
 returns-4 : tie.Need-returns-4
 returns-4 c =
@@ -50,7 +53,8 @@ returns-4 c =
 
 largest-requires : tie.Need-largest-requires
 largest-requires c κs =
-    let at-if2 = c .before .before .before .before in
+    let at-place = c .before .before .before .before in
+    let at-if2 = at-place in
     let at-good-sizes = at-if2 .before in
     let entry = at-good-sizes .before .before .before .before .before .before .before .before in
     index-size (length (entry .args .classes .now)) (length (entry .args .singles .now)) (length (entry .args .index .now)) (length (entry .args .blocks .now)) (sym (at-good-sizes .good-sizes .ensures) ∙ not-false _ (at-if2 .if2 .left))
@@ -66,7 +70,8 @@ returns-5 c =
 
 high-leads-requires : tie.Need-high-leads-requires
 high-leads-requires c κs =
-    let at-if2 = c .before .before .before .before .before .before in
+    let at-place = c .before .before .before .before .before .before in
+    let at-if2 = at-place in
     let at-good-sizes = at-if2 .before in
     let entry = at-good-sizes .before .before .before .before .before .before .before .before in
     classes-size (length (entry .args .classes .now)) (length (entry .args .singles .now)) (length (entry .args .index .now)) (length (entry .args .blocks .now)) (sym (at-good-sizes .good-sizes .ensures) ∙ not-false _ (at-if2 .if2 .left))
@@ -85,7 +90,8 @@ returns-6 c =
 
 returns-7 : tie.Need-returns-7
 returns-7 c =
-    let at-largest = c .before .before .before in
+    let at-place = c .before .before .before in
+    let at-largest = at-place in
     let at-if4 = at-largest .before in
     let at-high-marks = at-if4 .before in
     let at-if3 = at-high-marks .before in

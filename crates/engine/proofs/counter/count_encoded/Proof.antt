@@ -39,7 +39,10 @@ encoded-requires c κs = c .before .before .before .before .before .before .befo
 
 add-count-code : tie.Need-add-count-code Inv-loop μ-loop
 add-count-code c =
-    let code = c .before .before .settle-high .ensures [] [] _ (encoder-high _ _ _ _ _ (c .before .before .before .before .before .before .loop .inv .waiting (c .before .before .before .if1 .taken))) in
+    let at-settle-high = c .before .before in
+    let at-if1 = at-settle-high .before in
+    let turn = at-if1 .before .before .before in
+    let code = at-settle-high .settle-high .ensures [] [] _ (encoder-high _ _ _ _ _ (turn .loop .inv .waiting (at-if1 .if1 .taken))) in
     omega (arith, settled-more _ _ _ code)
 
 bytes-written-requires : tie.Need-bytes-written-requires Inv-loop μ-loop
@@ -47,40 +50,67 @@ bytes-written-requires c κs = search needs
 
 count-code-requires : tie.Need-count-code-requires Inv-loop μ-loop
 count-code-requires c κs =
-    let few = c .before .before .before .before .before .before .before .loop .inv .few in
-    let short = c .before .before .before .before .before .before .before .loop .inv .short in
-    let inside = c .before .before .before .before .before .before .loop-test .taken in
-    let code = c .before .before .before .settle-high .ensures [] [] _ (encoder-high _ _ _ _ _ (c .before .before .before .before .before .before .before .loop .inv .waiting (c .before .before .before .before .if1 .taken))) in
-    (omega (arith, settled-more _ _ _ code), omega (arith, c .bytes-written .ensures, bytes-short (c .before .before .encoded .result), c .before .before .before .before .before .before .before .loop .inv .little))
+    let at-encoded = c .before .before in
+    let at-settle-high = at-encoded .before in
+    let at-if1 = at-settle-high .before in
+    let at-loop-test = at-if1 .before .before in
+    let turn = at-loop-test .before in
+    let few = turn .loop .inv .few in
+    let short = turn .loop .inv .short in
+    let inside = at-loop-test .loop-test .taken in
+    let code = at-settle-high .settle-high .ensures [] [] _ (encoder-high _ _ _ _ _ (turn .loop .inv .waiting (at-if1 .if1 .taken))) in
+    (omega (arith, settled-more _ _ _ code), omega (arith, c .bytes-written .ensures, bytes-short (at-encoded .encoded .result), turn .loop .inv .little))
 
 returns : tie.Need-returns Inv-loop μ-loop
 returns c =
-    let code = c .before .before .before .before .before .before .settle-high .ensures _ _ _ (encoder-high _ _ _ _ _ (c .before .before .before .before .before .before .before .before .before .before .loop .inv .waiting (c .before .before .before .before .before .before .before .if1 .taken))) in
-    let came = came-bytes _ _ _ _ _ (c .before .before .before .bytes-written .ensures) (c .before .before .count-code .ensures) in
-    let turn = c .before .before .before .before .before .before .before .before .before .before .loop in
-    let loop-test = c .before .before .before .before .before .before .before .before .before .loop-test in
-    let if1 = c .before .before .before .before .before .before .before .if1 in
-    let encoded = c .before .before .before .before .before .encoded in
+    let at-count-code = c .before .before in
+    let at-bytes-written = at-count-code .before in
+    let at-encoded = at-bytes-written .before .before in
+    let at-settle-high = at-encoded .before in
+    let at-if1 = at-settle-high .before in
+    let at-loop-test = at-if1 .before .before in
+    let turn-2 = at-loop-test .before in
+    let code = at-settle-high .settle-high .ensures _ _ _ (encoder-high _ _ _ _ _ (turn-2 .loop .inv .waiting (at-if1 .if1 .taken))) in
+    let came = came-bytes _ _ _ _ _ (at-bytes-written .bytes-written .ensures) (at-count-code .count-code .ensures) in
+    let turn = turn-2 .loop in
+    let loop-test = at-loop-test .loop-test in
+    let if1 = at-if1 .if1 in
+    let encoded = at-encoded .encoded in
     stop-count-settled (turn .inv) came (if1 .taken) (loop-test .taken) (encoded-settled _ _ _ _ _ _ code _ (encoded .ensures _)) (settled-size _ _ _ _ _ code) (c .if2 .taken)
 
 add-i : tie.Need-add-i Inv-loop μ-loop
 add-i c =
-    let code = c .before .before .before .before .before .before .before .settle-high .ensures [] [] _ (encoder-high _ _ _ _ _ (c .before .before .before .before .before .before .before .before .before .before .before .loop .inv .waiting (c .before .before .before .before .before .before .before .before .if1 .taken))) in
-    omega (arith, settled-more _ _ _ code, c .before .before .before .before .before .before .before .before .before .before .before .loop .inv .short, c .before .before .before .before .before .before .before .before .before .before .loop-test .taken)
+    let at-settle-high = c .before .before .before .before .before .before .before in
+    let at-if1 = at-settle-high .before in
+    let at-loop-test = at-if1 .before .before in
+    let turn = at-loop-test .before in
+    let code = at-settle-high .settle-high .ensures [] [] _ (encoder-high _ _ _ _ _ (turn .loop .inv .waiting (at-if1 .if1 .taken))) in
+    omega (arith, settled-more _ _ _ code, turn .loop .inv .short, at-loop-test .loop-test .taken)
 
 loop-less : tie.Need-loop-less Inv-loop μ-loop
 loop-less c =
-    let code = c .before .before .before .before .before .before .before .settle-high .ensures [] [] _ (encoder-high _ _ _ _ _ (c .before .before .before .before .before .before .before .before .before .before .before .loop .inv .waiting (c .before .before .before .before .before .before .before .before .if1 .taken))) in
-    omega (arith, settled-more _ _ _ code, ap oneIf (c .before .before .before .before .before .before .before .before .if1 .taken), c .before .before .before .before .before .before .before .before .before .before .loop-test .taken)
+    let at-settle-high = c .before .before .before .before .before .before .before in
+    let at-if1 = at-settle-high .before in
+    let at-loop-test = at-if1 .before .before in
+    let turn = at-loop-test .before in
+    let code = at-settle-high .settle-high .ensures [] [] _ (encoder-high _ _ _ _ _ (turn .loop .inv .waiting (at-if1 .if1 .taken))) in
+    omega (arith, settled-more _ _ _ code, ap oneIf (at-if1 .if1 .taken), at-loop-test .loop-test .taken)
 
 loop-again : tie.Need-loop-again Inv-loop μ-loop
 loop-again c =
-    let code = c .before .before .before .before .before .before .before .settle-high .ensures _ _ _ (encoder-high _ _ _ _ _ (c .before .before .before .before .before .before .before .before .before .before .before .loop .inv .waiting (c .before .before .before .before .before .before .before .before .if1 .taken))) in
-    let came = came-bytes _ _ _ _ _ (c .before .before .before .before .bytes-written .ensures) (c .before .before .before .count-code .ensures) in
-    let turn = c .before .before .before .before .before .before .before .before .before .before .before .loop in
-    let loop-test = c .before .before .before .before .before .before .before .before .before .before .loop-test in
-    let if1 = c .before .before .before .before .before .before .before .before .if1 in
-    let encoded = c .before .before .before .before .before .before .encoded in
+    let at-count-code = c .before .before .before in
+    let at-bytes-written = at-count-code .before in
+    let at-encoded = at-bytes-written .before .before in
+    let at-settle-high = at-encoded .before in
+    let at-if1 = at-settle-high .before in
+    let at-loop-test = at-if1 .before .before in
+    let turn-2 = at-loop-test .before in
+    let code = at-settle-high .settle-high .ensures _ _ _ (encoder-high _ _ _ _ _ (turn-2 .loop .inv .waiting (at-if1 .if1 .taken))) in
+    let came = came-bytes _ _ _ _ _ (at-bytes-written .bytes-written .ensures) (at-count-code .count-code .ensures) in
+    let turn = turn-2 .loop in
+    let loop-test = at-loop-test .loop-test in
+    let if1 = at-if1 .if1 in
+    let encoded = at-encoded .encoded in
     count-settled (turn .inv) came (bytes-short _) (if1 .taken) (loop-test .taken) (encoded-settled _ _ _ _ _ _ code _ (encoded .ensures _)) (settled-size _ _ _ _ _ code)
     (c .before .if2 .left)
 
@@ -94,7 +124,11 @@ loop-less-2 : tie.Need-loop-less-2 Inv-loop μ-loop
 loop-less-2 c = omega arith
 
 loop-again-2 : tie.Need-loop-again-2 Inv-loop μ-loop
-loop-again-2 c = count-wait (c .before .before .before .before .before .loop .inv) (c .before .before .if1 .left) (c .before .before .before .before .loop-test .taken) (encoder-waits _ _ _ _ _ _ (sym (c .before .is-high .ensures) ∙ c .if3 .taken))
+loop-again-2 c =
+    let at-if1 = c .before .before in
+    let at-loop-test = at-if1 .before .before in
+    let turn = at-loop-test .before in
+    count-wait (turn .loop .inv) (at-if1 .if1 .left) (at-loop-test .loop-test .taken) (encoder-waits _ _ _ _ _ _ (sym (c .before .is-high .ensures) ∙ c .if3 .taken))
 
 unit-alone-requires : tie.Need-unit-alone-requires Inv-loop μ-loop
 unit-alone-requires c κs = c .before .before .before .before .before .before .before .before .before .pre .1
@@ -129,7 +163,10 @@ returns-2 c =
     (encoder-waits _ _ _ _ _ _ (sym (is-high .ensures) ∙ if3 .left)) (encoded-one _ _ _ _ _ _ _ (unit-alone .ensures) (encoded2 .ensures _)) (c .if4 .taken)
 
 add-i-3 : tie.Need-add-i-3 Inv-loop μ-loop
-add-i-3 c = omega (arith, c .before .before .before .before .before .before .before .before .before .before .before .loop .inv .short, c .before .before .before .before .before .before .before .before .before .before .loop-test .taken)
+add-i-3 c =
+    let at-loop-test = c .before .before .before .before .before .before .before .before .before .before in
+    let turn = at-loop-test .before in
+    omega (arith, turn .loop .inv .short, at-loop-test .loop-test .taken)
 
 loop-less-3 : tie.Need-loop-less-3 Inv-loop μ-loop
 loop-less-3 c = omega (arith, c .before .before .before .before .before .before .before .before .before .before .loop-test .taken)

@@ -47,7 +47,12 @@ full-requires : tie.Need-full-requires
 full-requires c κs = search needs
 
 returns-4 : tie.Need-returns-4
-returns-4 c = rw (c .full .ensures) (bytes-one-full _ _ _ _ (c .before .before .before .before .before .before .before .before .pre .0) (c .before .before .before .before .before .before .if1 .left) (c .before .before .before .before .if2 .left) (c .before .before .if3 .taken) (c .before .if4 .left))
+returns-4 c =
+    let at-if3 = c .before .before in
+    let at-if2 = at-if3 .before .before in
+    let at-if1 = at-if2 .before .before in
+    let start = at-if1 .before .before in
+    rw (c .full .ensures) (bytes-one-full _ _ _ _ (start .pre .0) (at-if1 .if1 .left) (at-if2 .if2 .left) (at-if3 .if3 .taken) (c .before .if4 .left))
 
 sub-if5 : tie.Need-sub-if5
 sub-if5 c = search needs
@@ -56,7 +61,12 @@ full-requires-2 : tie.Need-full-requires-2
 full-requires-2 c κs = search needs
 
 returns-5 : tie.Need-returns-5
-returns-5 c = rw (c .full2 .ensures) (bytes-two-full _ _ _ _ (c .before .before .before .before .before .before .before .before .pre .0) (c .before .before .before .before .before .before .if1 .left) (c .before .before .before .before .if2 .left) (c .before .before .if3 .left) (c .before .if5 .taken))
+returns-5 c =
+    let at-if3 = c .before .before in
+    let at-if2 = at-if3 .before .before in
+    let at-if1 = at-if2 .before .before in
+    let start = at-if1 .before .before in
+    rw (c .full2 .ensures) (bytes-two-full _ _ _ _ (start .pre .0) (at-if1 .if1 .left) (at-if2 .if2 .left) (at-if3 .if3 .left) (c .before .if5 .taken))
 
 cast-out-2 : tie.Need-cast-out-2
 cast-out-2 c = search needs

@@ -103,7 +103,8 @@ same-length c = search needs
 -- src/mixed.rt:65:1
 returns : tie.Need-returns
 returns c =
-    laid-more (laid-more (laid-more (laid-more (laid-none _ _ _ _) (c .before .before .before .before .args .i) (c .before .before .before .before .args .w) (omega arith) (omega arith) (omega arith)) (c .before .before .before .before .args .i + 1) (c .before .before .before .before .args .w + 1) (omega arith) (omega arith) (simp length-set (omega arith))) (c .before .before .before .before .args .i + 2) (c .before .before .before .before .args .w + 2) (omega arith) (omega arith) (simp length-set (omega arith))) (c .before .before .before .before .args .i + 3) (c .before .before .before .before .args .w + 3) (omega arith) (omega arith) (simp length-set (omega arith))
+    let start = c .before .before .before .before in
+    laid-more (laid-more (laid-more (laid-more (laid-none _ _ _ _) (start .args .i) (start .args .w) (omega arith) (omega arith) (omega arith)) (start .args .i + 1) (start .args .w + 1) (omega arith) (omega arith) (simp length-set (omega arith))) (start .args .i + 2) (start .args .w + 2) (omega arith) (omega arith) (simp length-set (omega arith))) (start .args .i + 3) (start .args .w + 3) (omega arith) (omega arith) (simp length-set (omega arith))
 
 pub copy-four-spec : {M : Type 1} → statement M
 copy-four-spec =

@@ -49,7 +49,10 @@ same-length c = (ran-join (c .before .before .before .before .before .before .lo
 
 -- src/mixed.rt:227:13
 returns : tie.Need-returns Inv-loop μ-loop
-returns c = (omega (arith, c .before .before .before .alone-four .ensures .0), λ pairs. ran-at (ran-join (c .before .before .before .before .before .before .loop .inv .2 pairs) (c .before .before .before .alone-four .ensures .1 pairs)) (omega arith) (omega arith))
+returns c =
+    let at-alone-four = c .before .before .before in
+    let turn = at-alone-four .before .before .before in
+    (omega (arith, at-alone-four .alone-four .ensures .0), λ pairs. ran-at (ran-join (turn .loop .inv .2 pairs) (at-alone-four .alone-four .ensures .1 pairs)) (omega arith) (omega arith))
 
 -- src/mixed.rt:223:5
 loop-less : tie.Need-loop-less Inv-loop μ-loop
@@ -58,7 +61,9 @@ loop-less c = omega (arith, c .before .before .before .alone-four .ensures .0, c
 -- src/mixed.rt:223:5
 loop-again : tie.Need-loop-again Inv-loop μ-loop
 loop-again c =
-    (omega (arith, c .before .before .before .alone-four .ensures .0), (ran-join (c .before .before .before .before .before .before .loop .inv .2 []) (c .before .before .before .alone-four .ensures .1 [])) .same, λ pairs. ran-at (ran-join (c .before .before .before .before .before .before .loop .inv .2 pairs) (c .before .before .before .alone-four .ensures .1 pairs)) (omega arith) (omega arith))
+    let at-alone-four = c .before .before .before in
+    let turn = at-alone-four .before .before .before in
+    (omega (arith, at-alone-four .alone-four .ensures .0), (ran-join (turn .loop .inv .2 []) (at-alone-four .alone-four .ensures .1 [])) .same, λ pairs. ran-at (ran-join (turn .loop .inv .2 pairs) (at-alone-four .alone-four .ensures .1 pairs)) (omega arith) (omega arith))
 
 -- src/mixed.rt:210:1
 same-length-2 : tie.Need-same-length-2 Inv-loop μ-loop

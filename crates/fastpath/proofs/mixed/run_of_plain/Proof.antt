@@ -75,7 +75,9 @@ same-length-2 c = c .before .before .before .take-plain .ensures .2 .same ∙ c 
 -- src/mixed.rt:112:13
 returns-2 : tie.Need-returns-2 Inv-loop μ-loop
 returns-2 c =
-    (omega (arith, c .before .before .before .take-plain .ensures .1), λ classes singles pairs page. ran-at (ran-join (c .before .before .before .before .before .before .before .before .before .loop .inv .2 classes singles pairs page) (ran-plain classes singles pairs page (c .before .before .before .take-plain .ensures .2) (omega (arith, c .before .before .before .take-plain .ensures .1)) (omega (arith, c .before .before .before .take-plain .ensures .1)) (c .before .before .before .take-plain .ensures .3))) (omega arith) (omega arith))
+    let at-take-plain = c .before .before .before in
+    let turn = at-take-plain .before .before .before .before .before .before in
+    (omega (arith, at-take-plain .take-plain .ensures .1), λ classes singles pairs page. ran-at (ran-join (turn .loop .inv .2 classes singles pairs page) (ran-plain classes singles pairs page (at-take-plain .take-plain .ensures .2) (omega (arith, at-take-plain .take-plain .ensures .1)) (omega (arith, at-take-plain .take-plain .ensures .1)) (at-take-plain .take-plain .ensures .3))) (omega arith) (omega arith))
 
 -- src/mixed.rt:104:5
 loop-less : tie.Need-loop-less Inv-loop μ-loop
@@ -84,7 +86,9 @@ loop-less c = omega (arith, c .before .before .before .take-plain .ensures .0, c
 -- src/mixed.rt:104:5
 loop-again : tie.Need-loop-again Inv-loop μ-loop
 loop-again c =
-    (omega (arith, c .before .before .before .take-plain .ensures .1), c .before .before .before .take-plain .ensures .2 .same ∙ c .before .before .before .before .before .before .before .before .before .loop .inv .1, λ classes singles pairs page. ran-at (ran-join (c .before .before .before .before .before .before .before .before .before .loop .inv .2 classes singles pairs page) (ran-plain classes singles pairs page (c .before .before .before .take-plain .ensures .2) (omega (arith, c .before .before .before .take-plain .ensures .1)) (omega (arith, c .before .before .before .take-plain .ensures .1)) (c .before .before .before .take-plain .ensures .3))) (omega arith) (omega arith))
+    let at-take-plain = c .before .before .before in
+    let turn = at-take-plain .before .before .before .before .before .before in
+    (omega (arith, at-take-plain .take-plain .ensures .1), at-take-plain .take-plain .ensures .2 .same ∙ turn .loop .inv .1, λ classes singles pairs page. ran-at (ran-join (turn .loop .inv .2 classes singles pairs page) (ran-plain classes singles pairs page (at-take-plain .take-plain .ensures .2) (omega (arith, at-take-plain .take-plain .ensures .1)) (omega (arith, at-take-plain .take-plain .ensures .1)) (at-take-plain .take-plain .ensures .3))) (omega arith) (omega arith))
 
 -- src/mixed.rt:99:1
 same-length-3 : tie.Need-same-length-3 Inv-loop μ-loop

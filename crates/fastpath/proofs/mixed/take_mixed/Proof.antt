@@ -64,9 +64,12 @@ same-length c = search needs
 -- src/mixed.rt:197:9
 returns : tie.Need-returns
 returns c =
-    let pairs = c .before .before .before .before .before .before .before .run-of-pairs .ensures in
-    let plain = c .before .before .before .run-of-plain .ensures in
-    (omega (arith, pairs .0, plain .0), omega (arith, pairs .0, plain .0), ran-join (c .before .before .before .before .before .before .before .run-of-pairs .ensures .1 _) (c .before .before .before .run-of-plain .ensures .1 _ _ _ (c .before .before .before .before .before .before .before .before .before .before .before .before .before .before .pre .0 .1)))
+    let at-run-of-plain = c .before .before .before in
+    let at-run-of-pairs = at-run-of-plain .before .before .before .before in
+    let start = at-run-of-pairs .before .before .before .before .before .before .before in
+    let pairs = at-run-of-pairs .run-of-pairs .ensures in
+    let plain = at-run-of-plain .run-of-plain .ensures in
+    (omega (arith, pairs .0, plain .0), omega (arith, pairs .0, plain .0), ran-join (at-run-of-pairs .run-of-pairs .ensures .1 _) (at-run-of-plain .run-of-plain .ensures .1 _ _ _ (start .pre .0 .1)))
 
 -- src/mixed.rt:202:9
 run-of-alone-requires : tie.Need-run-of-alone-requires
@@ -74,11 +77,17 @@ run-of-alone-requires c κs = search needs
 
 -- src/mixed.rt:204:15
 add-t18 : tie.Need-add-t18
-add-t18 c = omega (arith, c .before .before .run-of-alone .ensures .0, c .before .before .before .before .before .before .before .before .before .before .before .before .before .before .before .before .before .before .pre .1 .1 .0, c .before .before .before .before .before .before .before .before .before .before .before .before .before .before .before .before .before .before .good .1 .1 .1 .1 .0, c .before .before .before .before .before .before .before .before .before .before .before .before .before .before .before .before .before .before .pre .1 .1 .1, c .before .before .before .before .before .before .before .before .before .before .before .before .before .before .before .before .before .before .good .1 .1 .1 .1 .1 .1 .1 .1 .0)
+add-t18 c =
+    let at-run-of-alone = c .before .before in
+    let start = at-run-of-alone .before .before .before .before .before .before .before .before .before .before .before .before .before .before .before .before in
+    omega (arith, at-run-of-alone .run-of-alone .ensures .0, start .pre .1 .1 .0, start .good .1 .1 .1 .1 .0, start .pre .1 .1 .1, start .good .1 .1 .1 .1 .1 .1 .1 .1 .0)
 
 -- src/mixed.rt:205:18
 add-t17 : tie.Need-add-t17
-add-t17 c = omega (arith, c .before .before .run-of-alone .ensures .0, c .before .before .before .before .before .before .before .before .before .before .before .before .before .before .before .before .before .before .pre .1 .1 .0, c .before .before .before .before .before .before .before .before .before .before .before .before .before .before .before .before .before .before .good .1 .1 .1 .1 .0, c .before .before .before .before .before .before .before .before .before .before .before .before .before .before .before .before .before .before .pre .1 .1 .1, c .before .before .before .before .before .before .before .before .before .before .before .before .before .before .before .before .before .before .good .1 .1 .1 .1 .1 .1 .1 .1 .0)
+add-t17 c =
+    let at-run-of-alone = c .before .before in
+    let start = at-run-of-alone .before .before .before .before .before .before .before .before .before .before .before .before .before .before .before .before in
+    omega (arith, at-run-of-alone .run-of-alone .ensures .0, start .pre .1 .1 .0, start .good .1 .1 .1 .1 .0, start .pre .1 .1 .1, start .good .1 .1 .1 .1 .1 .1 .1 .1 .0)
 
 -- src/mixed.rt:177:1
 same-length-2 : tie.Need-same-length-2
@@ -87,9 +96,14 @@ same-length-2 c = search needs
 -- src/mixed.rt:177:1
 returns-2 : tie.Need-returns-2
 returns-2 c =
-    let start = c .before .before .before .before .before .before .before .before .before .before .before .before .before .before .before .before .before .before in
-    let alone = c .before .before .run-of-alone .ensures in
-    let none = ran-at {i₂ = start .args .from} {w₂ = start .args .at} (ran-join (c .before .before .before .before .before .before .before .before .before .before .before .run-of-pairs .ensures .1 _) (c .before .before .before .before .before .before .before .run-of-plain .ensures .1 _ _ _ (c .before .before .before .before .before .before .before .before .before .before .before .before .before .before .before .before .before .before .pre .0 .1))) (omega (arith, c .before .before .before .before .if1 .left)) (omega (arith, c .before .before .before .before .if1 .left)) in
+    let at-run-of-alone = c .before .before in
+    let at-if1 = at-run-of-alone .before .before in
+    let at-run-of-plain = at-if1 .before .before .before in
+    let at-run-of-pairs = at-run-of-plain .before .before .before .before in
+    let start-2 = at-run-of-pairs .before .before .before .before .before .before .before in
+    let start = start-2 in
+    let alone = at-run-of-alone .run-of-alone .ensures in
+    let none = ran-at {i₂ = start .args .from} {w₂ = start .args .at} (ran-join (at-run-of-pairs .run-of-pairs .ensures .1 _) (at-run-of-plain .run-of-plain .ensures .1 _ _ _ (start-2 .pre .0 .1))) (omega (arith, at-if1 .if1 .left)) (omega (arith, at-if1 .if1 .left)) in
     (omega (arith, alone .0), omega (arith, alone .0), ran-join none (alone .1 _))
 
 pub take-mixed-spec : {M : Type 1} → statement M

@@ -47,16 +47,31 @@ add-copy-four-2 c = search needs
 
 -- src/mixed.rt:89:9
 copy-four-requires-2 : tie.Need-copy-four-requires-2
-copy-four-requires-2 c κs = (omega arith, omega (arith, c .before .before .before .copy-four .ensures .same, length-set (c .before .before .before .before .before .before .before .before .before .before .args .out .now) (c .before .before .before .before .before .before .before .before .before .before .args .w) (c .before .before .before .before .before .before .before .first-of .result)))
+copy-four-requires-2 c κs =
+    let at-copy-four = c .before .before .before in
+    let at-first-of = at-copy-four .before .before .before .before in
+    let start = at-first-of .before .before .before in
+    (omega arith, omega (arith, at-copy-four .copy-four .ensures .same, length-set (start .args .out .now) (start .args .w) (at-first-of .first-of .result)))
 
 -- src/mixed.rt:90:9
 same-length : tie.Need-same-length
-same-length c = c .before .before .copy-four2 .ensures .same ∙ c .before .before .before .before .before .before .copy-four .ensures .same ∙ length-set (c .before .before .before .before .before .before .before .before .before .before .before .before .before .args .out .now) (c .before .before .before .before .before .before .before .before .before .before .before .before .before .args .w) (c .before .before .before .before .before .before .before .before .before .before .first-of .result)
+same-length c =
+    let at-copy-four2 = c .before .before in
+    let at-copy-four = at-copy-four2 .before .before .before .before in
+    let at-first-of = at-copy-four .before .before .before .before in
+    let start = at-first-of .before .before .before in
+    at-copy-four2 .copy-four2 .ensures .same ∙ at-copy-four .copy-four .ensures .same ∙ length-set (start .args .out .now) (start .args .w) (at-first-of .first-of .result)
 
 -- src/mixed.rt:90:9
 returns : tie.Need-returns
 returns c =
-    (omega arith, omega arith, laid-then (laid-then (first-laid (c .before .before .before .before .before .before .before .before .before .before .before .before .before .pre .0) (c .before .before .before .before .before .before .before .before .before .before .first-of .ensures) (omega arith)) (c .before .before .before .before .before .before .copy-four .ensures) 0 (omega arith) (omega arith) (omega arith) (omega arith)) (c .before .before .copy-four2 .ensures) 4 (omega arith) (omega arith) (omega arith) (omega arith), λ k b. c .before .before .before .before .before .before .before .before .before .plain-count .ensures .1 _ _ (c .before .before .before .before .before .before .before .before .before .before .before .before .before .pre .0) k (omega (arith, b, c .before .before .before .before .before .before .before .before .if1 .taken)))
+    let at-copy-four2 = c .before .before in
+    let at-copy-four = at-copy-four2 .before .before .before .before in
+    let at-if1 = at-copy-four .before .before in
+    let at-plain-count = at-if1 .before in
+    let at-first-of = at-plain-count .before in
+    let start = at-first-of .before .before .before in
+    (omega arith, omega arith, laid-then (laid-then (first-laid (start .pre .0) (at-first-of .first-of .ensures) (omega arith)) (at-copy-four .copy-four .ensures) 0 (omega arith) (omega arith) (omega arith) (omega arith)) (at-copy-four2 .copy-four2 .ensures) 4 (omega arith) (omega arith) (omega arith) (omega arith), λ k b. at-plain-count .plain-count .ensures .1 _ _ (start .pre .0) k (omega (arith, b, at-if1 .if1 .taken)))
 
 -- src/mixed.rt:93:9
 copy-four-requires-3 : tie.Need-copy-four-requires-3
@@ -72,16 +87,32 @@ add-copy-four-4 c = search needs
 
 -- src/mixed.rt:94:9
 copy-four-requires-4 : tie.Need-copy-four-requires-4
-copy-four-requires-4 c κs = (omega (arith, c .before .before .before .before .before .before .before .plain-count .ensures .0), omega (arith, c .before .before .before .before .before .before .before .plain-count .ensures .0, c .before .before .before .copy-four3 .ensures .same, length-set (c .before .before .before .before .before .before .before .before .before .before .before .args .out .now) (c .before .before .before .before .before .before .before .before .before .before .before .args .w) (c .before .before .before .before .before .before .before .before .first-of .result)))
+copy-four-requires-4 c κs =
+    let at-copy-four3 = c .before .before .before in
+    let at-plain-count = at-copy-four3 .before .before .before .before in
+    let at-first-of = at-plain-count .before in
+    let start = at-first-of .before .before .before in
+    (omega (arith, at-plain-count .plain-count .ensures .0), omega (arith, at-plain-count .plain-count .ensures .0, at-copy-four3 .copy-four3 .ensures .same, length-set (start .args .out .now) (start .args .w) (at-first-of .first-of .result)))
 
 -- src/mixed.rt:95:9
 same-length-2 : tie.Need-same-length-2
-same-length-2 c = c .before .before .copy-four4 .ensures .same ∙ c .before .before .before .before .before .before .copy-four3 .ensures .same ∙ length-set (c .before .before .before .before .before .before .before .before .before .before .before .before .before .before .args .out .now) (c .before .before .before .before .before .before .before .before .before .before .before .before .before .before .args .w) (c .before .before .before .before .before .before .before .before .before .before .before .first-of .result)
+same-length-2 c =
+    let at-copy-four4 = c .before .before in
+    let at-copy-four3 = at-copy-four4 .before .before .before .before in
+    let at-first-of = at-copy-four3 .before .before .before .before .before in
+    let start = at-first-of .before .before .before in
+    at-copy-four4 .copy-four4 .ensures .same ∙ at-copy-four3 .copy-four3 .ensures .same ∙ length-set (start .args .out .now) (start .args .w) (at-first-of .first-of .result)
 
 -- src/mixed.rt:95:9
 returns-2 : tie.Need-returns-2
 returns-2 c =
-    (omega (arith, c .before .before .before .before .before .before .before .before .if2 .taken), c .before .before .before .before .before .before .before .before .before .before .plain-count .ensures .0, laid-at (laid-then (laid-then (first-laid (c .before .before .before .before .before .before .before .before .before .before .before .before .before .before .pre .0) (c .before .before .before .before .before .before .before .before .before .before .before .first-of .ensures) (omega arith)) (c .before .before .before .before .before .before .copy-four3 .ensures) 0 (omega arith) (omega arith) (omega arith) (omega arith)) (c .before .before .copy-four4 .ensures) (c .before .before .before .before .before .before .before .before .before .before .plain-count .result - 4) (omega arith) (omega arith) (omega (arith, c .before .before .before .before .before .before .before .before .before .before .plain-count .ensures .0)) (omega (arith, c .before .before .before .before .before .before .before .before .if2 .taken))) (omega (arith, c .before .before .before .before .before .before .before .before .if2 .taken)), c .before .before .before .before .before .before .before .before .before .before .plain-count .ensures .1 _ _ (c .before .before .before .before .before .before .before .before .before .before .before .before .before .before .pre .0))
+    let at-copy-four4 = c .before .before in
+    let at-copy-four3 = at-copy-four4 .before .before .before .before in
+    let at-if2 = at-copy-four3 .before .before in
+    let at-plain-count = at-if2 .before .before in
+    let at-first-of = at-plain-count .before in
+    let start = at-first-of .before .before .before in
+    (omega (arith, at-if2 .if2 .taken), at-plain-count .plain-count .ensures .0, laid-at (laid-then (laid-then (first-laid (start .pre .0) (at-first-of .first-of .ensures) (omega arith)) (at-copy-four3 .copy-four3 .ensures) 0 (omega arith) (omega arith) (omega arith) (omega arith)) (at-copy-four4 .copy-four4 .ensures) (at-plain-count .plain-count .result - 4) (omega arith) (omega arith) (omega (arith, at-plain-count .plain-count .ensures .0)) (omega (arith, at-if2 .if2 .taken))) (omega (arith, at-if2 .if2 .taken)), at-plain-count .plain-count .ensures .1 _ _ (start .pre .0))
 
 -- src/mixed.rt:98:25
 add-copy-two : tie.Need-add-copy-two
@@ -97,12 +128,22 @@ copy-two-requires c κs = (omega (arith, c .before .before .if2 .left), simp len
 
 -- src/mixed.rt:99:9
 same-length-3 : tie.Need-same-length-3
-same-length-3 c = c .before .before .copy-two .ensures .same ∙ length-set (c .before .before .before .before .before .before .before .before .before .before .before .args .out .now) (c .before .before .before .before .before .before .before .before .before .before .before .args .w) (c .before .before .before .before .before .before .before .before .first-of .result)
+same-length-3 c =
+    let at-copy-two = c .before .before in
+    let at-first-of = at-copy-two .before .before .before .before .before .before in
+    let start = at-first-of .before .before .before in
+    at-copy-two .copy-two .ensures .same ∙ length-set (start .args .out .now) (start .args .w) (at-first-of .first-of .result)
 
 -- src/mixed.rt:99:9
 returns-3 : tie.Need-returns-3
 returns-3 c =
-    (omega (arith, c .before .before .before .before .if3 .taken), c .before .before .before .before .before .before .before .plain-count .ensures .0, laid-at (laid-then (first-laid (c .before .before .before .before .before .before .before .before .before .before .before .pre .0) (c .before .before .before .before .before .before .before .before .first-of .ensures) (omega arith)) (c .before .before .copy-two .ensures) (c .before .before .before .before .before .before .before .plain-count .result - 2) (omega arith) (omega arith) (omega (arith, c .before .before .before .before .before .if2 .left)) (omega (arith, c .before .before .before .before .if3 .taken))) (omega (arith, c .before .before .before .before .if3 .taken)), c .before .before .before .before .before .before .before .plain-count .ensures .1 _ _ (c .before .before .before .before .before .before .before .before .before .before .before .pre .0))
+    let at-copy-two = c .before .before in
+    let at-if3 = at-copy-two .before .before in
+    let at-if2 = at-if3 .before in
+    let at-plain-count = at-if2 .before .before in
+    let at-first-of = at-plain-count .before in
+    let start = at-first-of .before .before .before in
+    (omega (arith, at-if3 .if3 .taken), at-plain-count .plain-count .ensures .0, laid-at (laid-then (first-laid (start .pre .0) (at-first-of .first-of .ensures) (omega arith)) (at-copy-two .copy-two .ensures) (at-plain-count .plain-count .result - 2) (omega arith) (omega arith) (omega (arith, at-if2 .if2 .left)) (omega (arith, at-if3 .if3 .taken))) (omega (arith, at-if3 .if3 .taken)), at-plain-count .plain-count .ensures .1 _ _ (start .pre .0))
 
 -- src/mixed.rt:81:1
 same-length-4 : tie.Need-same-length-4
@@ -111,7 +152,9 @@ same-length-4 c = search needs
 -- src/mixed.rt:81:1
 returns-4 : tie.Need-returns-4
 returns-4 c =
-    (omega arith, omega arith, first-laid (c .before .before .before .before .before .before .before .pre .0) (c .before .before .before .before .first-of .ensures) (omega arith), first-plain (c .before .before .before .before .before .before .before .pre .0) (c .before .before .before .before .before .before .before .pre .1))
+    let at-first-of = c .before .before .before .before in
+    let start = at-first-of .before .before .before in
+    (omega arith, omega arith, first-laid (start .pre .0) (at-first-of .first-of .ensures) (omega arith), first-plain (start .pre .0) (start .pre .1))
 
 pub take-plain-spec : {M : Type 1} → statement M
 take-plain-spec =

@@ -46,15 +46,21 @@ shared-slice-read-three c = search needs
 
 -- src/mixed.rt:23:34
 cast-three : tie.Need-cast-three
-cast-three c = omega (arith, c .shared-slice-known3 .given (c .before .before .before .args .i), c .shared-slice-known3 .given (c .before .before .before .args .i + 1), c .shared-slice-known3 .given (c .before .before .before .args .i + 2))
+cast-three c =
+    let start = c .before .before .before in
+    omega (arith, c .shared-slice-known3 .given (start .args .i), c .shared-slice-known3 .given (start .args .i + 1), c .shared-slice-known3 .given (start .args .i + 2))
 
 -- src/mixed.rt:23:23
 mul-three : tie.Need-mul-three
-mul-three c = omega (arith, c .shared-slice-known3 .given (c .before .before .before .args .i), c .shared-slice-known3 .given (c .before .before .before .args .i + 1), c .shared-slice-known3 .given (c .before .before .before .args .i + 2))
+mul-three c =
+    let start = c .before .before .before in
+    omega (arith, c .shared-slice-known3 .given (start .args .i), c .shared-slice-known3 .given (start .args .i + 1), c .shared-slice-known3 .given (start .args .i + 2))
 
 -- src/mixed.rt:23:17
 add-three-2 : tie.Need-add-three-2
-add-three-2 c = omega (arith, c .shared-slice-known3 .given (c .before .before .before .args .i), c .shared-slice-known3 .given (c .before .before .before .args .i + 1), c .shared-slice-known3 .given (c .before .before .before .args .i + 2))
+add-three-2 c =
+    let start = c .before .before .before in
+    omega (arith, c .shared-slice-known3 .given (start .args .i), c .shared-slice-known3 .given (start .args .i + 1), c .shared-slice-known3 .given (start .args .i + 2))
 
 -- src/mixed.rt:24:43
 add-four : tie.Need-add-four
@@ -66,15 +72,21 @@ shared-slice-read-four c = search needs
 
 -- src/mixed.rt:24:37
 cast-four : tie.Need-cast-four
-cast-four c = omega (arith, c .shared-slice-known4 .given (c .before .before .before .before .args .i), c .shared-slice-known4 .given (c .before .before .before .before .args .i + 1), c .shared-slice-known4 .given (c .before .before .before .before .args .i + 2), c .shared-slice-known4 .given (c .before .before .before .before .args .i + 3))
+cast-four c =
+    let start = c .before .before .before .before in
+    omega (arith, c .shared-slice-known4 .given (start .args .i), c .shared-slice-known4 .given (start .args .i + 1), c .shared-slice-known4 .given (start .args .i + 2), c .shared-slice-known4 .given (start .args .i + 3))
 
 -- src/mixed.rt:24:24
 mul-four : tie.Need-mul-four
-mul-four c = omega (arith, c .shared-slice-known4 .given (c .before .before .before .before .args .i), c .shared-slice-known4 .given (c .before .before .before .before .args .i + 1), c .shared-slice-known4 .given (c .before .before .before .before .args .i + 2), c .shared-slice-known4 .given (c .before .before .before .before .args .i + 3))
+mul-four c =
+    let start = c .before .before .before .before in
+    omega (arith, c .shared-slice-known4 .given (start .args .i), c .shared-slice-known4 .given (start .args .i + 1), c .shared-slice-known4 .given (start .args .i + 2), c .shared-slice-known4 .given (start .args .i + 3))
 
 -- src/mixed.rt:24:16
 add-four-2 : tie.Need-add-four-2
-add-four-2 c = omega (arith, c .shared-slice-known4 .given (c .before .before .before .before .args .i), c .shared-slice-known4 .given (c .before .before .before .before .args .i + 1), c .shared-slice-known4 .given (c .before .before .before .before .args .i + 2), c .shared-slice-known4 .given (c .before .before .before .before .args .i + 3))
+add-four-2 c =
+    let start = c .before .before .before .before in
+    omega (arith, c .shared-slice-known4 .given (start .args .i), c .shared-slice-known4 .given (start .args .i + 1), c .shared-slice-known4 .given (start .args .i + 2), c .shared-slice-known4 .given (start .args .i + 3))
 
 -- src/mixed.rt:25:44
 add-five : tie.Need-add-five
@@ -86,15 +98,21 @@ shared-slice-read-five c = search needs
 
 -- src/mixed.rt:25:38
 cast-five : tie.Need-cast-five
-cast-five c = omega (arith, c .shared-slice-known5 .given (c .before .before .before .before .before .args .i), c .shared-slice-known5 .given (c .before .before .before .before .before .args .i + 1), c .shared-slice-known5 .given (c .before .before .before .before .before .args .i + 2), c .shared-slice-known5 .given (c .before .before .before .before .before .args .i + 3), c .shared-slice-known5 .given (c .before .before .before .before .before .args .i + 4))
+cast-five c =
+    let start = c .before .before .before .before .before in
+    omega (arith, c .shared-slice-known5 .given (start .args .i), c .shared-slice-known5 .given (start .args .i + 1), c .shared-slice-known5 .given (start .args .i + 2), c .shared-slice-known5 .given (start .args .i + 3), c .shared-slice-known5 .given (start .args .i + 4))
 
 -- src/mixed.rt:25:23
 mul-five : tie.Need-mul-five
-mul-five c = omega (arith, c .shared-slice-known5 .given (c .before .before .before .before .before .args .i), c .shared-slice-known5 .given (c .before .before .before .before .before .args .i + 1), c .shared-slice-known5 .given (c .before .before .before .before .before .args .i + 2), c .shared-slice-known5 .given (c .before .before .before .before .before .args .i + 3), c .shared-slice-known5 .given (c .before .before .before .before .before .args .i + 4))
+mul-five c =
+    let start = c .before .before .before .before .before in
+    omega (arith, c .shared-slice-known5 .given (start .args .i), c .shared-slice-known5 .given (start .args .i + 1), c .shared-slice-known5 .given (start .args .i + 2), c .shared-slice-known5 .given (start .args .i + 3), c .shared-slice-known5 .given (start .args .i + 4))
 
 -- src/mixed.rt:25:16
 add-five-2 : tie.Need-add-five-2
-add-five-2 c = omega (arith, c .shared-slice-known5 .given (c .before .before .before .before .before .args .i), c .shared-slice-known5 .given (c .before .before .before .before .before .args .i + 1), c .shared-slice-known5 .given (c .before .before .before .before .before .args .i + 2), c .shared-slice-known5 .given (c .before .before .before .before .before .args .i + 3), c .shared-slice-known5 .given (c .before .before .before .before .before .args .i + 4))
+add-five-2 c =
+    let start = c .before .before .before .before .before in
+    omega (arith, c .shared-slice-known5 .given (start .args .i), c .shared-slice-known5 .given (start .args .i + 1), c .shared-slice-known5 .given (start .args .i + 2), c .shared-slice-known5 .given (start .args .i + 3), c .shared-slice-known5 .given (start .args .i + 4))
 
 -- src/mixed.rt:26:45
 add-six : tie.Need-add-six
@@ -106,15 +124,21 @@ shared-slice-read-six c = search needs
 
 -- src/mixed.rt:26:39
 cast-six : tie.Need-cast-six
-cast-six c = omega (arith, c .shared-slice-known6 .given (c .before .before .before .before .before .before .args .i), c .shared-slice-known6 .given (c .before .before .before .before .before .before .args .i + 1), c .shared-slice-known6 .given (c .before .before .before .before .before .before .args .i + 2), c .shared-slice-known6 .given (c .before .before .before .before .before .before .args .i + 3), c .shared-slice-known6 .given (c .before .before .before .before .before .before .args .i + 4), c .shared-slice-known6 .given (c .before .before .before .before .before .before .args .i + 5))
+cast-six c =
+    let start = c .before .before .before .before .before .before in
+    omega (arith, c .shared-slice-known6 .given (start .args .i), c .shared-slice-known6 .given (start .args .i + 1), c .shared-slice-known6 .given (start .args .i + 2), c .shared-slice-known6 .given (start .args .i + 3), c .shared-slice-known6 .given (start .args .i + 4), c .shared-slice-known6 .given (start .args .i + 5))
 
 -- src/mixed.rt:26:22
 mul-six : tie.Need-mul-six
-mul-six c = omega (arith, c .shared-slice-known6 .given (c .before .before .before .before .before .before .args .i), c .shared-slice-known6 .given (c .before .before .before .before .before .before .args .i + 1), c .shared-slice-known6 .given (c .before .before .before .before .before .before .args .i + 2), c .shared-slice-known6 .given (c .before .before .before .before .before .before .args .i + 3), c .shared-slice-known6 .given (c .before .before .before .before .before .before .args .i + 4), c .shared-slice-known6 .given (c .before .before .before .before .before .before .args .i + 5))
+mul-six c =
+    let start = c .before .before .before .before .before .before in
+    omega (arith, c .shared-slice-known6 .given (start .args .i), c .shared-slice-known6 .given (start .args .i + 1), c .shared-slice-known6 .given (start .args .i + 2), c .shared-slice-known6 .given (start .args .i + 3), c .shared-slice-known6 .given (start .args .i + 4), c .shared-slice-known6 .given (start .args .i + 5))
 
 -- src/mixed.rt:26:15
 add-six-2 : tie.Need-add-six-2
-add-six-2 c = omega (arith, c .shared-slice-known6 .given (c .before .before .before .before .before .before .args .i), c .shared-slice-known6 .given (c .before .before .before .before .before .before .args .i + 1), c .shared-slice-known6 .given (c .before .before .before .before .before .before .args .i + 2), c .shared-slice-known6 .given (c .before .before .before .before .before .before .args .i + 3), c .shared-slice-known6 .given (c .before .before .before .before .before .before .args .i + 4), c .shared-slice-known6 .given (c .before .before .before .before .before .before .args .i + 5))
+add-six-2 c =
+    let start = c .before .before .before .before .before .before in
+    omega (arith, c .shared-slice-known6 .given (start .args .i), c .shared-slice-known6 .given (start .args .i + 1), c .shared-slice-known6 .given (start .args .i + 2), c .shared-slice-known6 .given (start .args .i + 3), c .shared-slice-known6 .given (start .args .i + 4), c .shared-slice-known6 .given (start .args .i + 5))
 
 -- src/mixed.rt:27:48
 add-seven : tie.Need-add-seven
@@ -126,15 +150,21 @@ shared-slice-read-seven c = search needs
 
 -- src/mixed.rt:27:42
 cast-seven : tie.Need-cast-seven
-cast-seven c = omega (arith, c .shared-slice-known7 .given (c .before .before .before .before .before .before .before .args .i), c .shared-slice-known7 .given (c .before .before .before .before .before .before .before .args .i + 1), c .shared-slice-known7 .given (c .before .before .before .before .before .before .before .args .i + 2), c .shared-slice-known7 .given (c .before .before .before .before .before .before .before .args .i + 3), c .shared-slice-known7 .given (c .before .before .before .before .before .before .before .args .i + 4), c .shared-slice-known7 .given (c .before .before .before .before .before .before .before .args .i + 5), c .shared-slice-known7 .given (c .before .before .before .before .before .before .before .args .i + 6))
+cast-seven c =
+    let start = c .before .before .before .before .before .before .before in
+    omega (arith, c .shared-slice-known7 .given (start .args .i), c .shared-slice-known7 .given (start .args .i + 1), c .shared-slice-known7 .given (start .args .i + 2), c .shared-slice-known7 .given (start .args .i + 3), c .shared-slice-known7 .given (start .args .i + 4), c .shared-slice-known7 .given (start .args .i + 5), c .shared-slice-known7 .given (start .args .i + 6))
 
 -- src/mixed.rt:27:23
 mul-seven : tie.Need-mul-seven
-mul-seven c = omega (arith, c .shared-slice-known7 .given (c .before .before .before .before .before .before .before .args .i), c .shared-slice-known7 .given (c .before .before .before .before .before .before .before .args .i + 1), c .shared-slice-known7 .given (c .before .before .before .before .before .before .before .args .i + 2), c .shared-slice-known7 .given (c .before .before .before .before .before .before .before .args .i + 3), c .shared-slice-known7 .given (c .before .before .before .before .before .before .before .args .i + 4), c .shared-slice-known7 .given (c .before .before .before .before .before .before .before .args .i + 5), c .shared-slice-known7 .given (c .before .before .before .before .before .before .before .args .i + 6))
+mul-seven c =
+    let start = c .before .before .before .before .before .before .before in
+    omega (arith, c .shared-slice-known7 .given (start .args .i), c .shared-slice-known7 .given (start .args .i + 1), c .shared-slice-known7 .given (start .args .i + 2), c .shared-slice-known7 .given (start .args .i + 3), c .shared-slice-known7 .given (start .args .i + 4), c .shared-slice-known7 .given (start .args .i + 5), c .shared-slice-known7 .given (start .args .i + 6))
 
 -- src/mixed.rt:27:17
 add-seven-2 : tie.Need-add-seven-2
-add-seven-2 c = omega (arith, c .shared-slice-known7 .given (c .before .before .before .before .before .before .before .args .i), c .shared-slice-known7 .given (c .before .before .before .before .before .before .before .args .i + 1), c .shared-slice-known7 .given (c .before .before .before .before .before .before .before .args .i + 2), c .shared-slice-known7 .given (c .before .before .before .before .before .before .before .args .i + 3), c .shared-slice-known7 .given (c .before .before .before .before .before .before .before .args .i + 4), c .shared-slice-known7 .given (c .before .before .before .before .before .before .before .args .i + 5), c .shared-slice-known7 .given (c .before .before .before .before .before .before .before .args .i + 6))
+add-seven-2 c =
+    let start = c .before .before .before .before .before .before .before in
+    omega (arith, c .shared-slice-known7 .given (start .args .i), c .shared-slice-known7 .given (start .args .i + 1), c .shared-slice-known7 .given (start .args .i + 2), c .shared-slice-known7 .given (start .args .i + 3), c .shared-slice-known7 .given (start .args .i + 4), c .shared-slice-known7 .given (start .args .i + 5), c .shared-slice-known7 .given (start .args .i + 6))
 
 -- src/mixed.rt:28:40
 add-result : tie.Need-add-result
@@ -146,19 +176,27 @@ shared-slice-read-result c = search needs
 
 -- src/mixed.rt:28:34
 cast-result : tie.Need-cast-result
-cast-result c = omega (arith, c .shared-slice-known8 .given (c .before .before .before .before .before .before .before .before .args .i), c .shared-slice-known8 .given (c .before .before .before .before .before .before .before .before .args .i + 1), c .shared-slice-known8 .given (c .before .before .before .before .before .before .before .before .args .i + 2), c .shared-slice-known8 .given (c .before .before .before .before .before .before .before .before .args .i + 3), c .shared-slice-known8 .given (c .before .before .before .before .before .before .before .before .args .i + 4), c .shared-slice-known8 .given (c .before .before .before .before .before .before .before .before .args .i + 5), c .shared-slice-known8 .given (c .before .before .before .before .before .before .before .before .args .i + 6), c .shared-slice-known8 .given (c .before .before .before .before .before .before .before .before .args .i + 7))
+cast-result c =
+    let start = c .before .before .before .before .before .before .before .before in
+    omega (arith, c .shared-slice-known8 .given (start .args .i), c .shared-slice-known8 .given (start .args .i + 1), c .shared-slice-known8 .given (start .args .i + 2), c .shared-slice-known8 .given (start .args .i + 3), c .shared-slice-known8 .given (start .args .i + 4), c .shared-slice-known8 .given (start .args .i + 5), c .shared-slice-known8 .given (start .args .i + 6), c .shared-slice-known8 .given (start .args .i + 7))
 
 -- src/mixed.rt:28:13
 mul-result : tie.Need-mul-result
-mul-result c = omega (arith, c .shared-slice-known8 .given (c .before .before .before .before .before .before .before .before .args .i), c .shared-slice-known8 .given (c .before .before .before .before .before .before .before .before .args .i + 1), c .shared-slice-known8 .given (c .before .before .before .before .before .before .before .before .args .i + 2), c .shared-slice-known8 .given (c .before .before .before .before .before .before .before .before .args .i + 3), c .shared-slice-known8 .given (c .before .before .before .before .before .before .before .before .args .i + 4), c .shared-slice-known8 .given (c .before .before .before .before .before .before .before .before .args .i + 5), c .shared-slice-known8 .given (c .before .before .before .before .before .before .before .before .args .i + 6), c .shared-slice-known8 .given (c .before .before .before .before .before .before .before .before .args .i + 7))
+mul-result c =
+    let start = c .before .before .before .before .before .before .before .before in
+    omega (arith, c .shared-slice-known8 .given (start .args .i), c .shared-slice-known8 .given (start .args .i + 1), c .shared-slice-known8 .given (start .args .i + 2), c .shared-slice-known8 .given (start .args .i + 3), c .shared-slice-known8 .given (start .args .i + 4), c .shared-slice-known8 .given (start .args .i + 5), c .shared-slice-known8 .given (start .args .i + 6), c .shared-slice-known8 .given (start .args .i + 7))
 
 -- src/mixed.rt:28:5
 add-result-2 : tie.Need-add-result-2
-add-result-2 c = omega (arith, c .shared-slice-known8 .given (c .before .before .before .before .before .before .before .before .args .i), c .shared-slice-known8 .given (c .before .before .before .before .before .before .before .before .args .i + 1), c .shared-slice-known8 .given (c .before .before .before .before .before .before .before .before .args .i + 2), c .shared-slice-known8 .given (c .before .before .before .before .before .before .before .before .args .i + 3), c .shared-slice-known8 .given (c .before .before .before .before .before .before .before .before .args .i + 4), c .shared-slice-known8 .given (c .before .before .before .before .before .before .before .before .args .i + 5), c .shared-slice-known8 .given (c .before .before .before .before .before .before .before .before .args .i + 6), c .shared-slice-known8 .given (c .before .before .before .before .before .before .before .before .args .i + 7))
+add-result-2 c =
+    let start = c .before .before .before .before .before .before .before .before in
+    omega (arith, c .shared-slice-known8 .given (start .args .i), c .shared-slice-known8 .given (start .args .i + 1), c .shared-slice-known8 .given (start .args .i + 2), c .shared-slice-known8 .given (start .args .i + 3), c .shared-slice-known8 .given (start .args .i + 4), c .shared-slice-known8 .given (start .args .i + 5), c .shared-slice-known8 .given (start .args .i + 6), c .shared-slice-known8 .given (start .args .i + 7))
 
 -- src/mixed.rt:18:1
 returns : tie.Need-returns
-returns c = record { bytes = λ k. omega (arith, c .shared-slice-known8 .given k); value = sym (word-eight (c .before .before .before .before .before .before .before .before .args .piece .now) (c .before .before .before .before .before .before .before .before .args .i)) }
+returns c =
+    let start = c .before .before .before .before .before .before .before .before in
+    record { bytes = λ k. omega (arith, c .shared-slice-known8 .given k); value = sym (word-eight (start .args .piece .now) (start .args .i)) }
 
 pub word-at-spec : {M : Type 1} → statement M
 word-at-spec =

@@ -62,14 +62,16 @@ loop-less c = omega arith
 
 loop-again : tie.Need-loop-again Inv-loop μ-loop
 loop-again c =
-    let at-loop-test = c .before .before .before .before in
+    let at-low-half = c .before .before in
+    let at-place = at-low-half .before .before in
+    let at-loop-test = at-place in
     let at-loop = at-loop-test .before in
     let entry = at-loop .before .before .before .before in (
       omega arith,
       at-loop .loop .inv .1,
       simp length-set (at-loop .loop .inv .2),
       at-loop .loop .inv .3,
-      two-turn _ _ _ _ _ _ _ (at-loop .loop .inv .4) (at-loop-test .loop-test .taken) (at-loop .loop .inv .3) (omega arith) (c .before .before .low-half .ensures ∙ fitting-low (entry .args .units .now) (length (entry .args .bytes .now)) _ (at-loop .loop .inv .1) _ (at-loop-test .loop-test .taken)) (c .high-half .ensures ∙ fitting-high (entry .args .units .now) (length (entry .args .bytes .now)) _ (at-loop .loop .inv .1) _ (at-loop-test .loop-test .taken)),
+      two-turn _ _ _ _ _ _ _ (at-loop .loop .inv .4) (at-loop-test .loop-test .taken) (at-loop .loop .inv .3) (omega arith) (at-low-half .low-half .ensures ∙ fitting-low (entry .args .units .now) (length (entry .args .bytes .now)) _ (at-loop .loop .inv .1) _ (at-loop-test .loop-test .taken)) (c .high-half .ensures ∙ fitting-high (entry .args .units .now) (length (entry .args .bytes .now)) _ (at-loop .loop .inv .1) _ (at-loop-test .loop-test .taken)),
     )
 
 mul-result : tie.Need-mul-result Inv-loop μ-loop

@@ -94,11 +94,13 @@ loop-again c =
 -- src/profile.rt:108:1
 returns : tie.Need-returns Inv-loop μ-loop
 returns c =
-    let z : c .before .loop .i ≡ 64 = omega arith in
+    let turn = c .before in
+    let start = turn .before .before in
+    let z : turn .loop .i ≡ 64 = omega arith in
     record {
-      count = subst (λ (k : ℕ). leadsBelow (c .before .before .before .args .classes .now) (c .before .before .before .args .from + k) ≡ leadsBelow (c .before .before .before .args .classes .now) (c .before .before .before .args .from) + c .before .loop .count) z (c .before .loop .inv .2);
-      first = λ k h e. c .before .loop .inv .3 k (omega arith) e;
-      last = λ k h e. c .before .loop .inv .4 k (omega arith) e;
+      count = subst (λ (k : ℕ). leadsBelow (start .args .classes .now) (start .args .from + k) ≡ leadsBelow (start .args .classes .now) (start .args .from) + turn .loop .count) z (turn .loop .inv .2);
+      first = λ k h e. turn .loop .inv .3 k (omega arith) e;
+      last = λ k h e. turn .loop .inv .4 k (omega arith) e;
     }
 
 pub half-of-spec : {M : Type 1} → statement M

@@ -24,20 +24,33 @@ same-length : tie.Need-same-length
 same-length c = c .before .before .before .before .before .begin .ensures .same
 
 returns : tie.Need-returns
-returns c = loop-stop (loop-start _ _ _ _ _ _ (λ e. decoder-waits _ _ _ _ _ _ _ (c .before .before .before .before .before .before .before .before .before .before .before .before .before .before .pre .1 e)) (c .before .before .before .before .before .before .before .start .ensures)) (c .before .before .before .before .before .begin .ensures) (c .if1 .taken)
+returns c =
+    let at-begin = c .before .before .before .before .before in
+    let at-start = at-begin .before .before in
+    let start = at-start .before .before .before .before .before .before .before in
+    loop-stop (loop-start _ _ _ _ _ _ (λ e. decoder-waits _ _ _ _ _ _ _ (start .pre .1 e)) (at-start .start .ensures)) (at-begin .begin .ensures) (c .if1 .taken)
 
 decode-rest-requires : tie.Need-decode-rest-requires
 decode-rest-requires c κs =
-    let turned = c .before .before .before .before .before .before .begin .ensures in
-    (c .before .before .before .before .before .before .before .before .before .before .before .before .before .before .before .pre .0, (c .before .before .before .before .before .before .before .before .before .leads-of .ensures, (turned .ready (c .before .if1 .left) (start-ready (c .before .before .before .before .before .before .before .before .start .ensures)), λ e. decoder-lead _ _ _ _ _ _ (turned .waiting e))))
+    let at-begin = c .before .before .before .before .before .before in
+    let at-start = at-begin .before .before in
+    let at-leads-of = at-start .before in
+    let start = at-leads-of .before .before .before .before .before .before in
+    let turned = at-begin .begin .ensures in
+    (start .pre .0, (at-leads-of .leads-of .ensures, (turned .ready (c .before .if1 .left) (start-ready (at-start .start .ensures)), λ e. decoder-lead _ _ _ _ _ _ (turned .waiting e))))
 
 same-length-2 : tie.Need-same-length-2
 same-length-2 c = c .before .before .decode-rest .ensures .0 ∙ c .before .before .before .before .before .before .before .before .before .begin .ensures .same
 
 returns-2 : tie.Need-returns-2
 returns-2 c =
-    let begun = loop-start _ _ _ _ _ _ (λ e. decoder-waits _ _ _ _ _ _ _ (c .before .before .before .before .before .before .before .before .before .before .before .before .before .before .before .before .before .before .pre .1 e)) (c .before .before .before .before .before .before .before .before .before .before .before .start .ensures) in
-    c .before .before .decode-rest .ensures .1 _ _ (loop-turn begun (c .before .before .before .before .before .before .before .before .before .begin .ensures) (c .before .before .before .before .if1 .left))
+    let at-decode-rest = c .before .before in
+    let at-if1 = at-decode-rest .before .before in
+    let at-begin = at-if1 .before .before .before .before .before in
+    let at-start = at-begin .before .before in
+    let start = at-start .before .before .before .before .before .before .before in
+    let begun = loop-start _ _ _ _ _ _ (λ e. decoder-waits _ _ _ _ _ _ _ (start .pre .1 e)) (at-start .start .ensures) in
+    at-decode-rest .decode-rest .ensures .1 _ _ (loop-turn begun (at-begin .begin .ensures) (at-if1 .if1 .left))
 
 pub decode-codes-spec : {M : Type 1} → statement M
 decode-codes-spec = tie.close (tie.spec leads-of-requires start-requires begin-requires same-length returns decode-rest-requires same-length-2 returns-2)

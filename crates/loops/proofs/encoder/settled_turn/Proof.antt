@@ -47,7 +47,12 @@ same-length-4 : tie.Need-same-length-4
 same-length-4 c = search needs
 
 returns-4 : tie.Need-returns-4
-returns-4 c = advanced-ran _ _ (c .before .before .before .before .before .before .before .before .before .before .before .before .before .settle .ensures _ _) (c .before .before .before .before .before .before .before .before .if1 .left) (c .before .before .before .before .before .if3 .left) (c .before .before .before .run-of-coded .ensures) (c .moved .ensures)
+returns-4 c =
+    let at-run-of-coded = c .before .before .before in
+    let at-if3 = at-run-of-coded .before .before in
+    let at-if1 = at-if3 .before .before .before in
+    let at-settle = at-if1 .before .before .before .before .before in
+    advanced-ran _ _ (at-settle .settle .ensures _ _) (at-if1 .if1 .left) (at-if3 .if3 .left) (at-run-of-coded .run-of-coded .ensures) (c .moved .ensures)
 
 pub settled-turn-spec : {M : Type 1} → statement M
 settled-turn-spec =

@@ -30,7 +30,8 @@ nowhere-requires-2 c κs = search needs
 
 returns-2 : tie.Need-returns-2
 returns-2 c =
-    let at-decimal-value = c .before .before .before in
+    let at-place = c .before .before .before in
+    let at-decimal-value = at-place in
     let at-word-end = at-decimal-value .before .before in
     let entry = at-word-end .before .before .before in
     (omega arith, not-digits _ (entry .args .line .now) (entry .args .at) (at-word-end .word-end .result) (omega arith) (at-word-end .word-end .ensures .1) _ (given-none (at-decimal-value .decimal-value .result .value) (at-decimal-value .decimal-value .result .ok) (c .before .if2 .taken) (at-decimal-value .decimal-value .ensures .1)) (c .nowhere2 .ensures))
@@ -43,19 +44,23 @@ nowhere-requires-3 c κs = search needs
 
 returns-3 : tie.Need-returns-3
 returns-3 c =
-    let at-word-end = c .before .before .before .before .before .before .before in
+    let at-is-plain = c .before .before in
+    let at-place = at-is-plain .before .before .before .before .before in
+    let at-word-end = at-place in
     let entry = at-word-end .before .before .before in
-    (omega arith, not-plain _ (entry .args .line .now) (entry .args .at) (at-word-end .word-end .result) (omega arith) (at-word-end .word-end .ensures .1) _ (test-false (c .before .before .is-plain .result) (c .before .if3 .taken) (c .before .before .is-plain .ensures)) (c .nowhere3 .ensures))
+    (omega arith, not-plain _ (entry .args .line .now) (entry .args .at) (at-word-end .word-end .result) (omega arith) (at-word-end .word-end .ensures .1) _ (test-false (at-is-plain .is-plain .result) (c .before .if3 .taken) (at-is-plain .is-plain .ensures)) (c .nowhere3 .ensures))
 
 add-t7 : tie.Need-add-t7
 add-t7 c = search needs
 
 returns-4 : tie.Need-returns-4
 returns-4 c =
-    let at-decimal-value = c .before .before .before .before in
+    let at-if2 = c .before .before in
+    let at-place = at-if2 .before .before in
+    let at-decimal-value = at-place in
     let at-word-end = at-decimal-value .before .before in
     let entry = at-word-end .before .before .before in
-    (at-decimal-value .decimal-value .ensures .0, is-number _ (entry .args .line .now) (entry .args .at) (at-word-end .word-end .result) (omega arith) (at-word-end .word-end .ensures .1) _ (given-some (at-decimal-value .decimal-value .result .value) (at-decimal-value .decimal-value .result .ok) (c .before .before .if2 .left) (at-decimal-value .decimal-value .ensures .1)) (test-true (c .before .is-plain .result) (c .if3 .left) (c .before .is-plain .ensures)))
+    (at-decimal-value .decimal-value .ensures .0, is-number _ (entry .args .line .now) (entry .args .at) (at-word-end .word-end .result) (omega arith) (at-word-end .word-end .ensures .1) _ (given-some (at-decimal-value .decimal-value .result .value) (at-decimal-value .decimal-value .result .ok) (at-if2 .if2 .left) (at-decimal-value .decimal-value .ensures .1)) (test-true (c .before .is-plain .result) (c .if3 .left) (c .before .is-plain .ensures)))
 
 pub number-at-spec : {M : Type 1} → statement M
 number-at-spec =
