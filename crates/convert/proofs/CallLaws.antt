@@ -27,7 +27,7 @@ use Rattle.engine.specs.Engine.{Converter, converter, limit, Fed}
 use Rattle.convert.specs.Calls.{sameDirection, leadIn, check, refusal, Called, pendingUnit, pendingCount, pendingAs, finalUnit, readOf, pendingAfter, endedAfter, runAfter, fedBy, acceptedCall, refusedCall, runCall, Answered}
 use Rattle.codepage.specs.Lent.{over}
 use Rattle.engine.specs.Engine.{converterOf}
-use Rattle.convert.specs.Steps.{hasPending, pendingByte, pendingHigh, pendingAgrees, mostOfOne, Finished, Refused}
+use Rattle.convert.specs.Steps.{hasPending, pendingByte, pendingHigh, pendingAgrees, mostOfOne, runRefusal, restRefusal, Finished, Refused}
 use Rattle.engine.specs.Steps.{summary, DecodeSizes, optional, decodeFed, encodeFed}
 use Rattle.engine.proofs.EngineLaws.{Waits, Shape, shape-from}
 use Rattle.engine.proofs.EffectLaws.{and-left, and-right}
@@ -169,6 +169,33 @@ refusal-named direction run p count =
     (named-check 15 (not (run .ended)) _ (omega arith) (omega arith)
     (named-check 16 (leb (run .read + count) readLimit) _ (omega arith) (omega arith)
     (λ ne. absurd (ne refl))))))))
+
+-- ---- the checks in two parts
+in-parts : (a b c : Bool) (rest : ℕ) → check 11 a (check 12 b (check 13 c rest)) ≡ pick (eqb (check 11 a (check 12 b (check 13 c 0))) 0) rest (check 11 a (check 12 b (check 13 c 0)))
+in-parts true true true rest = refl
+in-parts true true false rest = refl
+in-parts true false c rest = refl
+in-parts false b c rest = refl
+
+module _ (direction : Direction) (run : Run) (p : CodePage) (count first : ℕ) (good : isGood (firstFault p) ≡ true) (e : first ≡ runRefusal direction run (p .page) count) where
+  refusal-parts : refusal direction run p count ≡ pick (eqb first 0) (restRefusal run (p .classes) count) first
+  unfolding refusal
+  refusal-parts = rw (good, e) (in-parts (leb count pieceLimit) (validRun run) (sameDirection direction (run .direction) && eqb (run .page) (p .page)) (restRefusal run (p .classes) count))
+
+  pub refusal-first : (first ≡ 0 → ⊥) → first ≡ refusal direction run p count
+  refusal-first n = sym (refusal-parts ∙ rw (ne-eqb first 0 n))
+
+  pub refusal-rest : first ≡ 0 → {number : ℕ} → number ≡ restRefusal run (p .classes) count → number ≡ refusal direction run p count
+  refusal-rest z q = q ∙ sym (refusal-parts ∙ rw (eq-eqb first 0 z))
+
+  pub refusal-valid : first ≡ 0 → (count ≤ pieceLimit) × (validRun run ≡ true)
+  refusal-valid z = by-checks (leb count pieceLimit) (validRun run) refl refl (sym e ∙ z)
+    where
+      by-checks : (a b : Bool) → leb count pieceLimit ≡ a → validRun run ≡ b → check 11 a (check 12 b (check 13 (sameDirection direction (run .direction) && eqb (run .page) (p .page)) 0)) ≡ 0
+          → (count ≤ pieceLimit) × (validRun run ≡ true)
+      by-checks true true x y q = (leb-true _ _ x, y)
+      by-checks true false x y q = absurd (omega arith)
+      by-checks false b x y q = absurd (omega arith)
 
 -- ---- what is pending
 -- a waiting unit or none, as a list

@@ -1,8 +1,10 @@
 -- Definitions that the private functions' contracts cite, and that no promise does.
-use mathlib.Core.Bool.{Bool, true, false, _&&_}
+use mathlib.Core.Bool.{Bool, true, false, not, _&&_}
+use mathlib.Core.List.{List}
 use mathlib.Core.Option.{Option, none, some}
 use mathlib.Core.Path.{_≡_}
-use Prim.Native.Nat.{ℕ}
+use Prim.Native.Nat.{ℕ, _+_}
+use lib.Dec.{leb, eqb}
 use Rattle.codepage.specs.Reading.{isHigh}
 use Rattle.engine.specs.declared.Direction.{Direction}
 use Rattle.engine.specs.declared.progress.Progress.{Progress}
@@ -10,8 +12,8 @@ use Rattle.convert.specs.declared.Pending.{Pending}
 use Rattle.convert.specs.declared.Pending.the-variants.{Nothing, Byte, High}
 use Rattle.convert.specs.declared.Run.{Run}
 use Rattle.convert.specs.declared.Outcome.{Outcome}
-use Rattle.convert.specs.Runs.{isDecoding, isEncoding, mostWritten}
-use Rattle.convert.specs.Calls.{numberOf, pendingUnit, readOf, runAfter, endedAfter}
+use Rattle.convert.specs.Runs.{pieceLimit, readLimit, isDecoding, isEncoding, mostWritten, validRun}
+use Rattle.convert.specs.Calls.{numberOf, sameDirection, leadIn, check, pendingUnit, readOf, runAfter, endedAfter}
 
 -- what is pending as a flag and a number
 abbrev pub isSome : Option ℕ → Bool
@@ -41,6 +43,14 @@ pendingAgrees (High unit) direction = isEncoding direction && isHigh unit
 -- the most that one unit of input writes
 abbrev pub mostOfOne : Direction → ℕ
 mostOfOne direction = mostWritten direction 1
+
+-- the checks of a run call in two parts: 11 to 13, and 14 to 16
+abbrev pub runRefusal : Direction → Run → (page count : ℕ) → ℕ
+runRefusal direction run page count =
+    check 11 (leb count pieceLimit) (check 12 (validRun run) (check 13 (sameDirection direction (run .direction) && eqb (run .page) page) 0))
+
+abbrev pub restRefusal : Run → (classes : List ℕ) → (count : ℕ) → ℕ
+restRefusal run classes count = check 14 (leadIn classes (run .pending)) (check 15 (not (run .ended)) (check 16 (leb (run .read + count) readLimit) 0))
 
 -- the result of an accepted call
 pub record Finished (run : Run) (s : Progress) (pending : Pending) (count : ℕ) (last : Bool) (r : Outcome) : Type 0 where

@@ -147,8 +147,10 @@ pub fn decode(
     if !codepage::shape::good_shape(numbers, classes, singles, pairs, index, blocks) {
         return finish::refused(10, run);
     }
+    let first = rules::run_refusal(Direction::Decoding, run, numbers.page, piece.len());
     let number = rules::refusal(
         Direction::Decoding,
+        first,
         run,
         numbers,
         classes,
@@ -206,8 +208,10 @@ pub fn encode(
     if !codepage::shape::good_shape(numbers, classes, singles, pairs, index, blocks) {
         return finish::refused(10, run);
     }
+    let first = rules::run_refusal(Direction::Encoding, run, numbers.page, piece.len());
     let number = rules::refusal(
         Direction::Encoding,
+        first,
         run,
         numbers,
         classes,

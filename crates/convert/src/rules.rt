@@ -9,7 +9,7 @@ ghost use Rattle.codepage.specs.CodePage.{codePage, entry, isLead, firstFault, 
 ghost use Rattle.codepage.specs.Reading.{isHigh};
 ghost use Rattle.convert.specs.Runs.{isDecoding, isEncoding, mostWritten, pendingAllowed, validRun};
 ghost use Rattle.convert.specs.Calls.{sameDirection, leadIn, refusal};
-ghost use Rattle.convert.specs.Steps.{pendingAgrees};
+ghost use Rattle.convert.specs.Steps.{pendingAgrees, runRefusal};
 use crate::Pending;
 use crate::Run;
 use crate::finish;
@@ -145,20 +145,10 @@ fn pending_is_lead(pending: Pending, classes: &[u8]) -> bool
     }
 }
 
-// The number of the first check that a call on `count` units fails, or 0. The shape was found good.
-pub fn refusal(
-    direction: Direction,
-    run: Run,
-    numbers: Numbers,
-    classes: &[u8],
-    singles: &[u16],
-    pairs: &[u16],
-    index: &[u8],
-    blocks: &[u16],
-    count: usize,
-) -> u8
-    requires { ⌜ isGood (firstFault (codePage numbers (now classes) (now singles) (now pairs) (now index) (now blocks))) ≡ true ⌝ }
-    ensures { λ r. ⌜ r ≡ refusal direction run (codePage numbers (now (classes .entry)) (now (singles .entry)) (now (pairs .entry)) (now (index .entry)) (now (blocks .entry))) count ⌝ }
+// The number of the first of the checks 11 to 13 that a call on `count` units fails, or 0. The checks are two functions, each small
+// enough to be inlined in both calls: so a run stays in registers, and a call's stack small.
+pub fn run_refusal(direction: Direction, run: Run, page: u16, count: usize) -> u8
+    ensures { λ r. ⌜ r ≡ runRefusal direction run page count ⌝ }
 {
     if Run::PIECE_LIMIT < count {
         return 11;
@@ -170,8 +160,31 @@ pub fn refusal(
     if !same_direction(direction, own) {
         return 13;
     }
-    if run.page != numbers.page {
+    if run.page != page {
         return 13;
+    }
+    0
+}
+
+// The number of the first check that a call on `count` units fails, or 0: `first` is that of 11 to 13. The shape was found good.
+pub fn refusal(
+    direction: Direction,
+    first: u8,
+    run: Run,
+    numbers: Numbers,
+    classes: &[u8],
+    singles: &[u16],
+    pairs: &[u16],
+    index: &[u8],
+    blocks: &[u16],
+    count: usize,
+) -> u8
+    requires { ⌜ isGood (firstFault (codePage numbers (now classes) (now singles) (now pairs) (now index) (now blocks))) ≡ true ⌝ }
+    requires { ⌜ first ≡ runRefusal direction run (numbers .page) count ⌝ }
+    ensures { λ r. ⌜ r ≡ refusal direction run (codePage numbers (now (classes .entry)) (now (singles .entry)) (now (pairs .entry)) (now (index .entry)) (now (blocks .entry))) count ⌝ }
+{
+    if first != 0 {
+        return first;
     }
     let pending = run.pending;
     if !pending_is_lead(pending, classes) {

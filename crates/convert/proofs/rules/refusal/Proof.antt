@@ -1,154 +1,36 @@
-use Rattle.convert.proofs.CallLaws.{valid-read}
-use Rattle.convert.specs.Calls.{refusal}
+use Rattle.convert.proofs.CallLaws.{refusal-first, refusal-rest, refusal-valid, valid-read}
 use Rattle.codepage.proofs.ShapeLaws.{shape-exact}
 use mathlib.Core.Path.{_∙_, sym}
-use borrow.Author.Tests.{le-leb, lt-leb, eq-eqb, ne-eqb, not-true, not-false}
+use borrow.Author.Tests.{le-leb, lt-leb, not-true, not-false}
 use native.Mathlib.Omega.{arith}
-use borrow.Author.Needs.{needs}
 use Rattle.convert.proofs.rules.refusal.Statement.{statement}
 use Rattle.convert.proofs.rules.refusal.Tie as tie
 
 returns : tie.Need-returns
-unfolding refusal
-returns c = rw (c .before .before .before .before .before .before .pre, lt-leb _ _ (c .if1 .taken))
-
-valid-run-requires : tie.Need-valid-run-requires
-valid-run-requires c κs = search needs
-
-returns-2 : tie.Need-returns-2
-unfolding refusal
-returns-2 c = rw (c .before .before .before .before .before .before .before .before .pre, le-leb _ _ (c .before .before .if1 .left), sym (c .before .valid-run .ensures) ∙ not-true _ (c .if2 .taken))
-
-same-direction-requires : tie.Need-same-direction-requires
-same-direction-requires c κs = search needs
-
-returns-3 : tie.Need-returns-3
-unfolding refusal
-returns-3 c =
-    let at-valid-run = c .before .before .before in
-    let at-if1 = at-valid-run .before in
-    let entry = at-if1 .before .before .before .before .before .before in
-    rw (entry .pre, le-leb _ _ (at-if1 .if1 .left), sym (at-valid-run .valid-run .ensures) ∙ not-false _ (c .before .before .if2 .left), sym (c .before .same-direction .ensures) ∙ not-true _ (c .if3 .taken))
-
-returns-4 : tie.Need-returns-4
-unfolding refusal
-returns-4 c =
-    let at-if3 = c .before .before .before in
-    let at-same-direction = at-if3 .before in
-    let at-if2 = at-same-direction .before in
-    let at-valid-run = at-if2 .before in
-    let at-if1 = at-valid-run .before in
-    let entry = at-if1 .before .before .before .before .before .before in
-    rw (entry .pre, le-leb _ _ (at-if1 .if1 .left), sym (at-valid-run .valid-run .ensures) ∙ not-false _ (at-if2 .if2 .left), sym (at-same-direction .same-direction .ensures) ∙ not-false _ (at-if3 .if3 .left), ne-eqb _ _ (c .if4 .taken))
+returns c = refusal-first _ _ _ _ _ (c .before .before .before .before .before .before .pre .0) (c .before .before .before .before .before .before .pre .1) (c .if1 .taken)
 
 pending-is-lead-requires : tie.Need-pending-is-lead-requires
-pending-is-lead-requires c κs = shape-exact _ .0 (c .before .before .before .before .before .before .before .before .before .before .before .before .before .pre) .classes
+pending-is-lead-requires c κs = shape-exact _ .0 (c .before .before .before .before .before .before .pre .0) .classes
+
+returns-2 : tie.Need-returns-2
+returns-2 c = refusal-rest _ _ _ _ _ (c .before .before .before .before .before .before .before .before .pre .0) (c .before .before .before .before .before .before .before .before .pre .1) (c .before .before .if1 .left) (rw (sym (c .before .pending-is-lead .ensures) ∙ not-true _ (c .if2 .taken)))
+
+returns-3 : tie.Need-returns-3
+returns-3 c = refusal-rest _ _ _ _ _ (c .before .before .before .before .before .before .before .before .before .pre .0) (c .before .before .before .before .before .before .before .before .before .pre .1) (c .before .before .before .if1 .left) (rw (sym (c .before .before .pending-is-lead .ensures) ∙ not-false _ (c .before .if2 .left), c .if3 .taken))
+
+add-if4 : tie.Need-add-if4
+add-if4 c =
+    let start = c .before .before .before .before .before .before .before .before .before .before in
+    let valid = refusal-valid (start .args .direction) (start .args .run) _ (start .args .count) _ (start .pre .0) (start .pre .1) (c .before .before .before .before .if1 .left) in
+    omega (arith, valid .0, valid-read (start .args .run) (valid .1))
+
+returns-4 : tie.Need-returns-4
+returns-4 c = refusal-rest _ _ _ _ _ (c .before .before .before .before .before .before .before .before .before .before .before .pre .0) (c .before .before .before .before .before .before .before .before .before .before .before .pre .1) (c .before .before .before .before .before .if1 .left) (rw (sym (c .before .before .before .before .pending-is-lead .ensures) ∙ not-false _ (c .before .before .before .if2 .left), c .before .before .if3 .left, lt-leb _ _ (c .if4 .taken)))
 
 returns-5 : tie.Need-returns-5
-unfolding refusal
-returns-5 c =
-    let at-if3 = c .before .before .before .before .before in
-    let at-same-direction = at-if3 .before in
-    let at-if2 = at-same-direction .before in
-    let at-valid-run = at-if2 .before in
-    let at-if1 = at-valid-run .before in
-    let entry = at-if1 .before .before .before .before .before .before in
-    rw (
-      entry .pre,
-      le-leb _ _ (at-if1 .if1 .left),
-      sym (at-valid-run .valid-run .ensures) ∙ not-false _ (at-if2 .if2 .left),
-      sym (at-same-direction .same-direction .ensures) ∙ not-false _ (at-if3 .if3 .left),
-      eq-eqb _ _ (c .before .before .if4 .left),
-      sym (c .before .pending-is-lead .ensures) ∙ not-true _ (c .if5 .taken),
-    )
-
-returns-6 : tie.Need-returns-6
-unfolding refusal
-returns-6 c =
-    let at-if4 = c .before .before .before in
-    let at-if3 = at-if4 .before .before .before in
-    let at-same-direction = at-if3 .before in
-    let at-if2 = at-same-direction .before in
-    let at-valid-run = at-if2 .before in
-    let at-if1 = at-valid-run .before in
-    let entry = at-if1 .before .before .before .before .before .before in
-    rw (
-      entry .pre,
-      le-leb _ _ (at-if1 .if1 .left),
-      sym (at-valid-run .valid-run .ensures) ∙ not-false _ (at-if2 .if2 .left),
-      sym (at-same-direction .same-direction .ensures) ∙ not-false _ (at-if3 .if3 .left),
-      eq-eqb _ _ (at-if4 .if4 .left),
-      sym (c .before .before .pending-is-lead .ensures) ∙ not-false _ (c .before .if5 .left),
-      c .if6 .taken,
-    )
-
-add-if7 : tie.Need-add-if7
-add-if7 c =
-    let at-if2 = c .before .before .before .before .before .before .before .before .before in
-    let at-valid-run = at-if2 .before in
-    let at-if1 = at-valid-run .before in
-    let entry = at-if1 .before .before .before .before .before .before in
-    omega (arith, at-if1 .if1 .left, valid-read (entry .args .run) (sym (at-valid-run .valid-run .ensures) ∙ not-false _ (at-if2 .if2 .left)))
-
-returns-7 : tie.Need-returns-7
-unfolding refusal
-returns-7 c =
-    let at-if5 = c .before .before .before in
-    let at-pending-is-lead = at-if5 .before in
-    let at-if4 = at-pending-is-lead .before in
-    let at-if3 = at-if4 .before .before .before in
-    let at-same-direction = at-if3 .before in
-    let at-if2 = at-same-direction .before in
-    let at-valid-run = at-if2 .before in
-    let at-if1 = at-valid-run .before in
-    let entry = at-if1 .before .before .before .before .before .before in
-    rw (
-      entry .pre,
-      le-leb _ _ (at-if1 .if1 .left),
-      sym (at-valid-run .valid-run .ensures) ∙ not-false _ (at-if2 .if2 .left),
-      sym (at-same-direction .same-direction .ensures) ∙ not-false _ (at-if3 .if3 .left),
-      eq-eqb _ _ (at-if4 .if4 .left),
-      sym (at-pending-is-lead .pending-is-lead .ensures) ∙ not-false _ (at-if5 .if5 .left),
-      c .before .before .if6 .left,
-      lt-leb _ _ (c .if7 .taken),
-    )
-
-returns-8 : tie.Need-returns-8
-unfolding refusal
-returns-8 c =
-    let at-if5 = c .before .before .before in
-    let at-pending-is-lead = at-if5 .before in
-    let at-if4 = at-pending-is-lead .before in
-    let at-if3 = at-if4 .before .before .before in
-    let at-same-direction = at-if3 .before in
-    let at-if2 = at-same-direction .before in
-    let at-valid-run = at-if2 .before in
-    let at-if1 = at-valid-run .before in
-    let entry = at-if1 .before .before .before .before .before .before in
-    rw (
-      entry .pre,
-      le-leb _ _ (at-if1 .if1 .left),
-      sym (at-valid-run .valid-run .ensures) ∙ not-false _ (at-if2 .if2 .left),
-      sym (at-same-direction .same-direction .ensures) ∙ not-false _ (at-if3 .if3 .left),
-      eq-eqb _ _ (at-if4 .if4 .left),
-      sym (at-pending-is-lead .pending-is-lead .ensures) ∙ not-false _ (at-if5 .if5 .left),
-      c .before .before .if6 .left,
-      le-leb _ _ (c .if7 .left),
-    )
+returns-5 c = refusal-rest _ _ _ _ _ (c .before .before .before .before .before .before .before .before .before .before .before .pre .0) (c .before .before .before .before .before .before .before .before .before .before .before .pre .1) (c .before .before .before .before .before .if1 .left) (rw (sym (c .before .before .before .before .pending-is-lead .ensures) ∙ not-false _ (c .before .before .before .if2 .left), c .before .before .if3 .left, le-leb _ _ (c .if4 .left)))
 
 pub refusal-spec : {M : Type 1} → statement M
 refusal-spec =
     tie.close
-    (tie.spec
-    returns
-    valid-run-requires
-    returns-2
-    same-direction-requires
-    returns-3
-    returns-4
-    pending-is-lead-requires
-    returns-5
-    returns-6
-    add-if7
-    returns-7
-    returns-8)
+    (tie.spec returns pending-is-lead-requires returns-2 returns-3 add-if4 returns-4 returns-5)
