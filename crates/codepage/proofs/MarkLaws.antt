@@ -5,7 +5,7 @@ use mathlib.Core.Path.{_≡_, refl, sym, ap, _∙_, subst}
 use Prim.Native.Nat.{ℕ, zero, suc, _+_, _*_, _/_, _%_, _<_, _≤_}
 use native.Mathlib.Nat.{zero-add}
 use native.Mathlib.Omega.{arith}
-use lib.Bits.{bitAnd}
+use lib.Bits.{bitAnd, bitOr, and-le-l, and-le-r, or-add-and}
 use lib.Dec.{leb, ltb, eqb}
 use lib.ListN.{length, take}
 use borrow.Author.Tests.{ltb-true, ltb-false, lt-ltb, le-ltb, leb-true, le-leb, eq-eqb, ne-eqb, eqb-true, eqb-false, not-true, not-false}
@@ -107,37 +107,32 @@ unfolding badClass lowRight
 low-class byte class c h = rw (lt-ltb byte 0x80 h) (same-eq (not (isKnown class) || isLead class) (ltb 0 (bitAnd class 0xFA)) (all-below lowRight 256 low-right class c))
 
 highRight : ℕ → Bool
-highRight class = eqb class 3 || same (not (isKnown class)) (ltb 6 class)
+highRight class = same (not (isKnown class)) (ltb 0 (bitAnd (bitAnd class 0xFB + 1) 0xFC))
 
 high-right : allBelow highRight 256 ≡ true
 unfolding highRight isKnown
 high-right = refl
 
-pub high-three : (byte class : ℕ) → class ≡ 3 → badClass byte class ≡ true
-unfolding badClass isKnown
-high-three byte class e = rw e
-
 or-false : (a : Bool) → (a || false) ≡ a
 or-false true = refl
 or-false false = refl
 
-pub high-class : (byte class : ℕ) → class < 256 → 0x80 ≤ byte → (class ≡ 3 → ⊥) → badClass byte class ≡ ltb 6 class
+pub high-class : (byte class : ℕ) → class < 256 → 0x80 ≤ byte → badClass byte class ≡ ltb 0 (bitAnd (bitAnd class 0xFB + 1) 0xFC)
 unfolding badClass highRight
-high-class byte class c h n =
+high-class byte class c h =
     rw (le-ltb byte 0x80 h) (or-false (not (isKnown class)))
-    ∙ same-eq (not (isKnown class)) (ltb 6 class) (or-else (eqb class 3) _ (ne-eqb class 3 n) (all-below highRight 256 high-right class c))
+    ∙ same-eq (not (isKnown class)) (ltb 0 (bitAnd (bitAnd class 0xFB + 1) 0xFC)) (all-below highRight 256 high-right class c)
 
-pub lead-two : (class : ℕ) → class ≡ 2 → isLead class ≡ true
-unfolding isLead
-lead-two class e = rw e
+leadRight : ℕ → Bool
+leadRight class = same (isLead class) (eqb (bitAnd class 0xFB) 2)
 
-pub lead-six : (class : ℕ) → class ≡ 6 → isLead class ≡ true
-unfolding isLead
-lead-six class e = rw e
+lead-right : allBelow leadRight 256 ≡ true
+unfolding leadRight isLead
+lead-right = refl
 
-pub lead-neither : (class : ℕ) → (class ≡ 2 → ⊥) → (class ≡ 6 → ⊥) → isLead class ≡ false
-unfolding isLead
-lead-neither class n₁ n₂ = rw (ne-eqb class 2 n₁, ne-eqb class 6 n₂)
+pub lead-class : (class : ℕ) → class < 256 → isLead class ≡ eqb (bitAnd class 0xFB) 2
+unfolding leadRight
+lead-class class c = same-eq (isLead class) (eqb (bitAnd class 0xFB) 2) (all-below leadRight 256 lead-right class c)
 
 known-fine : (byte class : ℕ) → isKnown class ≡ true → isLead class ≡ false → badClass byte class ≡ false
 unfolding badClass
@@ -156,29 +151,24 @@ unfolding badClass
 fine-lead byte class h e = sym (rw (lt-ltb byte 0x80 h)) ∙ or-right-false (not (isKnown class)) _ e
 
 -- ---- marks
-module _ (bad : ℕ → ℕ → Bool) (limit : ℕ) (xs : List ℕ) (from : ℕ) where
-  pub marked-start : Marked bad limit xs from from 0
+module _ (bad : ℕ → ℕ → Bool) (xs : List ℕ) (from : ℕ) where
+  pub marked-start : Marked bad xs from from 0
   marked-start = record { none-bad = λ e k l h. absurd (omega arith); one-bad = λ e. absurd (omega arith) }
 
-  pub marked-more : (i mark m r : ℕ) → from ≤ i → Marked bad limit xs from i mark → bad i (entry xs i) ≡ ltb limit m → mark ≤ r → m ≤ r → r ≡ pick (ltb mark m) m mark → Marked bad limit xs from (i + 1) r
-  marked-more i mark m r f g e h₁ h₂ q = by-bad (ltb limit m) refl
+  pub marked-more : (i mark m : ℕ) → from ≤ i → Marked bad xs from i mark → bad i (entry xs i) ≡ ltb 0 m → Marked bad xs from (i + 1) (bitOr mark m)
+  marked-more i mark m f g e = by-bad (ltb 0 m) refl
     where
-      kept : (t : Bool) → m ≤ limit → limit < pick t m mark → limit < mark
-      kept true l o = absurd (omega arith)
-      kept false l o = o
-
-      by-bad : (t : Bool) → ltb limit m ≡ t → Marked bad limit xs from (i + 1) r
-      by-bad true w =
-          let over : limit < m = ltb-true limit m w in
-          record { none-bad = λ z. absurd (omega arith); one-bad = λ z. (i, f, omega arith, e ∙ w) }
+      by-bad : (t : Bool) → ltb 0 m ≡ t → Marked bad xs from (i + 1) (bitOr mark m)
+      by-bad true w = record { none-bad = λ z. absurd (omega (arith, ltb-true 0 m w, or-add-and mark m, and-le-l mark m)); one-bad = λ z. (i, f, omega arith, e ∙ w) }
       by-bad false w =
-          let under : m ≤ limit = ltb-false limit m w in
+          let none : m ≤ 0 = ltb-false 0 m w in
+          let same-mark : bitOr mark m ≡ mark = omega (arith, or-add-and mark m, and-le-r mark m) in
           record {
-            none-bad = λ z k l h. at-or-below k l h (ltb k i) refl (omega arith) (e ∙ w);
-            one-bad = λ z. let b = g .one-bad (kept (ltb mark m) under (subst (λ (n : ℕ). limit < n) q z)) in (b .0, b .1, omega (arith, b .2), b .3);
+            none-bad = λ z k l h. at-or-below k l h (ltb k i) refl (sym same-mark ∙ z) (e ∙ w);
+            one-bad = λ z. let b = g .one-bad (subst (λ (n : ℕ). 0 < n) same-mark z) in (b .0, b .1, omega (arith, b .2), b .3);
           }
         where
-          at-or-below : (k : ℕ) → from ≤ k → k < i + 1 → (t : Bool) → ltb k i ≡ t → mark ≤ limit → bad i (entry xs i) ≡ false → bad k (entry xs k) ≡ false
+          at-or-below : (k : ℕ) → from ≤ k → k < i + 1 → (t : Bool) → ltb k i ≡ t → mark ≡ 0 → bad i (entry xs i) ≡ false → bad k (entry xs k) ≡ false
           at-or-below k l h true e z w = g .none-bad z k l (ltb-true k i e)
           at-or-below k l h false e z w =
               let f : i ≤ k = ltb-false k i e in
@@ -206,8 +196,8 @@ largest-more xs i most r g h₁ h₂ q = record { bound = λ k h. at-or-below k 
         let b = g .reached (λ y. z (same ∙ y)) in
         (b .0, omega (arith, b .1), b .2 ∙ sym same)
 
--- ---- where no mark is over the limit, no lead is low, and the leads are those from 80 on
-pub low-leads : (cs : List ℕ) (low : ℕ) → Marked badClass 0 cs 0 0x80 low → low ≤ 0 → NoLowLead cs
+-- ---- where no class is marked, no lead is low, and the leads are those from 80 on
+pub low-leads : (cs : List ℕ) (low : ℕ) → Marked badClass cs 0 0x80 low → low ≡ 0 → NoLowLead cs
 low-leads cs low l z byte h = fine-lead byte (entry cs byte) h (l .none-bad z byte (omega arith) h)
 
 pub leads-high : (cs : List ℕ) (n : ℕ) → length cs ≡ 256 → NoLowLead cs → leadsBelow cs 256 ≡ leadsBelow cs 0x80 + n → n ≡ leads cs
@@ -241,8 +231,8 @@ module _ (p : CodePage) where
       by-low true e = known-fine k (entry (p .classes) k) (g .class k h) (g .low k (ltb-true k 0x80 e))
       by-low false e = high-fine k (entry (p .classes) k) (ltb-false k 0x80 e) (g .class k h)
 
-  pub marks-needed : GoodShape p → (limit from to mark : ℕ) → to ≤ 256 → Marked badClass limit (p .classes) from to mark → limit < mark → ⊥
-  marks-needed g limit from to mark h m n =
+  pub marks-needed : GoodShape p → (from to mark : ℕ) → to ≤ 256 → Marked badClass (p .classes) from to mark → 0 < mark → ⊥
+  marks-needed g from to mark h m n =
       let b = m .one-bad n in
       true≢false (sym (b .3) ∙ class-needed g (b .0) (omega (arith, b .2)))
 
@@ -255,7 +245,7 @@ module _ (p : CodePage) where
           let b = m .reached (eqb-false most 0 e) in
           omega (arith, g .number (b .0) (b .1), b .2)
 
-  pub good-by-marks : (p .page ≡ 0 → ⊥) → goodSizes (length (p .classes)) (length (p .singles)) (length (p .index)) (length (p .blocks)) ≡ true → (low high most : ℕ) → Marked badClass 0 (p .classes) 0 0x80 low → low ≤ 0 → Marked badClass 6 (p .classes) 0x80 256 high → high ≤ 6 → Largest (p .index) 256 most → most < length (p .blocks) / 256 → length (p .pairs) ≡ 256 * leads (p .classes) → GoodShape p
+  pub good-by-marks : (p .page ≡ 0 → ⊥) → goodSizes (length (p .classes)) (length (p .singles)) (length (p .index)) (length (p .blocks)) ≡ true → (low high most : ℕ) → Marked badClass (p .classes) 0 0x80 low → low ≡ 0 → Marked badClass (p .classes) 0x80 256 high → high ≡ 0 → Largest (p .index) 256 most → most < length (p .blocks) / 256 → length (p .pairs) ≡ 256 * leads (p .classes) → GoodShape p
   unfolding goodSizes badClass
   good-by-marks page sizes low high most l l0 h h0 m lt pairs =
       let s₅ : (eqb (length (p .classes)) 256 && eqb (length (p .singles)) 256 && eqb (length (p .index)) 256 && eqb (length (p .blocks) % 256) 0 && leb 1 (length (p .blocks) / 256)) ≡ true =

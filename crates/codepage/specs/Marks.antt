@@ -12,10 +12,10 @@ abbrev pub markOf : Bool → ℕ
 markOf true = 1
 markOf false = 0
 
--- a mark over the entries from `from` on and below `to`: over the limit exactly if one is bad
-pub record Marked (bad : ℕ → ℕ → Bool) (limit : ℕ) (xs : List ℕ) (from to mark : ℕ) : Type 0 where
-  pub none-bad : mark ≤ limit → (k : ℕ) → from ≤ k → k < to → bad k (entry xs k) ≡ false
-  pub one-bad : limit < mark → (k : ℕ) × (from ≤ k) × (k < to) × (bad k (entry xs k) ≡ true)
+-- a mark over the entries from `from` on and below `to`: over 0 exactly if one is bad
+pub record Marked (bad : ℕ → ℕ → Bool) (xs : List ℕ) (from to mark : ℕ) : Type 0 where
+  pub none-bad : mark ≡ 0 → (k : ℕ) → from ≤ k → k < to → bad k (entry xs k) ≡ false
+  pub one-bad : 0 < mark → (k : ℕ) × (from ≤ k) × (k < to) × (bad k (entry xs k) ≡ true)
 
 -- the largest of the entries below `to`
 pub record Largest (xs : List ℕ) (to most : ℕ) : Type 0 where

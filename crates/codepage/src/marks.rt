@@ -12,10 +12,7 @@ ghost use Rattle.codepage.specs.Marks.{markOf, Marked, Largest};
 pub fn lead_mark(class: u8) -> u8
     ensures { λ r. ⌜ r ≡ markOf (isLead class) ⌝ }
 {
-    if class == 2 {
-        return 1;
-    }
-    if class == 6 {
+    if class & 0xFB == 2 {
         return 1;
     }
     0
@@ -28,14 +25,11 @@ fn low_mark(class: u8) -> u8
     class & 0xFA
 }
 
-// At most 6 for a class that a byte from 80 on can have, else more.
+// 0 for a class that a byte from 80 on can have, else another number.
 fn high_mark(class: u8) -> u8
-    ensures { λ r. ⌜ ((byte : ℕ) → 0x80 ≤ byte → badClass byte class ≡ ltb 6 r) ⌝ }
+    ensures { λ r. ⌜ ((byte : ℕ) → 0x80 ≤ byte → badClass byte class ≡ ltb 0 r) ⌝ }
 {
-    if class == 3 {
-        return 255;
-    }
-    class
+    ((class & 0xFB) + 1) & 0xFC
 }
 
 // The larger of two numbers.
@@ -62,26 +56,26 @@ pub fn smaller(a: u8, b: u8) -> u8
 // 0 where no byte below 80 has a bad class.
 pub fn low_marks(classes: &[u8]) -> u8
     requires { ⌜ length (now classes) ≡ 256 ⌝ }
-    ensures { λ r. ⌜ Marked badClass 0 (now (classes .entry)) 0 0x80 r ⌝ }
+    ensures { λ r. ⌜ Marked badClass (now (classes .entry)) 0 0x80 r ⌝ }
 {
     let mut mark: u8 = 0;
     let mut i: usize = 0;
     while i < 128 {
-        mark = larger(mark, low_mark(classes[i]));
+        mark = mark | low_mark(classes[i]);
         i += 1;
     }
     mark
 }
 
-// At most 6 where no byte from 80 on has a bad class.
+// 0 where no byte from 80 on has a bad class.
 pub fn high_marks(classes: &[u8]) -> u8
     requires { ⌜ length (now classes) ≡ 256 ⌝ }
-    ensures { λ r. ⌜ Marked badClass 6 (now (classes .entry)) 0x80 256 r ⌝ }
+    ensures { λ r. ⌜ Marked badClass (now (classes .entry)) 0x80 256 r ⌝ }
 {
     let mut mark: u8 = 0;
     let mut i: usize = 128;
     while i < 256 {
-        mark = larger(mark, high_mark(classes[i]));
+        mark = mark | high_mark(classes[i]);
         i += 1;
     }
     mark

@@ -49,7 +49,7 @@ pub fn good_shape(
     if marks::low_marks(classes) != 0 {
         return false;
     }
-    if 6 < marks::high_marks(classes) {
+    if marks::high_marks(classes) != 0 {
         return false;
     }
     if blocks.len() / 256 <= (marks::largest(index) as usize) {

@@ -1,13 +1,14 @@
-use Rattle.codepage.proofs.MarkLaws.{high-three, high-class}
+use Rattle.codepage.proofs.MarkLaws.{high-class}
 use native.Mathlib.Omega.{arith}
+use lib.Bits.{and-le-r}
 use Rattle.codepage.proofs.marks.high_mark.Statement.{statement}
 use Rattle.codepage.proofs.marks.high_mark.Tie as tie
 
-returns : tie.Need-returns
-returns c = λ byte h. high-three byte (c .before .args .class) (c .if1 .taken)
+add-result : tie.Need-add-result
+add-result c = omega (arith, and-le-r (c .args .class) 0xFB)
 
-returns-2 : tie.Need-returns-2
-returns-2 c = λ byte h. high-class byte (c .before .args .class) (omega arith) h (c .if1 .left)
+returns : tie.Need-returns
+returns c = λ byte h. high-class byte (c .args .class) (omega arith) h
 
 pub high-mark-spec : {M : Type 1} → statement M
-high-mark-spec = tie.close (tie.spec returns returns-2)
+high-mark-spec = tie.close (tie.spec add-result returns)

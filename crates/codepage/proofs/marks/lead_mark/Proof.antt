@@ -1,17 +1,23 @@
-use mathlib.Core.Path.{sym, ap}
+use mathlib.Core.Path.{sym, ap, _∙_}
+use borrow.Author.Tests.{eq-eqb, ne-eqb}
+use native.Mathlib.Omega.{arith}
+use lib.Bits.{bitAnd}
 use Rattle.codepage.specs.Marks.{markOf}
-use Rattle.codepage.proofs.MarkLaws.{lead-two, lead-six, lead-neither}
+use Rattle.codepage.proofs.MarkLaws.{lead-class}
 use Rattle.codepage.proofs.marks.lead_mark.Statement.{statement}
 use Rattle.codepage.proofs.marks.lead_mark.Tie as tie
 
 returns : tie.Need-returns
-returns c = ap markOf (sym (lead-two (c .before .args .class) (c .if1 .taken)))
+returns c =
+    let entry = c .before in
+    let class = entry .args .class in
+    ap markOf (sym (lead-class class (omega arith) ∙ eq-eqb (bitAnd class 0xFB) 2 (c .if1 .taken)))
 
 returns-2 : tie.Need-returns-2
-returns-2 c = ap markOf (sym (lead-six (c .before .before .args .class) (c .if2 .taken)))
-
-returns-3 : tie.Need-returns-3
-returns-3 c = ap markOf (sym (lead-neither (c .before .before .args .class) (c .before .if1 .left) (c .if2 .left)))
+returns-2 c =
+    let entry = c .before in
+    let class = entry .args .class in
+    ap markOf (sym (lead-class class (omega arith) ∙ ne-eqb (bitAnd class 0xFB) 2 (c .if1 .left)))
 
 pub lead-mark-spec : {M : Type 1} → statement M
-lead-mark-spec = tie.close (tie.spec returns returns-2 returns-3)
+lead-mark-spec = tie.close (tie.spec returns returns-2)

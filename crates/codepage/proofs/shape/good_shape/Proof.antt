@@ -35,7 +35,7 @@ returns-3 : tie.Need-returns-3
 returns-3 c =
     let entry = c .before .before .before .before .before .before .before .before .before .before .before in
     let page = codePage (entry .args .numbers) (entry .args .classes .now) (entry .args .singles .now) (entry .args .pairs .now) (entry .args .index .now) (entry .args .blocks .now) in
-    bad-if page (λ g. marks-needed page g 0 0 0x80 _ (omega arith) (c .before .low-marks .ensures) (omega (arith, c .if3 .taken)))
+    bad-if page (λ g. marks-needed page g 0 0x80 _ (omega arith) (c .before .low-marks .ensures) (omega (arith, c .if3 .taken)))
 
 high-marks-requires : tie.Need-high-marks-requires
 high-marks-requires c κs =
@@ -49,7 +49,7 @@ returns-4 : tie.Need-returns-4
 returns-4 c =
     let entry = c .before .before .before .before .before .before .before .before .before .before .before .before .before in
     let page = codePage (entry .args .numbers) (entry .args .classes .now) (entry .args .singles .now) (entry .args .pairs .now) (entry .args .index .now) (entry .args .blocks .now) in
-    bad-if page (λ g. marks-needed page g 6 0x80 256 _ (omega arith) (c .before .high-marks .ensures) (c .if4 .taken))
+    bad-if page (λ g. marks-needed page g 0x80 256 _ (omega arith) (c .before .high-marks .ensures) (omega (arith, c .if4 .taken)))
 
 largest-requires : tie.Need-largest-requires
 largest-requires c κs =
@@ -102,9 +102,8 @@ returns-7 c =
     let entry = at-if1 .before .before .before .before .before .before .before in
     let page = codePage (entry .args .numbers) (entry .args .classes .now) (entry .args .singles .now) (entry .args .pairs .now) (entry .args .index .now) (entry .args .blocks .now) in
     let size = classes-size (length (entry .args .classes .now)) (length (entry .args .singles .now)) (length (entry .args .index .now)) (length (entry .args .blocks .now)) (sym (at-good-sizes .good-sizes .ensures) ∙ not-false _ (at-if2 .if2 .left)) in
-    let none : at-low-marks .low-marks .result ≤ 0 = omega (arith, at-if3 .if3 .left) in
-    let leads = leads-high (entry .args .classes .now) _ size (low-leads (entry .args .classes .now) _ (at-low-marks .low-marks .ensures) none) (c .before .high-leads .ensures) in
-    good-if page (good-by-marks page (at-if1 .if1 .left) (sym (at-good-sizes .good-sizes .ensures) ∙ not-false _ (at-if2 .if2 .left)) _ _ _ (at-low-marks .low-marks .ensures) none (at-high-marks .high-marks .ensures) (at-if4 .if4 .left) (at-largest .largest .ensures) (omega arith) (c .if6 .left ∙ ap (λ (k : ℕ). 256 * k) leads))
+    let leads = leads-high (entry .args .classes .now) _ size (low-leads (entry .args .classes .now) _ (at-low-marks .low-marks .ensures) (at-if3 .if3 .left)) (c .before .high-leads .ensures) in
+    good-if page (good-by-marks page (at-if1 .if1 .left) (sym (at-good-sizes .good-sizes .ensures) ∙ not-false _ (at-if2 .if2 .left)) _ _ _ (at-low-marks .low-marks .ensures) (at-if3 .if3 .left) (at-high-marks .high-marks .ensures) (at-if4 .if4 .left) (at-largest .largest .ensures) (omega arith) (c .if6 .left ∙ ap (λ (k : ℕ). 256 * k) leads))
 
 pub good-shape-spec : {M : Type 1} → statement M
 good-shape-spec =
