@@ -148,65 +148,7 @@ fn run_of_pairs(
     k
 }
 
-// The next byte alone, if it has a character: how many bytes were taken, 0 or 1.
-fn alone_one(
-    classes: &[u8],
-    singles: &[u16],
-    piece: &[u8],
-    i: usize,
-    out: &mut [u16],
-    w: usize,
-) -> usize
-    requires { ⌜ (length (now classes) ≡ 256) × (length (now singles) ≡ 256) × (i + 1 ≤ length (now piece)) × (w + 1 ≤ length (now out)) ⌝ }
-    ensures { λ r. ⌜ (r ≤ 1) × ((pairs : List ℕ) → Ran (decoder (now (classes .entry)) (now (singles .entry)) pairs) (now (piece .entry)) (now (out .entry)) i w (now (out .exit)) (i + r) (w + r)) ⌝ }
-{
-    let unit = lookup::single_unit(classes, singles, piece[i]);
-    if unit == 0xFFFF {
-        return 0;
-    }
-    out[w] = unit;
-    1
-}
-
-// The next two bytes: how many were taken.
-fn alone_two(
-    classes: &[u8],
-    singles: &[u16],
-    piece: &[u8],
-    i: usize,
-    out: &mut [u16],
-    w: usize,
-) -> usize
-    requires { ⌜ (length (now classes) ≡ 256) × (length (now singles) ≡ 256) × (i + 2 ≤ length (now piece)) × (w + 2 ≤ length (now out)) ⌝ }
-    ensures { λ r. ⌜ (r ≤ 2) × ((pairs : List ℕ) → Ran (decoder (now (classes .entry)) (now (singles .entry)) pairs) (now (piece .entry)) (now (out .entry)) i w (now (out .exit)) (i + r) (w + r)) ⌝ }
-{
-    let taken = alone_one(classes, singles, piece, i, out, w);
-    if taken < 1 {
-        return taken;
-    }
-    1 + alone_one(classes, singles, piece, i + 1, out, w + 1)
-}
-
-// The next four bytes: how many were taken.
-fn alone_four(
-    classes: &[u8],
-    singles: &[u16],
-    piece: &[u8],
-    i: usize,
-    out: &mut [u16],
-    w: usize,
-) -> usize
-    requires { ⌜ (length (now classes) ≡ 256) × (length (now singles) ≡ 256) × (i + 4 ≤ length (now piece)) × (w + 4 ≤ length (now out)) ⌝ }
-    ensures { λ r. ⌜ (r ≤ 4) × ((pairs : List ℕ) → Ran (decoder (now (classes .entry)) (now (singles .entry)) pairs) (now (piece .entry)) (now (out .entry)) i w (now (out .exit)) (i + r) (w + r)) ⌝ }
-{
-    let taken = alone_two(classes, singles, piece, i, out, w);
-    if taken < 2 {
-        return taken;
-    }
-    2 + alone_two(classes, singles, piece, i + 2, out, w + 2)
-}
-
-// Bytes alone that have characters, `n` at most, four in a turn: how many were taken.
+// Bytes alone that have characters, `n` at most: how many were taken.
 fn run_of_alone(
     classes: &[u8],
     singles: &[u16],
@@ -220,12 +162,13 @@ fn run_of_alone(
     ensures { λ r. ⌜ (r ≤ n) × ((pairs : List ℕ) → Ran (decoder (now (classes .entry)) (now (singles .entry)) pairs) (now (piece .entry)) (now (out .entry)) from at (now (out .exit)) (from + r) (at + r)) ⌝ }
 {
     let mut k = 0;
-    while 4 <= n - k {
-        let taken = alone_four(classes, singles, piece, from + k, out, at + k);
-        k += taken;
-        if taken < 4 {
+    while k < n {
+        let unit = lookup::single_unit(classes, singles, piece[from + k]);
+        if unit == 0xFFFF {
             return k;
         }
+        out[at + k] = unit;
+        k += 1;
     }
     k
 }
@@ -263,7 +206,7 @@ fn take_mixed(
     }
 }
 
-// Codes of one or two bytes on a page where text below 80 stays as it is, until fewer than eight bytes or units are left.
+// Codes of one or two bytes on a page where text below 80 stays as it is.
 pub fn run_of_mixed(
     leads: Leads,
     classes: &[u8],
@@ -282,7 +225,7 @@ pub fn run_of_mixed(
     let end = from + runs::smaller(piece.len() - from, out.len() - at);
     let mut i = from;
     let mut w = at;
-    while 8 <= end - i {
+    while i < end {
         let place = take_mixed(leads, classes, singles, pairs, piece, i, w, end - i, out);
         if place.read <= i {
             return place;
@@ -294,4 +237,29 @@ pub fn run_of_mixed(
         read: i,
         written: w,
     }
+}
+
+// Codes that have characters, as many as come one after the other and fit. Where the run before was long, and the page keeps text
+// below 80 as it is, by the loops for mixed text; else code by code, which costs less where runs are short.
+pub fn run_of(
+    long: bool,
+    leads: Leads,
+    classes: &[u8],
+    singles: &[u16],
+    pairs: &[u16],
+    piece: &[u8],
+    from: usize,
+    at: usize,
+    out: &mut [u16],
+) -> Place
+    requires { ⌜ DecodeSizes (now classes) (now singles) (now pairs) ⌝ }
+    requires { ⌜ (long ≡ true → PlainPage (now classes) (now singles)) ⌝ }
+    requires { ⌜ LeadsAt (now classes) leads ⌝ }
+    requires { ⌜ (from ≤ length (now piece)) × (at ≤ length (now out)) ⌝ }
+    ensures { λ r. ⌜ Ran (decoder (now (classes .entry)) (now (singles .entry)) (now (pairs .entry))) (now (piece .entry)) (now (out .entry)) from at (now (out .exit)) (r .read) (r .written) ⌝ }
+{
+    if long {
+        return run_of_mixed(leads, classes, singles, pairs, piece, from, at, out);
+    }
+    runs::run_of_codes(leads, classes, singles, pairs, piece, from, at, out)
 }

@@ -23,7 +23,7 @@ use Rattle.engine.proofs.LoopLaws.{later}
 use Rattle.engine.proofs.TurnLaws.{one-step, settled-step, wait-step, no-more}
 use Rattle.fastpath.specs.Runs.{Ran}
 use Rattle.loops.specs.declared.turns.Turn.{Turn}
-use Rattle.loops.specs.Turns.{startTurn, movedTurn, pastTurn, waitTurn, leftWaiting, stepsLeft, Ready, restOf, Turned, Advanced, Closed, Loop}
+use Rattle.loops.specs.Turns.{startTurn, movedTurn, pastTurn, waitTurn, leftWaiting, stepsLeft, Ready, restOf, Turned, Advanced, Settled, Closed, Loop}
 
 pub took-as : {k k′ : Effect} {n : ℕ} {s : Progress} {out : List ℕ} {r : Progress} {out′ : List ℕ} → k ≡ k′ → Took k n s out r out′ → Took k′ n s out r out′
 took-as {n = n} {s = s} {out = out} {r = r} {out′ = out′} e w = subst (λ (x : Effect). Took x n s out r out′) e w
@@ -131,7 +131,7 @@ turned-ran policy default {R} {piece} {out} {t} {out′} {i} {w} e a =
     }
 
 -- one turn, and then another
-pub turned-then : {v : Converter} {piece out : List ℕ} {t : Turn} {out₁ : List ℕ} {m : Turn} {out₂ : List ℕ} {r : Turn} → Turned v piece out t out₁ m → m .progress .answer ≡ 0
+turned-then : {v : Converter} {piece out : List ℕ} {t : Turn} {out₁ : List ℕ} {m : Turn} {out₂ : List ℕ} {r : Turn} → Turned v piece out t out₁ m → m .progress .answer ≡ 0
     → Turned v piece out₁ m out₂ r → Turned v piece out t out₂ r
 turned-then {out = out} {out₁ = out₁} {m = m} {r = r} a z b =
     record {
@@ -145,6 +145,28 @@ turned-then {out = out} {out₁ = out₁} {m = m} {r = r} a z b =
       goes = λ y last. a .goes z last ∙ b .goes y last;
       ends = λ y last. a .goes z last ∙ b .ends y last;
     }
+
+-- a unit that waits is settled, if there is one
+module _ {v : Converter} {piece out : List ℕ} {t : Turn} where
+  pub settled-one : {out′ : List ℕ} {r : Turn} → t .waits ≡ true → Advanced v piece out t out′ r → r .waits ≡ false → Settled v piece out t out′ r
+  settled-one e a n = record { turned = a .turned; none-waits = n; as-before = λ w. absurd (false≢true (sym w ∙ e)); falls = λ w. a .falls }
+
+  pub settled-none : t .progress .answer ≡ 0 → t .progress .written ≤ length out → t .waits ≡ false → Settled v piece out t out t
+  settled-none z h e =
+      record { turned = turned-none z h (λ w. absurd (false≢true (sym e ∙ w))); none-waits = e; as-before = λ w. refl; falls = λ w. absurd (false≢true (sym e ∙ w)) }
+
+  module _ {out₁ : List ℕ} {m : Turn} (a : Settled v piece out t out₁ m) where
+    -- where something was done, the turn comes nearer to the end
+    pub settled-advanced : (m ≡ t → ⊥) → Advanced v piece out t out₁ m
+    settled-advanced n = by-wait (t .waits) refl
+      where
+        by-wait : (b : Bool) → t .waits ≡ b → Advanced v piece out t out₁ m
+        by-wait true e = record { turned = a .turned; falls = a .falls e }
+        by-wait false e = absurd (n (a .as-before e))
+
+    -- and then another turn
+    pub settled-then : {out₂ : List ℕ} {r : Turn} → m .progress .answer ≡ 0 → Advanced v piece out₁ m out₂ r → Advanced v piece out t out₂ r
+    settled-then z b = record { turned = turned-then (a .turned) z (b .turned); falls = omega (arith, a .turned .left, b .falls) }
 
 -- a turn that comes nearer to the end, and then codes that have characters
 pub advanced-ran : {R : Reader} (policy : Policy) (default : ℕ) {piece out : List ℕ} {t : Turn} {out₁ : List ℕ} {m : Turn} {out₂ : List ℕ} {i w : ℕ} {r : Turn}
@@ -169,7 +191,7 @@ module _ {R : Reader} {piece out : List ℕ} {t : Turn} {out₁ : List ℕ} {i w
     ap (λ (x : Turn). x .waits) q,
   )
 
-  pub turned-moved : (policy : Policy) (default : ℕ) → t .waits ≡ false → Ran R piece out (t .at) (t .progress .written) out₁ i w → m ≡ movedTurn t i w → Turned (converter R policy default) piece out t out₁ m
+  turned-moved : (policy : Policy) (default : ℕ) → t .waits ≡ false → Ran R piece out (t .at) (t .progress .written) out₁ i w → m ≡ movedTurn t i w → Turned (converter R policy default) piece out t out₁ m
   turned-moved policy default e a q = subst (Turned (converter R policy default) piece out t out₁) (sym q) (turned-ran policy default e a)
 
   pub ran-then : (policy : Policy) (default : ℕ) {out₂ : List ℕ} {r : Turn} → t .at < length piece → t .waits ≡ false → Ran R piece out (t .at) (t .progress .written) out₁ i w
@@ -243,6 +265,10 @@ module _ {v : Converter} {last : Bool} {out : List ℕ} {t : Turn} where
 one-at-most : (b : Bool) → oneIf b ≤ 1
 one-at-most true = omega arith
 one-at-most false = omega arith
+
+-- a turn does not go back in the piece
+pub not-back : {v : Converter} {piece out : List ℕ} {t : Turn} {out′ : List ℕ} {r : Turn} → Advanced v piece out t out′ r → Ready piece out t → r .progress .answer ≡ 0 → t .at ≤ r .at
+not-back {t = t} a g z = omega (arith, a .falls, a .turned .ready z g .inside, g .inside, one-at-most (t .waits))
 
 pub loop-start : (v : Converter) (last waits : Bool) (first : ℕ) (piece out : List ℕ) {t : Turn} → (waits ≡ true → v .reader .waits first ≡ true) → t ≡ startTurn waits first
     → Loop v last (feedFrom v last (limit (length out)) (optional waits first) piece) out piece out t

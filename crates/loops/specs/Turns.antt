@@ -63,6 +63,13 @@ pub record Advanced (v : Converter) (piece out : List ℕ) (t : Turn) (out′ : 
   pub turned : Turned v piece out t out′ r
   pub falls : stepsLeft piece r < stepsLeft piece t
 
+-- A unit that waits is settled, or none waits and nothing was done.
+pub record Settled (v : Converter) (piece out : List ℕ) (t : Turn) (out′ : List ℕ) (r : Turn) : Type 0 where
+  pub turned : Turned v piece out t out′ r
+  pub none-waits : r .waits ≡ false
+  pub as-before : t .waits ≡ false → r ≡ t
+  pub falls : t .waits ≡ true → stepsLeft piece r < stepsLeft piece t
+
 -- At the end of a piece the call has come to t: r is what it answers.
 pub record Closed (v : Converter) (last : Bool) (out : List ℕ) (t : Turn) (out′ : List ℕ) (r : Progress) : Type 0 where
   pub same : length out′ ≡ length out

@@ -11,8 +11,9 @@ ghost use Rattle.codepage.specs.Reading.{decoder};
 ghost use Rattle.lookup.specs.Profile.{LeadsAt};
 ghost use Rattle.engine.specs.Engine.{Fed, converter};
 ghost use Rattle.engine.specs.Steps.{doesAlone, summary, Took, Ends, DecodeSizes, optional, oneIf, decodeFed};
+ghost use Rattle.fastpath.specs.Words.{PlainPage};
 ghost use Rattle.loops.specs.Ways.{Way};
-ghost use Rattle.loops.specs.Turns.{stepsLeft, Ready, Turned, Advanced, Closed, Loop};
+ghost use Rattle.loops.specs.Turns.{stepsLeft, Ready, Turned, Advanced, Settled, Closed, Loop};
 use crate::turns;
 use crate::turns::Turn;
 use engine::Policy;
@@ -23,6 +24,9 @@ use fastpath::mixed;
 use fastpath::plain;
 use fastpath::runs;
 use lookup::profile::Leads;
+
+// A run of so many bytes is long.
+const LONG: usize = 32;
 
 // Takes a byte that is a code by itself.
 fn take_alone(
@@ -113,7 +117,7 @@ fn settle(
     requires { ⌜ LeadsAt (now classes) leads ⌝ }
     requires { ⌜ Ready (now piece) (now out) t × (t .at < length (now piece)) ⌝ }
     requires { ⌜ (t .waits ≡ true) × (isLead (entry (now classes) (t .first)) ≡ true) ⌝ }
-    ensures { λ r. ⌜ Advanced (converter (decoder (now (classes .entry)) (now (singles .entry)) (now (pairs .entry))) policy default) (now (piece .entry)) (now (out .entry)) t (now (out .exit)) r ⌝ }
+    ensures { λ r. ⌜ Advanced (converter (decoder (now (classes .entry)) (now (singles .entry)) (now (pairs .entry))) policy default) (now (piece .entry)) (now (out .entry)) t (now (out .exit)) r × (r .waits ≡ false) ⌝ }
 {
     let at = t.at;
     let s = t.progress;
@@ -159,25 +163,37 @@ fn advance(
     classes: &[u8],
     singles: &[u16],
     pairs: &[u16],
+    long: bool,
     leads: Leads,
     piece: &[u8],
     t: Turn,
     out: &mut [u16],
 ) -> Turn
     requires { ⌜ DecodeSizes (now classes) (now singles) (now pairs) ⌝ }
+    requires { ⌜ (long ≡ true → PlainPage (now classes) (now singles)) ⌝ }
     requires { ⌜ LeadsAt (now classes) leads ⌝ }
     requires { ⌜ Ready (now piece) (now out) t × (t .at < length (now piece)) × (t .waits ≡ false) ⌝ }
     ensures { λ r. ⌜ Advanced (converter (decoder (now (classes .entry)) (now (singles .entry)) (now (pairs .entry))) policy default) (now (piece .entry)) (now (out .entry)) t (now (out .exit)) r ⌝ }
 {
     let at = t.at;
     let s = t.progress;
-    let place = runs::run_of_codes(leads, classes, singles, pairs, piece, at, s.written, out);
+    let place = mixed::run_of(
+        long,
+        leads,
+        classes,
+        singles,
+        pairs,
+        piece,
+        at,
+        s.written,
+        out,
+    );
     let next = turns::moved(t, place.read, place.written);
     next_code(policy, default, classes, singles, piece, next, out)
 }
 
-// A turn on a page with lead bytes.
-fn codes_turn(
+// Settles the lead byte that waits, if there is one.
+fn settle_first(
     policy: Policy,
     default: u16,
     classes: &[u8],
@@ -192,22 +208,12 @@ fn codes_turn(
     requires { ⌜ LeadsAt (now classes) leads ⌝ }
     requires { ⌜ Ready (now piece) (now out) t × (t .at < length (now piece)) ⌝ }
     requires { ⌜ (t .waits ≡ true → isLead (entry (now classes) (t .first)) ≡ true) ⌝ }
-    ensures { λ r. ⌜ Advanced (converter (decoder (now (classes .entry)) (now (singles .entry)) (now (pairs .entry))) policy default) (now (piece .entry)) (now (out .entry)) t (now (out .exit)) r ⌝ }
+    ensures { λ r. ⌜ Settled (converter (decoder (now (classes .entry)) (now (singles .entry)) (now (pairs .entry))) policy default) (now (piece .entry)) (now (out .entry)) t (now (out .exit)) r ⌝ }
 {
-    if t.waits {
-        return settle(
-            policy,
-            default,
-            classes,
-            singles,
-            pairs,
-            leads,
-            piece,
-            t,
-            out,
-        );
+    if !t.waits {
+        return t;
     }
-    advance(
+    settle(
         policy,
         default,
         classes,
@@ -216,6 +222,58 @@ fn codes_turn(
         leads,
         piece,
         t,
+        out,
+    )
+}
+
+// A turn on a page with lead bytes: the one that waits, codes that have characters, and the code behind them.
+fn codes_turn(
+    policy: Policy,
+    default: u16,
+    classes: &[u8],
+    singles: &[u16],
+    pairs: &[u16],
+    long: bool,
+    leads: Leads,
+    piece: &[u8],
+    t: Turn,
+    out: &mut [u16],
+) -> Turn
+    requires { ⌜ DecodeSizes (now classes) (now singles) (now pairs) ⌝ }
+    requires { ⌜ (long ≡ true → PlainPage (now classes) (now singles)) ⌝ }
+    requires { ⌜ LeadsAt (now classes) leads ⌝ }
+    requires { ⌜ Ready (now piece) (now out) t × (t .at < length (now piece)) ⌝ }
+    requires { ⌜ (t .waits ≡ true → isLead (entry (now classes) (t .first)) ≡ true) ⌝ }
+    ensures { λ r. ⌜ Advanced (converter (decoder (now (classes .entry)) (now (singles .entry)) (now (pairs .entry))) policy default) (now (piece .entry)) (now (out .entry)) t (now (out .exit)) r ⌝ }
+{
+    let next = settle_first(
+        policy,
+        default,
+        classes,
+        singles,
+        pairs,
+        leads,
+        piece,
+        t,
+        out,
+    );
+    let s = next.progress;
+    if s.answer != 0 {
+        return next;
+    }
+    if piece.len() <= next.at {
+        return next;
+    }
+    advance(
+        policy,
+        default,
+        classes,
+        singles,
+        pairs,
+        long,
+        leads,
+        piece,
+        next,
         out,
     )
 }
@@ -245,115 +303,15 @@ fn at_end(
     turns::left_waiting(t)
 }
 
-// Codes that have characters, many at a time, if the page keeps text below 80 as it is.
-fn first_run(
-    policy: Policy,
-    default: u16,
-    classes: &[u8],
-    singles: &[u16],
-    pairs: &[u16],
-    leads: Leads,
-    piece: &[u8],
-    t: Turn,
-    out: &mut [u16],
-) -> Turn
-    requires { ⌜ DecodeSizes (now classes) (now singles) (now pairs) ⌝ }
-    requires { ⌜ LeadsAt (now classes) leads ⌝ }
-    requires { ⌜ Ready (now piece) (now out) t × (t .waits ≡ false) ⌝ }
-    ensures { λ r. ⌜ Turned (converter (decoder (now (classes .entry)) (now (singles .entry)) (now (pairs .entry))) policy default) (now (piece .entry)) (now (out .entry)) t (now (out .exit)) r ⌝ }
+// Whether the run of a turn was long, on a page that keeps text below 80 as it is.
+fn goes_on(plain: bool, before: usize, after: usize) -> bool
+    requires { ⌜ before ≤ after ⌝ }
+    ensures { λ r. ⌜ (r ≡ true → plain ≡ true) ⌝ }
 {
-    if !lookup::profile::plain_bytes(classes, singles) {
-        return t;
+    if !plain {
+        return false;
     }
-    let s = t.progress;
-    let place = mixed::run_of_mixed(leads, classes, singles, pairs, piece, t.at, s.written, out);
-    turns::moved(t, place.read, place.written)
-}
-
-// Settles the lead byte that waits, if there is one and the piece has a byte.
-fn settle_first(
-    policy: Policy,
-    default: u16,
-    classes: &[u8],
-    singles: &[u16],
-    pairs: &[u16],
-    leads: Leads,
-    piece: &[u8],
-    t: Turn,
-    out: &mut [u16],
-) -> Turn
-    requires { ⌜ DecodeSizes (now classes) (now singles) (now pairs) ⌝ }
-    requires { ⌜ LeadsAt (now classes) leads ⌝ }
-    requires { ⌜ Ready (now piece) (now out) t ⌝ }
-    requires { ⌜ (t .waits ≡ true → isLead (entry (now classes) (t .first)) ≡ true) ⌝ }
-    ensures { λ r. ⌜ Turned (converter (decoder (now (classes .entry)) (now (singles .entry)) (now (pairs .entry))) policy default) (now (piece .entry)) (now (out .entry)) t (now (out .exit)) r ⌝ }
-{
-    if !t.waits {
-        return t;
-    }
-    if piece.len() <= t.at {
-        return t;
-    }
-    settle(
-        policy,
-        default,
-        classes,
-        singles,
-        pairs,
-        leads,
-        piece,
-        t,
-        out,
-    )
-}
-
-// The beginning of a piece: a lead byte that waits is settled, and codes that have characters are taken many at a time.
-fn begin(
-    policy: Policy,
-    default: u16,
-    classes: &[u8],
-    singles: &[u16],
-    pairs: &[u16],
-    leads: Leads,
-    piece: &[u8],
-    t: Turn,
-    out: &mut [u16],
-) -> Turn
-    requires { ⌜ DecodeSizes (now classes) (now singles) (now pairs) ⌝ }
-    requires { ⌜ LeadsAt (now classes) leads ⌝ }
-    requires { ⌜ Ready (now piece) (now out) t ⌝ }
-    requires { ⌜ (t .waits ≡ true → isLead (entry (now classes) (t .first)) ≡ true) ⌝ }
-    ensures { λ r. ⌜ Turned (converter (decoder (now (classes .entry)) (now (singles .entry)) (now (pairs .entry))) policy default) (now (piece .entry)) (now (out .entry)) t (now (out .exit)) r ⌝ }
-{
-    let next = settle_first(
-        policy,
-        default,
-        classes,
-        singles,
-        pairs,
-        leads,
-        piece,
-        t,
-        out,
-    );
-    let s = next.progress;
-    if s.answer != 0 {
-        return next;
-    }
-    if next.waits {
-        return next;
-    }
-    first_run(
-        policy,
-        default,
-        classes,
-        singles,
-        pairs,
-        leads,
-        piece,
-        next,
-        out,
-    )
+    LONG <= after - before
 }
 
 // The turns of a call from a place on, and its end.
@@ -363,6 +321,7 @@ fn decode_rest(
     classes: &[u8],
     singles: &[u16],
     pairs: &[u16],
+    plain: bool,
     leads: Leads,
     piece: &[u8],
     from: Turn,
@@ -370,18 +329,22 @@ fn decode_rest(
     out: &mut [u16],
 ) -> Progress
     requires { ⌜ DecodeSizes (now classes) (now singles) (now pairs) ⌝ }
+    requires { ⌜ (plain ≡ true → PlainPage (now classes) (now singles)) ⌝ }
     requires { ⌜ LeadsAt (now classes) leads ⌝ }
     requires { ⌜ Ready (now piece) (now out) from × (from .waits ≡ true → isLead (entry (now classes) (from .first)) ≡ true) ⌝ }
     ensures { λ r. ⌜ (length (now (out .exit)) ≡ length (now (out .entry))) × ((F : Fed) (before : List ℕ) → Loop (converter (decoder (now (classes .entry)) (now (singles .entry)) (now (pairs .entry))) policy default) last F before (now (piece .entry)) (now (out .entry)) from → Ends F before (now (out .exit)) r) ⌝ }
 {
     let mut t = from;
+    let mut long = plain;
     while t.at < piece.len() {
+        let before = t.at;
         t = codes_turn(
             policy,
             default,
             classes,
             singles,
             pairs,
+            long,
             leads,
             piece,
             t,
@@ -391,6 +354,7 @@ fn decode_rest(
         if s.answer != 0 {
             return s;
         }
+        long = goes_on(plain, before, t.at);
     }
     at_end(policy, default, classes, singles, t, last, out)
 }
@@ -414,30 +378,17 @@ fn decode_codes(
 {
     let leads = lookup::profile::leads_of(classes);
     let start = turns::start(pending, lead as u16);
-    let t = begin(
-        policy,
-        default,
-        classes,
-        singles,
-        pairs,
-        leads,
-        piece,
-        start,
-        out,
-    );
-    let s = t.progress;
-    if s.answer != 0 {
-        return s;
-    }
+    let plain = lookup::profile::plain_bytes(classes, singles);
     decode_rest(
         policy,
         default,
         classes,
         singles,
         pairs,
+        plain,
         leads,
         piece,
-        t,
+        start,
         last,
         out,
     )

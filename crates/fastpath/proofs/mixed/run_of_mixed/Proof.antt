@@ -42,10 +42,6 @@ add-end c = omega arith
 loop-holds : tie.Need-loop-holds Inv-loop μ-loop
 loop-holds c = (omega arith, omega arith, refl, ran-start (c .before .before .before .before .before .before .pre .1 .1 .0) (c .before .before .before .before .before .before .pre .1 .1 .1))
 
--- src/mixed.rt:228:16
-sub-loop : tie.Need-sub-loop Inv-loop μ-loop
-sub-loop c = omega arith
-
 -- src/mixed.rt:229:77
 sub-take-mixed : tie.Need-sub-take-mixed Inv-loop μ-loop
 sub-take-mixed c = omega arith
@@ -95,7 +91,6 @@ run-of-mixed-spec =
     smaller-requires
     add-end
     loop-holds
-    sub-loop
     sub-take-mixed
     take-mixed-requires
     same-length

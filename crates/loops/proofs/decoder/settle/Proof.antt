@@ -3,6 +3,7 @@ use native.Mathlib.Omega.{arith}
 use Rattle.engine.specs.Steps.{oneIf}
 use Rattle.engine.proofs.DecodeLaws.{lead-below, pair-room, decoded-settled}
 use Rattle.engine.proofs.SettledLaws.{settled-more, settled-size}
+use Rattle.loops.specs.declared.turns.Turn.{Turn}
 use Rattle.loops.proofs.TurnedLaws.{settled-turn}
 use borrow.Author.Needs.{needs}
 use Rattle.loops.proofs.decoder.settle.Statement.{statement}
@@ -54,7 +55,8 @@ returns c =
     let start = c .before .before .before .before .before .before .before .before .before .before .before .before .before .before .before .before in
     let pre = start .pre .1 .1 in
     let code = c .before .before .before .before .before .before .before .settle .ensures (start .args .singles .now) in
-    settled-turn (c .before .before .before .take-units .ensures) (pre .1 .0) (pre .0 .1) (decoded-settled _ _ _ _ _ _ _ code _ (c .before .before .before .before .before .before .decoded .ensures)) (settled-size _ _ _ _ _ code) (c .past .ensures)
+    let does = decoded-settled _ _ _ _ _ _ _ code _ (c .before .before .before .before .before .before .decoded .ensures) in
+    (settled-turn (c .before .before .before .take-units .ensures) (pre .1 .0) (pre .0 .1) does (settled-size _ _ _ _ _ code) (c .past .ensures), ap (λ (x : Turn). x .waits) (c .past .ensures))
 
 pub settle-spec : {M : Type 1} → statement M
 settle-spec = tie.close (tie.spec cast-lead shared-slice-read-settle settle-requires decoded-requires add-take-units take-units-requires past-requires same-length returns)

@@ -1,35 +1,34 @@
-use Rattle.engine.proofs.DecodeLaws.{decoder-waits}
 use borrow.Author.Tests.{not-true, not-false}
-use mathlib.Core.Bool.{false≢true}
-use Rattle.loops.proofs.TurnedLaws.{turned-none}
-use mathlib.Core.Path.{_≡_, refl, sym, ap, _∙_}
-use native.Mathlib.Omega.{arith}
+use Rattle.loops.proofs.TurnedLaws.{settled-one, settled-none}
 use borrow.Author.Needs.{needs}
 use Rattle.loops.proofs.decoder.settle_first.Statement.{statement}
 use Rattle.loops.proofs.decoder.settle_first.Tie as tie
+use Rattle.loops.proofs.decoder.settle_first.Reads as reads
+use Rattle.loops.proofs.decoder.settle_first.Lts as lts
+use Rattle.loops.proofs.decoder.settle.Reads as settle-reads
 
+-- src/decoder.rt:214:9
 returns : tie.Need-returns
 returns c =
-    let ready = c .before .before .before .before .before .before .before .pre .1 .1 .0 in
-    turned-none (ready .going) (ready .within) (λ y. absurd (false≢true (sym (not-true _ (c .if1 .taken)) ∙ y)))
+    let ready = c .before .before .before .before .before .before .before .pre .1 .1 .0 .0 in
+    settled-none (ready .going) (ready .within) (not-true _ (c .if1 .taken))
 
-returns-2 : tie.Need-returns-2
-returns-2 c =
-    let pre = c .before .before .before .before .before .before .before .before .before .pre .1 .1 in
-    turned-none (pre .0 .going) (pre .0 .within) (λ e. decoder-waits _ _ _ _ _ _ _ (pre .1 e))
-
+-- src/decoder.rt:216:5
 settle-requires : tie.Need-settle-requires
 settle-requires c κs =
-    let pre = c .before .before .before .before .before .before .before .before .before .before .pre in
-    let inside = c .before .if2 .left in
-    let waits = not-false _ (c .before .before .before .if1 .left) in
-    (pre .0, (pre .1 .0, ((pre .1 .1 .0, omega (arith, inside)), (waits, pre .1 .1 .1 waits))))
+    let pre = c .before .before .before .before .before .before .before .before .pre in
+    let waits = not-false _ (c .before .if1 .left) in
+    (pre .0, (pre .1 .0, (pre .1 .1 .0, (waits, pre .1 .1 .1 waits))))
 
+-- src/decoder.rt:196:1
 same-length : tie.Need-same-length
 same-length c = search needs
 
-returns-3 : tie.Need-returns-3
-returns-3 c = c .before .before .settle .ensures .turned
+-- src/decoder.rt:196:1
+returns-2 : tie.Need-returns-2
+returns-2 c =
+    let settled = c .before .before .settle .ensures in
+    settled-one (not-false _ (c .before .before .before .before .if1 .left)) (settled .0) (settled .1)
 
 pub settle-first-spec : {M : Type 1} → statement M
-settle-first-spec = tie.close (tie.spec returns returns-2 settle-requires same-length returns-3)
+settle-first-spec = tie.close (tie.spec returns settle-requires same-length returns-2)
