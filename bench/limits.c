@@ -147,8 +147,8 @@ static void growth_table(const char *folder)
         }
 }
 
-/* A table set with leads from 80 on: ASCII, and every pair of a lead with 40 to 7E has a character of its own. */
-static table_set made_page(unsigned leads)
+/* A table set with leads from 80 on, so far apart: ASCII, and every pair of a lead with 40 to 7E has a character of its own. */
+static table_set made_page(unsigned leads, unsigned apart)
 {
     table_set t;
     t.page = 7;
@@ -174,11 +174,12 @@ static table_set made_page(unsigned leads)
     for (unsigned i = 0x40; i < 0x7F; i++)
         t.classes[i] = 5;
     for (unsigned j = 0; j < leads; j++) {
-        t.classes[0x80 + j] = 2;
+        unsigned lead = 0x80 + apart * j;
+        t.classes[lead] = 2;
         for (unsigned i = 0x40; i < 0x7F; i++) {
             uint16_t unit = (uint16_t)(0x4000 + j * 64 + i);
             t.pairs[256 * j + i] = unit;
-            t.blocks[unit] = (uint16_t)((0x80 + j) << 8 | i);
+            t.blocks[unit] = (uint16_t)(lead << 8 | i);
         }
     }
     return t;
@@ -186,29 +187,30 @@ static table_set made_page(unsigned leads)
 
 static void leads_table(const char *folder)
 {
-    static const unsigned counts[6] = {0, 1, 2, 32, 60, 128};
-    table_set sets[6];
-    uint8_t pairs[6][512];
-    uint16_t units[6][256];
+    enum { SETS = 8 };
+    static const unsigned counts[SETS] = {0, 1, 2, 32, 60, 128, 32, 60}, apart[SETS] = {1, 1, 1, 1, 1, 1, 2, 2};
+    table_set sets[SETS];
+    uint8_t pairs[SETS][512];
+    uint16_t units[SETS][256];
     uint32_t seed = 1;
-    for (int i = 0; i < 6; i++) {
-        sets[i] = made_page(counts[i]);
+    for (int i = 0; i < SETS; i++) {
+        sets[i] = made_page(counts[i], apart[i]);
         for (int k = 0; k < 256; k++) {
             seed = seed * 1664525 + 1013904223;
             unsigned j = counts[i] ? (seed >> 16) % counts[i] : 0, second = 0x40 + (seed >> 8) % 63;
-            pairs[i][2 * k] = (uint8_t)(counts[i] ? 0x80 + j : second);
+            pairs[i][2 * k] = (uint8_t)(counts[i] ? 0x80 + apart[i] * j : second);
             pairs[i][2 * k + 1] = (uint8_t)second;
             units[i][k] = (uint16_t)(counts[i] ? 0x4000 + j * 64 + second : second);
         }
     }
     printf("\nNanoseconds of one call of 512 bytes by the leads of the table set (made page, 256 blocks; pairs: 256 random pairs, with no\n"
-           "lead 512 single bytes):\n\n");
-    printf("| Text | Direction | 0 | 1 | 2 | 32 | 60 | 128 |\n|---|---|---|---|---|---|---|---|\n");
+           "lead 512 single bytes; gaps: every other byte from 80 on is a lead):\n\n");
+    printf("| Text | Direction | 0 | 1 | 2 | 32 | 60 | 128 | 32, gaps | 60, gaps |\n|---|---|---|---|---|---|---|---|---|---|\n");
     for (int encode = 0; encode < 2; encode++) {
         load_text(folder, "ascii", encode ? "units" : "bytes");
         for (int k = 0; k < 2; k++) {
             printf("| %s | %s |", k ? "pairs" : "ascii", encode ? "encode" : "decode");
-            for (int i = 0; i < 6; i++)
+            for (int i = 0; i < SETS; i++)
                 printf(" %.0f |", call_time(&sets[i], encode, k ? (encode ? (const void *)units[i] : pairs[i]) : text, 512));
             printf("\n");
         }

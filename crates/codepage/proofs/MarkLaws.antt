@@ -33,7 +33,7 @@ mark-le false m e = omega arith
 -- ---- the leads below a byte
 module _ (cs : List ℕ) where
   -- one byte more
-  below-next : (x : ℕ) → x < length cs → leadsBelow cs (x + 1) ≡ leadsBelow cs x + markOf (isLead (entry cs x))
+  pub below-next : (x : ℕ) → x < length cs → leadsBelow cs (x + 1) ≡ leadsBelow cs x + markOf (isLead (entry cs x))
   unfolding leadsBelow
   below-next x h = sym (count-mark cs x (leads (take x cs)) _ refl h refl)
 

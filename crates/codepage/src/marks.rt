@@ -43,16 +43,6 @@ pub fn larger(a: u8, b: u8) -> u8
     a
 }
 
-// The smaller of two numbers.
-pub fn smaller(a: u8, b: u8) -> u8
-    ensures { λ r. ⌜ (r ≤ a) × (r ≤ b) ⌝ }
-{
-    if a < b {
-        return a;
-    }
-    b
-}
-
 // 0 where no byte below 80 has a bad class.
 pub fn low_marks(classes: &[u8]) -> u8
     requires { ⌜ length (now classes) ≡ 256 ⌝ }

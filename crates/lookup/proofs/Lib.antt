@@ -1,1 +1,3 @@
 pub mod ProfileLaws
+pub mod LeadLaws
+pub mod LeadRows

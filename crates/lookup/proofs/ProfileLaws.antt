@@ -10,16 +10,14 @@ use lib.Dec.{leb, ltb, eqb}
 use lib.ListN.{length, List·getD-eq-default}
 use borrow.Author.Tests.{le-leb, lt-leb, leb-true, leb-false, ltb-true, ltb-false, eq-eqb, ne-eqb, eqb-true}
 use Rattle.codepage.specs.CodePage.{entry, isSingle, isLead, isTrail, leadsBelow}
-use Rattle.codepage.specs.Marks.{NoLowLead}
-use Rattle.lookup.specs.Profile.{HalfOf, LeadsAt, SettledAs, unitEntry, NoCodes}
+use Rattle.lookup.specs.Profile.{SettledAs, unitEntry, NoCodes}
 use Rattle.codepage.specs.Reading.{lookup, byteAlone, byteJoins, bytePair, isHigh, isLow, isSurrogate, unitCode, unitAlone, decoder, encoder, settled}
 use Rattle.codepage.specs.declared.Kind.{Kind}
 use Rattle.codepage.specs.declared.Kind.the-variants.{UndefinedSingle, UndefinedPair, Invalid}
 use Rattle.codepage.specs.declared.Lookup.{Lookup}
 use Rattle.codepage.specs.declared.Lookup.the-variants.{Found, Lacking}
-use Rattle.lookup.specs.declared.profile.Half.{Half}
 use Rattle.codepage.proofs.ReadingLaws.{high-alone, alone-looked-up, below-surrogates, from-surrogates}
-use Rattle.codepage.proofs.MarkLaws.{allBelow, all-below, or-else, below-steps, below-same, none-low}
+use Rattle.codepage.proofs.MarkLaws.{allBelow, all-below, or-else}
 
 -- ---- bits: a mark that is 0
 pub or-none : (a b : ℕ) → bitOr a b ≡ 0 → (a ≡ 0) × (b ≡ 0)
@@ -157,77 +155,3 @@ halves-clear index blocks clear piece k e =
 -- a piece below D800 has no surrogate
 pub below-clear : (index blocks piece : List ℕ) → ((k : ℕ) → entry piece k < 0xD800) → NoCodes index blocks piece
 below-clear index blocks piece small k e = absurd (true≢false (sym e ∙ below-surrogates (entry piece k) (small k)))
-
-never : (t : Bool) → (t ≡ true → ⊥) → t ≡ false
-never true n = absurd (n refl)
-never false n = refl
-
--- ---- the leads of a half
-module _ (cs : List ℕ) (from : ℕ) (half : Half) (fits : from + 64 ≤ length cs) (g : HalfOf cs from half) where
-  pub half-count : half .count ≤ 64
-  half-count = omega (arith, g .count, below-steps cs from 64 fits)
-
-  -- no lead is before the first or behind the last
-  none-before : (k : ℕ) → k < 64 → k < half .first → isLead (entry cs (from + k)) ≡ false
-  none-before k b h = never _ (λ e. omega (arith, g .first k b e))
-
-  none-behind : (k : ℕ) → k < 64 → half .last < k → isLead (entry cs (from + k)) ≡ false
-  none-behind k b h = never _ (λ e. omega (arith, g .last k b e))
-
-  -- from the first to a lead, and from the lead to the end, every byte counts at most once
-  up-to : (k : ℕ) → k < 64 → half .first ≤ k → leadsBelow cs (from + k) + half .first ≤ leadsBelow cs from + k
-  up-to k b f =
-      let none = below-same cs from (half .first) (omega arith) (λ j l. none-before j (omega arith) l) in
-      let some = below-steps cs (from + half .first) (k - half .first) (omega arith) in
-      let at : from + half .first + (k - half .first) ≡ from + k = omega arith in
-      omega (arith, none, rw at at some)
-
-  rest : (k : ℕ) → k < 64 → k ≤ half .last → (t : Bool) → ltb (half .last) 64 ≡ t → leadsBelow cs from + half .count + k ≤ leadsBelow cs (from + k) + half .last + 1
-  rest k b l true e =
-      let in-half : half .last < 64 = ltb-true (half .last) 64 e in
-      let some = below-steps cs (from + k) (half .last + 1 - k) (omega arith) in
-      let at : from + k + (half .last + 1 - k) ≡ from + (half .last + 1) = omega arith in
-      let none = below-same cs (from + (half .last + 1)) (64 - (half .last + 1)) (omega arith) (λ j o. let p : from + (half .last + 1) + j ≡ from + (half .last + 1 + j) = omega arith in rw p (none-behind (half .last + 1 + j) (omega arith) (omega arith))) in
-      let end : from + (half .last + 1) + (64 - (half .last + 1)) ≡ from + 64 = omega arith in
-      omega (arith, g .count, rw at at some, rw end at none)
-  rest k b l false e =
-      let over : 64 ≤ half .last = ltb-false (half .last) 64 e in
-      let some = below-steps cs (from + k) (64 - k) (omega arith) in
-      let end : from + k + (64 - k) ≡ from + 64 = omega arith in
-      omega (arith, g .count, rw end at some)
-
-  -- where they stand side by side, a lead's block is its distance to the first, past the blocks before the half
-  pub lead-block : half .last + 1 ≤ half .first + half .count → (k : ℕ) → k < 64 → isLead (entry cs (from + k)) ≡ true → leadsBelow cs (from + k) + half .first ≡ leadsBelow cs from + k
-  lead-block r k b e = omega (arith, up-to k b (g .first k b e), rest k b (g .last k b e) (ltb (half .last) 64) refl)
-
-no-class : isLead 0 ≡ false
-unfolding isLead
-no-class = refl
-
--- a lead is a byte
-lead-inside : (cs : List ℕ) (byte : ℕ) → isLead (entry cs byte) ≡ true → byte < length cs
-lead-inside cs byte e = by-inside (ltb byte (length cs)) refl
-  where
-    by-inside : (t : Bool) → ltb byte (length cs) ≡ t → byte < length cs
-    by-inside true q = ltb-true byte (length cs) q
-    by-inside false q = absurd (true≢false (sym e ∙ ap isLead (List·getD-eq-default cs 0 (ltb-false byte (length cs) q)) ∙ no-class))
-
--- ---- where the blocks begin
-module _ (cs : List ℕ) (l h : Half) (size : length cs ≡ 256) (low : NoLowLead cs) (gl : HalfOf cs 128 l) (gh : HalfOf cs 192 h) where
-  low-at : (lead : ℕ) → lead < 0xC0 → isLead (entry cs lead) ≡ true → l .last + 1 ≤ l .first + l .count → (t : Bool) → ltb lead 0x80 ≡ t → leadsBelow cs lead + (128 + l .first) ≡ lead
-  low-at lead b e r true q = absurd (true≢false (sym e ∙ low lead (ltb-true lead 0x80 q)))
-  low-at lead b e r false q =
-      let f : 128 ≤ lead = ltb-false lead 0x80 q in
-      let at : 128 + (lead - 128) ≡ lead = omega arith in
-      let block = lead-block cs 128 l (omega arith) gl r (lead - 128) (omega arith) (rw at e) in
-      omega (arith, none-low cs size low, rw at at block)
-
-  high-at : (lead : ℕ) → 0xC0 ≤ lead → isLead (entry cs lead) ≡ true → h .last + 1 ≤ h .first + h .count → leadsBelow cs lead + (192 + h .first - l .count) ≡ lead
-  high-at lead b e r =
-      let in-table : lead < length cs = lead-inside cs lead e in
-      let at : 192 + (lead - 192) ≡ lead = omega arith in
-      let block = lead-block cs 192 h (omega arith) gh r (lead - 192) (omega arith) (rw at e) in
-      omega (arith, none-low cs size low, gl .count, half-count cs 128 l (omega arith) gl, rw at at block)
-
-  pub leads-at : (regular : Bool) → (regular ≡ true → (l .last + 1 ≤ l .first + l .count) × (h .last + 1 ≤ h .first + h .count)) → LeadsAt cs (record { regular = regular; low = 128 + l .first; high = 192 + h .first - l .count })
-  leads-at regular r = record { low-half = λ e lead b q. low-at lead b q (r e .0) (ltb lead 0x80) refl; high-half = λ e lead b q. high-at lead b q (r e .1) }

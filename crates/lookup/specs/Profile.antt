@@ -1,25 +1,41 @@
 -- Definitions that the contracts of looking up and of the page's profile cite, and that no promise does.
-use mathlib.Core.Bool.{true}
+use mathlib.Core.Bool.{Bool, true, _||_}
 use mathlib.Core.List.{List}
 use mathlib.Core.Path.{_≡_}
-use Prim.Native.Nat.{ℕ, _+_, _*_, _/_, _%_, _<_, _≤_}
+use Prim.Native.Nat.{ℕ, zero, suc, _+_, _-_, _*_, _/_, _%_, _^_}
+use lib.Bits.{bitAnd}
+use lib.Count.{ones, leadingZeros, trailingZeros}
+use lib.Dec.{eqb, ltb}
 use lib.ListN.{length}
-use Rattle.codepage.specs.CodePage.{entry, isLead, leadsBelow}
+use Rattle.codepage.specs.CodePage.{pick, entry, isLead}
+use Rattle.codepage.specs.Marks.{markOf, NoLowLead}
 use Rattle.codepage.specs.Reading.{isSurrogate, Code}
 use Rattle.lookup.specs.declared.SettledCode.{SettledCode}
 use Rattle.lookup.specs.declared.profile.Leads.{Leads}
-use Rattle.lookup.specs.declared.profile.Half.{Half}
 
--- of the 64 bytes from `from` on: how many are leads, and between which they lie
-pub record HalfOf (classes : List ℕ) (from : ℕ) (h : Half) : Type 0 where
-  pub count : leadsBelow classes (from + 64) ≡ leadsBelow classes from + h .count
-  pub first : (k : ℕ) → k < 64 → isLead (entry classes (from + k)) ≡ true → h .first ≤ k
-  pub last : (k : ℕ) → k < 64 → isLead (entry classes (from + k)) ≡ true → k ≤ h .last
+-- the leads among so many bytes from one on, as bits: the first is the lowest
+unfoldable pub leadBits : (classes : List ℕ) (from count : ℕ) → ℕ
+leadBits classes from zero = 0
+leadBits classes from (suc count) = markOf (isLead (entry classes from)) + 2 * leadBits classes (suc from) count
 
--- if regular, a lead's block is its distance to the number of its half
-pub record LeadsAt (classes : List ℕ) (l : Leads) : Type 0 where
-  pub low-half : l .regular ≡ true → (lead : ℕ) → lead < 0xC0 → isLead (entry classes lead) ≡ true → leadsBelow classes lead + l .low ≡ lead
-  pub high-half : l .regular ≡ true → (lead : ℕ) → 0xC0 ≤ lead → isLead (entry classes lead) ≡ true → leadsBelow classes lead + l .high ≡ lead
+-- the leads of a page: those of 80 to BF, and those of C0 to FF
+abbrev pub leadsAs : List ℕ → Leads
+leadsAs classes = record { low = leadBits classes 0x80 64; high = leadBits classes 0xC0 64 }
+
+abbrev pub LeadsAt : List ℕ → Leads → Type 0
+LeadsAt classes l = (l ≡ leadsAs classes) × NoLowLead classes
+
+-- how many ones of a word stand below a place
+abbrev pub onesBelow : (word place : ℕ) → ℕ
+onesBelow word place = ones (bitAnd word (2 ^ place - 1))
+
+-- the block of a lead: the number of ones below its own
+unfoldable pub blockOf : Leads → ℕ → ℕ
+blockOf l lead = pick (ltb lead 0xC0) (onesBelow (l .low) (lead - 0x80)) (ones (l .low) + onesBelow (l .high) (lead - 0xC0))
+
+-- whether the ones of a word stand side by side: all digits but them are the zeros above and below
+unfoldable pub isRun : ℕ → Bool
+isRun word = eqb word 0 || eqb (leadingZeros 64 word + ones word + trailingZeros 64 word) 64
 
 -- a code in numbers: what it means, and how many units it takes after the first
 pub record SettledAs (k : Code) (r : SettledCode) : Type 0 where

@@ -48,12 +48,10 @@ pub fn byte_alone(classes: &[u8], singles: &[u16], byte: u8) -> Lookup
 }
 
 // The entry of a lead byte and the byte after it: in the lead's block at the second byte.
-fn pair_entry(classes: &[u8], pairs: &[u16], leads: Leads, lead: u8, byte: u8) -> u16
-    requires { ⌜ (length (now classes) ≡ 256) × (isLead (entry (now classes) lead) ≡ true) × (256 * leadsBelow (now classes) lead + 256 ≤ length (now pairs)) ⌝ }
-    requires { ⌜ LeadsAt (now classes) leads ⌝ }
-    ensures { λ r. ⌜ r ≡ entry (now (pairs .entry)) (256 * leadsBelow (now (classes .entry)) lead + byte) ⌝ }
+fn pair_entry(pairs: &[u16], block: usize, byte: u8) -> u16
+    requires { ⌜ 256 * block + 256 ≤ length (now pairs) ⌝ }
+    ensures { λ r. ⌜ r ≡ entry (now (pairs .entry)) (256 * block + byte) ⌝ }
 {
-    let block = profile::block_of(classes, leads, lead);
     pairs[256 * block + (byte as usize)]
 }
 
@@ -72,10 +70,8 @@ pub fn settle(classes: &[u8], pairs: &[u16], leads: Leads, lead: u8, byte: u8) -
     let at = byte as usize;
     let second = codepage::is_trail_class(classes[at]);
     if second {
-        let means = found(
-            Kind::UndefinedPair,
-            pair_entry(classes, pairs, leads, lead, byte),
-        );
+        let block = profile::block_counted(leads, lead);
+        let means = found(Kind::UndefinedPair, pair_entry(pairs, block, byte));
         return SettledCode { means, more: 1 };
     }
     let means = Lookup::Lacking(Kind::Invalid);
@@ -105,7 +101,8 @@ pub fn pair_unit(classes: &[u8], pairs: &[u16], leads: Leads, lead: u8, byte: u8
 {
     let at = byte as usize;
     if codepage::is_trail_class(classes[at]) {
-        return pair_entry(classes, pairs, leads, lead, byte);
+        let block = profile::block_of(classes, leads, lead);
+        return pair_entry(pairs, block, byte);
     }
     0xFFFF
 }

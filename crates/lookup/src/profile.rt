@@ -2,27 +2,19 @@
 ghost use mathlib.Core.Path.{_≡_};
 ghost use mathlib.Core.Bool.{true, false};
 ghost use Prim.Native.Nat.{ℕ, _+_, _*_, _≤_, _<_};
+ghost use lib.Count.{ones, trailingZeros};
 ghost use lib.ListN.{length};
 ghost use Rattle.codepage.specs.CodePage.{entry, isSingle, isLead, leadsBelow};
 ghost use Rattle.codepage.specs.Reading.{byteAlone, unitAlone};
 ghost use Rattle.codepage.specs.Marks.{NoLowLead};
-ghost use Rattle.lookup.specs.Profile.{HalfOf, LeadsAt, NoCodes};
+ghost use Rattle.lookup.specs.Profile.{leadBits, onesBelow, blockOf, isRun, LeadsAt, NoCodes};
 use codepage::Lookup;
 use codepage::marks;
 
-// Where the blocks of the lead bytes begin. If regular, the lead bytes of each half (80 to BF, C0 to FF) stand side by side, and a
-// lead's block is its distance to a number for its half.
+// The lead bytes of a page as bits: byte 80 is the lowest of `low`, C0 the lowest of `high`.
 pub struct Leads {
-    pub regular: bool,
-    pub low: usize,
-    pub high: usize,
-}
-
-// The lead bytes among 64: how many, the first and the last, as distances.
-struct Half {
-    count: u8,
-    first: u8,
-    last: u8,
+    pub low: u64,
+    pub high: u64,
 }
 
 // 0 for the class of a single byte, else another number.
@@ -150,85 +142,113 @@ pub fn codes_asked(bound: u16, index: &[u8], blocks: &[u16], piece: &[u16]) -> b
     no_surrogate_codes(index, blocks)
 }
 
-fn first_mark(class: u8, place: u8) -> u8
-    ensures { λ r. ⌜ (isLead class ≡ true → r ≡ place) ⌝ }
+// The lead bytes among two, as bits: the first is the lower.
+fn two_bits(classes: &[u8], from: usize) -> u64
+    requires { ⌜ from + 2 ≤ length (now classes) ⌝ }
+    ensures { λ r. ⌜ r ≡ leadBits (now (classes .entry)) from 2 ⌝ }
 {
-    if marks::lead_mark(class) == 1 {
-        return place;
-    }
-    255
+    (marks::lead_mark(classes[from]) as u64) + 2 * (marks::lead_mark(classes[from + 1]) as u64)
 }
 
-fn last_mark(class: u8, place: u8) -> u8
-    ensures { λ r. ⌜ (isLead class ≡ true → r ≡ place) ⌝ }
+// The lead bytes among four.
+fn four_bits(classes: &[u8], from: usize) -> u64
+    requires { ⌜ from + 4 ≤ length (now classes) ⌝ }
+    ensures { λ r. ⌜ r ≡ leadBits (now (classes .entry)) from 4 ⌝ }
 {
-    if marks::lead_mark(class) == 1 {
-        return place;
-    }
-    0
+    two_bits(classes, from) + 4 * two_bits(classes, from + 2)
 }
 
-fn half_of(classes: &[u8], from: usize) -> Half
-    requires { ⌜ from + 64 ≤ length (now classes) ⌝ }
-    ensures { λ r. ⌜ HalfOf (now (classes .entry)) from r ⌝ }
-{
-    let mut count: u8 = 0;
-    let mut first: u8 = 255;
-    let mut last: u8 = 0;
-    let mut i: u8 = 0;
-    while i < 64 {
-        let class = classes[from + (i as usize)];
-        count += marks::lead_mark(class);
-        first = marks::smaller(first, first_mark(class, i));
-        last = marks::larger(last, last_mark(class, i));
-        i += 1;
-    }
-    Half { count, first, last }
-}
-
-// Whether the lead bytes of a half stand side by side.
-fn is_regular(h: Half) -> bool
-    ensures { λ r. ⌜ (r ≡ true → h .last + 1 ≤ h .first + h .count) ⌝ }
-{
-    (h.last as usize) + 1 <= (h.first as usize) + (h.count as usize)
-}
-
-// Whether those of both halves do.
-fn are_regular(l: Half, h: Half) -> bool
-    ensures { λ r. ⌜ (r ≡ true → (l .last + 1 ≤ l .first + l .count) × (h .last + 1 ≤ h .first + h .count)) ⌝ }
-{
-    if !is_regular(l) {
-        return false;
-    }
-    is_regular(h)
-}
-
-// Where the blocks of the lead bytes begin.
+// The lead bytes of a page, met from the last on.
 pub fn leads_of(classes: &[u8]) -> Leads
     requires { ⌜ length (now classes) ≡ 256 ⌝ }
     requires { ⌜ NoLowLead (now classes) ⌝ }
     ensures { λ r. ⌜ LeadsAt (now (classes .entry)) r ⌝ }
 {
-    let l = half_of(classes, 128);
-    let h = half_of(classes, 192);
-    Leads {
-        regular: are_regular(l, h),
-        low: 128 + (l.first as usize),
-        high: 192 + (h.first as usize) - (l.count as usize),
+    let mut low: u64 = 0;
+    let mut high: u64 = 0;
+    let mut i: usize = 256;
+    while 128 < i {
+        i -= 4;
+        high = (high << 4) + (low >> 60);
+        low = (low << 4) + four_bits(classes, i);
     }
+    Leads { low, high }
 }
 
-// The number of lead bytes below a lead byte.
-pub fn block_of(classes: &[u8], leads: Leads, lead: u8) -> usize
-    requires { ⌜ (length (now classes) ≡ 256) × (isLead (entry (now classes) lead) ≡ true) ⌝ }
-    requires { ⌜ LeadsAt (now classes) leads ⌝ }
+// How many ones a word has.
+fn ones_of(word: u64) -> usize
+    ensures { λ r. ⌜ (r ≡ ones word) × (r ≤ 64) ⌝ }
+{
+    u64::count_ones(word) as usize
+}
+
+// How many ones of a word stand below a place: those at it and above are shifted out.
+fn ones_below(word: u64, place: u8) -> usize
+    requires { ⌜ place < 64 ⌝ }
+    ensures { λ r. ⌜ (r ≡ onesBelow word place) × (r ≤ 64) ⌝ }
+{
+    let below = (word << (63 - place)) << 1;
+    ones_of(below)
+}
+
+// The block of a lead byte: the number of ones below its own.
+pub fn block_counted(leads: Leads, lead: u8) -> usize
+    requires { ⌜ 0x80 ≤ lead ⌝ }
+    ensures { λ r. ⌜ r ≡ blockOf leads lead ⌝ }
+{
+    if lead < 0xC0 {
+        return ones_below(leads.low, lead - 0x80);
+    }
+    ones_of(leads.low) + ones_below(leads.high, lead - 0xC0)
+}
+
+// Whether the ones of a word stand side by side.
+fn is_run(word: u64) -> bool
+    ensures { λ r. ⌜ r ≡ isRun word ⌝ }
+{
+    if word == 0 {
+        return true;
+    }
+    u64::leading_zeros(word) + u64::count_ones(word) + u64::trailing_zeros(word) == 64
+}
+
+// Whether those of both words do.
+fn are_runs(leads: Leads) -> bool
+    ensures { λ r. ⌜ (r ≡ true → (isRun (leads .low) ≡ true) × (isRun (leads .high) ≡ true)) ⌝ }
+{
+    if !is_run(leads.low) {
+        return false;
+    }
+    is_run(leads.high)
+}
+
+// How far a byte stands behind the first one of a word, whose lowest bit is that of the byte `from`.
+fn distance(lead: u8, from: usize, word: u64) -> usize
+    requires { ⌜ from + trailingZeros 64 word ≤ lead ⌝ }
+    ensures { λ r. ⌜ r + (from + trailingZeros 64 word) ≡ lead ⌝ }
+{
+    (lead as usize) - from - (u64::trailing_zeros(word) as usize)
+}
+
+// The block of a lead byte where the ones of both words stand side by side: a distance, past the ones of the low word.
+fn block_in_runs(classes: &[u8], leads: Leads, lead: u8) -> usize
+    requires { ⌜ (length (now classes) ≡ 256) × (isLead (entry (now classes) lead) ≡ true) × LeadsAt (now classes) leads ⌝ }
+    requires { ⌜ (isRun (leads .low) ≡ true) × (isRun (leads .high) ≡ true) ⌝ }
     ensures { λ r. ⌜ r ≡ leadsBelow (now (classes .entry)) lead ⌝ }
 {
-    if leads.regular {
-        if lead < 0xC0 {
-            return (lead as usize) - leads.low;
-        }
-        return (lead as usize) - leads.high;
+    if lead < 0xC0 {
+        return distance(lead, 0x80, leads.low);
     }
-    marks::leads_below(classes, lead as usize)
+    ones_of(leads.low) + distance(lead, 0xC0, leads.high)
+}
+
+// The block of a lead byte, in loops: the compiler asks once whether there are gaps. `classes` serve the contract alone.
+pub fn block_of(classes: &[u8], leads: Leads, lead: u8) -> usize
+    requires { ⌜ (length (now classes) ≡ 256) × (isLead (entry (now classes) lead) ≡ true) × LeadsAt (now classes) leads ⌝ }
+    ensures { λ r. ⌜ r ≡ leadsBelow (now (classes .entry)) lead ⌝ }
+{
+    if are_runs(leads) {
+        return block_in_runs(classes, leads, lead);
+    }
+    block_counted(leads, lead)
 }

@@ -1,69 +1,80 @@
-use Rattle.lookup.proofs.ProfileLaws.{half-count, leads-at}
+use Rattle.lookup.proofs.LeadLaws.{bits-lt, bits-none, high-small, four-more, words-are}
+use Rattle.lookup.specs.Profile.{leadBits}
+use mathlib.Core.Path.{_≡_, sym, ap, _∙_}
+use Prim.Native.Nat.{ℕ, _+_, _-_, _*_, _%_, _^_, _<_, _≤_}
 use native.Mathlib.Omega.{arith}
-use borrow.Author.Needs.{needs}
 use Rattle.lookup.proofs.profile.leads_of.Statement.{statement}
 use Rattle.lookup.proofs.profile.leads_of.Tie as tie
 use Rattle.lookup.proofs.profile.leads_of.Reads as reads
 use Rattle.lookup.proofs.profile.leads_of.Lts as lts
-use Rattle.lookup.proofs.profile.are_regular.Reads as are-regular-reads
-use Rattle.lookup.proofs.profile.half_of.Reads as half-of-reads
+use Rattle.lookup.proofs.profile.four_bits.Reads as four-bits-reads
 
--- src/profile.rt:149:9
-half-of-requires : tie.Need-half-of-requires
-half-of-requires c κs = search needs
+abbrev Inv-loop : tie.InvT-loop
+Inv-loop classes low₀ high₀ i₀ low high i = (128 ≤ i) × (i ≤ 256) × (i % 4 ≡ 0) × (low < 2 ^ 64) × (low + 2 ^ 64 * high ≡ leadBits classes i (256 - i))
 
--- src/profile.rt:150:9
-half-of-requires-2 : tie.Need-half-of-requires-2
-half-of-requires-2 c κs = search needs
+abbrev μ-loop : tie.MeasureT-loop
+μ-loop classes low₀ high₀ i₀ low high i = i
 
--- src/profile.rt:152:18
-are-regular-requires : tie.Need-are-regular-requires
-are-regular-requires c κs = search needs
+-- src/profile.rt:169:5
+loop-holds : tie.Need-loop-holds Inv-loop μ-loop
+loop-holds c = (omega arith, omega arith, omega arith, omega arith, sym (bits-none _ 256))
 
--- src/profile.rt:153:21
-cast-t5 : tie.Need-cast-t5
-cast-t5 c = search needs
+-- src/profile.rt:170:9
+sub-i : tie.Need-sub-i Inv-loop μ-loop
+sub-i c = omega arith
 
--- src/profile.rt:153:14
-add-t6 : tie.Need-add-t6
-add-t6 c = search needs
+-- src/profile.rt:171:16
+add-high : tie.Need-add-high Inv-loop μ-loop
+add-high c =
+    let turn = c .before .loop in
+    omega (arith, high-small (c .before .before .before .args .classes .now) (turn .i) (turn .low) (turn .high) (omega arith, turn .inv .1) (turn .inv .3) (turn .inv .4))
 
--- src/profile.rt:154:22
-cast-t7 : tie.Need-cast-t7
-cast-t7 c = search needs
+-- src/profile.rt:172:28
+four-bits-requires : tie.Need-four-bits-requires Inv-loop μ-loop
+four-bits-requires c κs = omega (arith, c .before .before .before .pre .0)
 
--- src/profile.rt:154:15
-add-t8 : tie.Need-add-t8
-add-t8 c = search needs
+-- src/profile.rt:172:15
+add-low : tie.Need-add-low Inv-loop μ-loop
+add-low c =
+    let start = c .before .before .before .before in
+    omega (arith, c .four-bits .ensures, bits-lt (start .args .classes .now) (c .before .before .loop .i - 4) 4)
 
--- src/profile.rt:154:43
-cast-t9 : tie.Need-cast-t9
-cast-t9 c = search needs
+-- src/profile.rt:169:5
+loop-less : tie.Need-loop-less Inv-loop μ-loop
+loop-less c = omega arith
 
--- src/profile.rt:154:15
-sub-t10 : tie.Need-sub-t10
-sub-t10 c = omega (arith, half-count (c .before .before .before .before .before .before .before .args .classes .now) 128 _ (omega arith) (c .before .before .before .before .before .half-of .ensures))
+-- src/profile.rt:169:5
+loop-again : tie.Need-loop-again Inv-loop μ-loop
+loop-again c =
+    let turn = c .before .before .loop in
+    let classes = c .before .before .before .before .args .classes .now in
+    let inside : (132 ≤ turn .i) × (turn .i ≤ 256) = (omega arith, turn .inv .1) in (
+      omega arith,
+      omega arith,
+      omega arith,
+      omega (arith, c .four-bits .ensures, bits-lt classes (turn .i - 4) 4),
+      four-more classes (turn .i) (turn .low) (turn .high) inside (turn .inv .3) (turn .inv .4) _ (c .four-bits .ensures),
+    )
 
--- src/profile.rt:144:1
-returns : tie.Need-returns
+-- src/profile.rt:161:1
+returns : tie.Need-returns Inv-loop μ-loop
 returns c =
-    let start = c .before .before .before .before .before .before .before in
-    let half-of = c .before .before .before .before .before .half-of in
-    let half-of2 = c .before .before .before .before .half-of2 in
-    let are-regular = c .before .before .before .are-regular in
-    leads-at (start .args .classes .now) _ _ (start .pre .0) (start .pre .1) (half-of .ensures) (half-of2 .ensures) _ (are-regular .ensures)
+    let turn = c .before .loop in
+    let start = c .before .before .before in
+    let end : turn .i ≡ 128 = omega (arith, c .loop-test .left, turn .inv .0) in
+    (words-are _ (turn .low) (turn .high) (turn .inv .3) (turn .inv .4 ∙ ap (λ (x : ℕ). leadBits (start .args .classes .now) x (256 - x)) end), start .pre .1)
 
 pub leads-of-spec : {M : Type 1} → statement M
 leads-of-spec =
     tie.close
     (tie.spec
-    half-of-requires
-    half-of-requires-2
-    are-regular-requires
-    cast-t5
-    add-t6
-    cast-t7
-    add-t8
-    cast-t9
-    sub-t10
+    Inv-loop
+    μ-loop
+    loop-holds
+    sub-i
+    add-high
+    four-bits-requires
+    add-low
+    loop-less
+    loop-again
     returns)
