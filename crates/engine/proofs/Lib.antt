@@ -5,7 +5,6 @@ pub mod TurnLaws
 pub mod SettledLaws
 pub mod DecodeLaws
 pub mod EncodeLaws
-pub mod CountLaws
 pub mod CodeLaws
 pub mod AnswerLaws
 pub mod DigitLaws

@@ -4,7 +4,6 @@
 ghost use mathlib.Core.Path.{_≡_};
 ghost use Rattle.engine.specs.Policies.{standard};
 
-pub mod counter;
 pub mod policies;
 pub mod progress;
 

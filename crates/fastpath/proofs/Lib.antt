@@ -1,3 +1,4 @@
 pub mod RunLaws
 pub mod PlainLaws
 pub mod MixedLaws
+pub mod MetLaws

@@ -26,8 +26,33 @@ use Rattle.engine.proofs.TurnLaws.{one-step, settled-step, wait-step}
 use Rattle.codepage.proofs.ReadingLaws.{pair-joins, found-no-wait}
 
 -- a code that has a character: it writes ys
-abbrev written : List ℕ → Effect
+abbrev pub written : List ℕ → Effect
 written ys = record { flag = 0; writes = ys; stops = false }
+
+-- ---- a code that has a character, in any room
+module _ (R : Reader) (piece : List ℕ) (i value : ℕ) where
+  -- a unit that is a code of its own
+  pub one-found : i < length piece → R .waits (getD piece i 0) ≡ false → R .one (getD piece i 0) ≡ Found value
+      → (policy : Policy) (default : ℕ) (last : Bool) (room : Room)
+      → feedFrom (converter R policy default) last room none (drop i piece)
+      ≡ takeCode room 1 (written (R .writes value)) (feedFrom (converter R policy default) last (less room (length (R .writes value))) none (drop (i + 1) piece))
+  unfolding converter effectOf
+  one-found h e q policy default last room =
+      one-step (converter R policy default) last piece i (written (R .writes value)) h false 0 refl e (sym (ap (effectOf (R .writes) policy default (getD piece i 0)) q)) room
+
+  -- a unit that waits, and the one after it
+  pub two-found : i + 1 < length piece → R .waits (getD piece i 0) ≡ true → R .joins (getD piece i 0) (getD piece (i + 1) 0) ≡ true → R .two (getD piece i 0) (getD piece (i + 1) 0) ≡ Found value
+      → (policy : Policy) (default : ℕ) (last : Bool) (room : Room)
+      → feedFrom (converter R policy default) last room none (drop i piece)
+      ≡ takeCode room 2 (written (R .writes value)) (feedFrom (converter R policy default) last (less room (length (R .writes value))) none (drop (i + 2) piece))
+  unfolding converter effectOf settled
+  two-found h e j q policy default last room =
+      let two : i + 1 + 1 ≡ i + 2 = omega arith in
+      let both : settled R (getD piece i 0) (getD piece (i + 1) 0) ≡ together R (getD piece i 0) (getD piece (i + 1) 0) = rw j in
+      wait-step (converter R policy default) last piece i (omega arith) false 0 refl e room
+      ∙ settled-step (converter R policy default) last piece (i + 1) (written (R .writes value)) h true (getD piece i 0) 1 refl
+      (sym (ap (λ (k : Code). effectOf (R .writes) policy default (k .first) (k .means)) both ∙ ap (effectOf (R .writes) policy default (getD piece i 0)) q)) (sym (ap (λ (k : Code). length (k .more)) both)) room
+      ∙ ap (λ (m : ℕ). takeCode room 2 (written (R .writes value)) (feedFrom (converter R policy default) last (less room (length (R .writes value))) none (drop m piece))) two
 
 -- no flag is set, and two ways of counting the units are one
 same-sofar : (s : Progress) (u v : ℕ) (out : List ℕ) (w : ℕ) (F : Fed) → u ≡ v
@@ -105,29 +130,13 @@ module _ {R : Reader} {piece out : List ℕ} {i w : ℕ} where
       }
 
   module _ {out₁ : List ℕ} {i₁ w₁ : ℕ} (r : Ran R piece out i w out₁ i₁ w₁) where
-    -- a unit that is a code of its own
     pub ran-one : (value : ℕ) → i₁ < length piece → R .waits (getD piece i₁ 0) ≡ false → R .one (getD piece i₁ 0) ≡ Found value
         → w₁ + length (R .writes value) ≤ length out₁ → Ran R piece out i w (sets out₁ w₁ (R .writes value)) (i₁ + 1) (w₁ + length (R .writes value))
-    unfolding converter effectOf
-    ran-one value h e q f =
-        ran-more 1 (R .writes value) r
-        (λ policy default last room. one-step (converter R policy default) last piece i₁ (written (R .writes value)) h false 0 refl e (sym (ap (effectOf (R .writes) policy default (getD piece i₁ 0)) q)) room)
-        (omega arith) f
+    ran-one value h e q f = ran-more 1 (R .writes value) r (one-found R piece i₁ value h e q) (omega arith) f
 
-    -- a unit that waits, and the one after it
     pub ran-two : (value : ℕ) → i₁ + 1 < length piece → R .waits (getD piece i₁ 0) ≡ true → R .joins (getD piece i₁ 0) (getD piece (i₁ + 1) 0) ≡ true → R .two (getD piece i₁ 0) (getD piece (i₁ + 1) 0) ≡ Found value
         → w₁ + length (R .writes value) ≤ length out₁ → Ran R piece out i w (sets out₁ w₁ (R .writes value)) (i₁ + 2) (w₁ + length (R .writes value))
-    unfolding converter effectOf settled
-    ran-two value h e j q f =
-        let two : i₁ + 1 + 1 ≡ i₁ + 2 = omega arith in
-        let both : settled R (getD piece i₁ 0) (getD piece (i₁ + 1) 0) ≡ together R (getD piece i₁ 0) (getD piece (i₁ + 1) 0) = rw j in
-        ran-more 2 (R .writes value) r
-        (λ policy default last room.
-        wait-step (converter R policy default) last piece i₁ (omega arith) false 0 refl e room
-        ∙ settled-step (converter R policy default) last piece (i₁ + 1) (written (R .writes value)) h true (getD piece i₁ 0) 1 refl
-        (sym (ap (λ (k : Code). effectOf (R .writes) policy default (k .first) (k .means)) both ∙ ap (effectOf (R .writes) policy default (getD piece i₁ 0)) q)) (sym (ap (λ (k : Code). length (k .more)) both)) room
-        ∙ ap (λ (m : ℕ). takeCode room 2 (written (R .writes value)) (feedFrom (converter R policy default) last (less room (length (R .writes value))) none (drop m piece))) two)
-        (omega arith) f
+    ran-two value h e j q f = ran-more 2 (R .writes value) r (two-found R piece i₁ value h e j q) (omega arith) f
 
 -- ---- a code's bytes, laid over two places
 pub code-laid : (out : List ℕ) (w code : ℕ) → sets out w (bytesOf code) ≡ set (set out w (pick (leb code 0xFF) code (code / 256))) (w + 1) (pick (leb code 0xFF) (getD out (w + 1) 0) (code % 256))
@@ -138,7 +147,7 @@ code-laid out w code = by-size (leb code 0xFF)
     by-size true = sym (set-comm out w (w + 1) code (getD out (w + 1) 0) (λ q. omega (arith, q)) ∙ ap (λ (l : List ℕ). set l w code) (set-getD out (w + 1) 0))
     by-size false = rw (add-one w)
 
-one-byte : (code : ℕ) → code ≤ 0xFF → bytesOf code ≡ code ∷ []
+pub one-byte : (code : ℕ) → code ≤ 0xFF → bytesOf code ≡ code ∷ []
 unfolding bytesOf
 one-byte code h = rw (le-leb code 0xFF h)
 

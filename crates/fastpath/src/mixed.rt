@@ -16,7 +16,7 @@ use crate::runs::Place;
 use lookup::profile::Leads;
 
 // Eight bytes as a word: the first is its lowest.
-fn word_at(piece: &[u8], i: usize) -> u64
+pub fn word_at(piece: &[u8], i: usize) -> u64
     requires { ⌜ i + 8 ≤ length (now piece) ⌝ }
     ensures { λ r. ⌜ WordAt (now (piece .entry)) i r ⌝ }
 {
@@ -37,7 +37,7 @@ fn first_of(word: u64) -> u8
 }
 
 // How many bytes of a word stand before its first that is not below 80.
-fn plain_count(word: u64) -> usize
+pub fn plain_count(word: u64) -> usize
     ensures { λ r. ⌜ (r ≤ 8) × ((piece : List ℕ) (i : ℕ) → WordAt piece i word → (k : ℕ) → k < r → entry piece (i + k) < 0x80) ⌝ }
 {
     let marks = word & 0x8080808080808080;

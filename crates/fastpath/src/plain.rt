@@ -45,7 +45,7 @@ fn largest_unit(piece: &[u16]) -> u16
 }
 
 // Whether every byte is below 80. The first of them are looked at first: text that is not plain mostly shows it there.
-fn bytes_below_80(piece: &[u8]) -> bool
+pub fn bytes_below_80(piece: &[u8]) -> bool
     ensures { λ r. ⌜ (r ≡ true → AllBelow 0x80 (now (piece .entry))) ⌝ }
 {
     if 64 < piece.len() {

@@ -187,7 +187,7 @@ fn second_byte(code: u16, there: u8) -> u8
 }
 
 // How many bytes a code has.
-fn byte_count(code: u16) -> usize
+pub fn byte_count(code: u16) -> usize
     ensures { λ r. ⌜ r ≡ length (bytesOf code) ⌝ }
 {
     if code <= 0xFF {

@@ -12,9 +12,9 @@ use codepage::Numbers;
 use convert::Run;
 use engine::Direction;
 use engine::Policy;
-use engine::counter;
 use engine::policies;
 use engine::progress::Progress;
+use loops::counter;
 use loops::decoder;
 use loops::encoder;
 

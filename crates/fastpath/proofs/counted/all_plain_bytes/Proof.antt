@@ -1,0 +1,33 @@
+use mathlib.Core.Bool.{false≢true}
+use lib.ListN.{length}
+use borrow.Author.Tests.{not-false}
+use Rattle.codepage.specs.CodePage.{entry}
+use Rattle.fastpath.proofs.PlainLaws.{plain-byte}
+use Rattle.fastpath.proofs.MetLaws.{met-whole}
+use borrow.Author.Needs.{needs}
+use Rattle.fastpath.proofs.counted.all_plain_bytes.Statement.{statement}
+use Rattle.fastpath.proofs.counted.all_plain_bytes.Tie as tie
+
+bytes-below-80-requires : tie.Need-bytes-below-80-requires
+bytes-below-80-requires c κs = search needs
+
+returns : tie.Need-returns
+returns c = λ e pairs. absurd (false≢true e)
+
+plain-bytes-requires : tie.Need-plain-bytes-requires
+plain-bytes-requires c κs = search needs
+
+returns-2 : tie.Need-returns-2
+returns-2 c = λ e pairs.
+    met-whole (c .before .before .before .before .before .before .args .text .now)
+    (λ k b. let page = c .plain-bytes .ensures e (entry (c .before .before .before .before .before .before .args .text .now) k) (c .before .before .bytes-below-80 .ensures (not-false _ (c .before .if1 .left)) k b) in
+    plain-byte _ _ pairs _ (page .0) (page .1))
+
+pub all-plain-bytes-spec : {M : Type 1} → statement M
+all-plain-bytes-spec =
+    tie.close
+    (tie.spec
+    bytes-below-80-requires
+    returns
+    plain-bytes-requires
+    returns-2)

@@ -1,0 +1,32 @@
+use Rattle.engine.proofs.EncodeLaws.{encoded-one}
+use Rattle.loops.proofs.CountLaws.{came-as, came-bytes, bytes-short}
+use borrow.Author.Needs.{needs}
+use native.Mathlib.Omega.{arith}
+use Rattle.loops.proofs.counter.alone_encoded.Statement.{statement}
+use Rattle.loops.proofs.counter.alone_encoded.Tie as tie
+
+unit-alone-requires : tie.Need-unit-alone-requires
+unit-alone-requires c κs = search needs
+
+encoded-requires : tie.Need-encoded-requires
+encoded-requires c κs = search needs
+
+bytes-written-requires : tie.Need-bytes-written-requires
+bytes-written-requires c κs = search needs
+
+count-code-requires : tie.Need-count-code-requires
+count-code-requires c κs = (c .before .before .before .before .before .pre .1 .1 .1 .0, omega (arith, c .bytes-written .ensures, bytes-short (c .before .encoded .result), c .before .before .before .before .before .pre .1 .1 .1 .1))
+
+returns : tie.Need-returns
+returns c =
+    came-as (encoded-one _ _ _ _ _ _ _ (c .before .before .before .unit-alone .ensures) (c .before .before .encoded .ensures _)) (came-bytes _ _ _ _ _ (c .before .bytes-written .ensures) (c .count-code .ensures))
+
+pub alone-encoded-spec : {M : Type 1} → statement M
+alone-encoded-spec =
+    tie.close
+    (tie.spec
+    unit-alone-requires
+    encoded-requires
+    bytes-written-requires
+    count-code-requires
+    returns)
