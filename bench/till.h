@@ -1,4 +1,5 @@
-/* The C interface of the till converter (crate capi). Link the archive that `rt staticlib capi` writes.
+/* The C interface of the till converter (crates capi and capi_text). Link the archive that `rt staticlib capi` writes, and for the
+ * calls on a whole text that of `rt staticlib capi_text`.
  *
  * Every call ends and answers on any numbers and any contents of its slices; none keeps anything between calls, takes memory or
  * does input or output. A slice is a pointer and a number of elements: the pointer is not NULL (also for 0 elements), aligned,
@@ -81,6 +82,16 @@ typedef struct {
     uint8_t place;  /* where its units are, at the front: TILL_IN_BUFFER or TILL_IN_BLOCK */
 } till_field;
 
+/* What a call on a whole text answers. number: 0 all read; 2 the need is over the room; 3 stopped; or that of the refusal, with zeros
+ * beside it. */
+typedef struct {
+    size_t need;    /* units or bytes of output that all of the text needs */
+    size_t read;    /* units of the text that were converted into the room */
+    size_t written;
+    uint8_t number;
+    uint8_t flags;  /* those of all of the text, also where the room ended */
+} till_text;
+
 /* The parameters of a table set: page, default byte, default unit, and the five tables. */
 #define TILL_TABLES \
     uint16_t page, uint8_t default_byte, uint16_t default_unit, const uint8_t *classes, size_t classes_len, const uint16_t *singles, \
@@ -101,6 +112,14 @@ till_outcome till_decode(till_run run, TILL_TABLES, const uint8_t *piece, size_t
 /* One call of an encoding run: UTF-16 units to bytes; as till_decode. What is pending is a high surrogate: with a low one it is one
  * undefined single, else it is invalid. A piece of n units gives at most 2 n bytes, or 2 n + 1 where a unit was pending. */
 till_outcome till_encode(till_run run, TILL_TABLES, const uint16_t *piece, size_t piece_len, uint8_t last, uint8_t *out, size_t out_len);
+
+/* A whole text of at most 65,536 units in one call, under the three digits; with no room it only counts: the need, and the flags that
+ * a conversion would set. Answer 2, ahead of 3, exactly if the need is over the room. Refusals, in this order, with out as it was: 17 a digit
+ * that is not allowed, 10, 11. */
+till_text till_decode_text(uint8_t single, uint8_t pair, uint8_t invalid, TILL_TABLES, const uint8_t *text, size_t text_len, uint16_t *out,
+    size_t out_len);
+till_text till_encode_text(uint8_t single, uint8_t pair, uint8_t invalid, TILL_TABLES, const uint16_t *text, size_t text_len, uint8_t *out,
+    size_t out_len);
 
 /* Writes the run's line at the front of out: 0 and its length, or 12 (the run breaks the rules), or 19 (no room; out is as it was). */
 till_saved till_save(till_run run, uint8_t *out, size_t out_len);

@@ -9,7 +9,13 @@ One call of a run is written in a short form:
     D{policy; carried; piece; last or more; room}    answer/read/output/flags/carried/ended
 
 as in `D{555;82;7C;last;9}` and `0/1/4E00/0/-/yes`. A run that carries a byte or, in encoding, a unit has read 1 and written 0
-before the call.
+before the call. A call marked last with nothing carried is asked for in one go too, with its room and with empty room (CR 10). What
+that answers of the whole reading stands behind a space where the call does not tell it:
+
+    flags/need            where the answer is 2
+    flags/need/front      where something is written and a digit is 1: front is what is read with empty room
+
+as in `2/1/0041/0/-/no 1/2`.
 """
 
 import re
@@ -59,8 +65,9 @@ class Script:
         self.expect(f"run {words}", f"run {words}")
 
     def call(self, asked, answered):
-        """One run call on page 7 in the short form; the one-go call and the count too where they answer alike."""
+        """One run call on page 7 in the short form; in one go too, with this room and with empty room, where that answers alike."""
         direction, policy, carried, piece, mark, room = CALL.fullmatch(asked).groups()
+        answered, *whole = answered.split(" ")
         answer, read, output, flags, carried_after, ended = answered.split("/")
         name, text, in_digits, out_digits = (
             ("decode", "bytes", 2, 4) if direction == "D" else ("encode", "units", 4, 2)
@@ -81,12 +88,15 @@ class Script:
             f" {direction} 7 {digits} {carried_after} {flags} {before + int(read)} {written} {word}",
         )
         if carried == "-" and mark == "last":
-            self.expect(
-                f"convert {direction} {policy} 0 {count} {room}",
-                f"convert {answer} {flags} {read} {written} {output} kept",
-            )
-            if answer != "2":
-                self.expect(f"count {direction} {policy} 0 {count}", f"count {answer} {flags} {read} {written}")
+            # all is read or stopped: the call is the whole reading. What writes nothing at all reads alike with any room, and
+            # where no digit is 1, nothing is read ahead of the first code that is written.
+            flags, need, *front = whole[0].split("/") if whole or answer == "2" else (flags, written)
+            front = read if output == "-" else front[0] if "1" in policy else "0"
+            asked = f"convert {direction} {policy} 0 {count}"
+            self.expect(f"{asked} {room}", f"convert {answer} {flags} {read} {need} {written} {output} kept")
+            if room != "0":
+                number = "2" if int(need) > 0 else answer
+                self.expect(f"{asked} 0", f"convert {number} {flags} {front} {need} 0 - kept")
 
     def commands_file(self):
         return b"".join(line + b"\n" for line, _ in self.lines)
@@ -425,8 +435,8 @@ def initial_script():
     script.expect("encode 0 0 more 0", "encode 10 0 0 - kept D 0 0 0 0 - 0 0 0 on")
     script.expect("decode 0 1 last 3", "?")
     script.expect("encode 0 1 last 3", "?")
-    script.expect("count D 555 0 0", "count 10")
-    script.expect("count D 755 0 0", "count 17")
+    script.expect("convert D 555 0 0 0", "convert 10 kept")
+    script.expect("convert D 755 0 0 0", "convert 17 kept")
     script.expect("convert E 555 0 0 5", "convert 10 kept")
     script.note("no field buffer, and nothing held")
     script.expect("field 0 0 more", "field 20 0 -")
@@ -440,7 +450,7 @@ def initial_script():
     script.note("with a table the run and the texts stay")
     script.sample()
     script.expect("encode 0 0 more 0", "encode 13 0 0 - kept E 5 1 2 3 - 0 0 0 on")
-    script.expect("count D 555 0 0", "count 0 0 0 0")
+    script.expect("convert D 555 0 0 0", "convert 0 0 0 0 0 - kept")
     return script
 
 
@@ -459,9 +469,9 @@ def rows_script():
         (7, "D{555;-;810A41;last;9}", "0/3/30FB000A0041/4/-/yes"),
         (8, "D{555;-;8341;last;9}", "0/2/30FB0041/4/-/yes"),
         (9, "D{655;-;80;last;9}", "0/1/F180/1/-/yes"),
-        (10, "D{555;-;4142;last;1}", "2/1/0041/0/-/no"),
+        (10, "D{555;-;4142;last;1}", "2/1/0041/0/-/no 0/2"),
         (11, "D{055;-;8041;last;9}", "3/1/-/9/-/yes"),
-        (12, "E{555;-;3000;last;1}", "2/0/-/0/-/no"),
+        (12, "E{555;-;3000;last;1}", "2/0/-/0/-/no 0/2"),
         (13, "E{555;-;3000;last;2}", "0/1/8140/0/-/yes"),
         (14, "E{555;-;00A0;last;9}", "0/1/20/0/-/yes"),
         (15, "E{555;-;D83DDE00;last;9}", "0/2/3F/1/-/yes"),
@@ -500,8 +510,9 @@ def shapes_script():
         script.expect("decode 0 0 more 2", f"decode {answer} 0 0 - kept {fresh('D', page, '555')}")
         script.start("E", page, "555")
         script.expect("encode 0 0 more 2", f"encode {answer} 0 0 - kept {fresh('E', page, '555')}")
-        script.expect("count D 555 0 0", "count 0 0 0 0" if answer == 0 else "count 10")
-        script.expect("convert E 555 0 0 2", "convert 0 0 0 0 - kept" if answer == 0 else "convert 10 kept")
+        answered = "convert 0 0 0 0 0 - kept" if answer == 0 else "convert 10 kept"
+        script.expect("convert D 555 0 0 0", answered)
+        script.expect("convert E 555 0 0 2", answered)
     return script
 
 
@@ -585,11 +596,13 @@ def grammar_script():
         "encode 0 3 last 5", "encode 3 0 last 5", "encode 0 1 last 140001", "encode 0 1 more", "encode 0 1 no 5",
         # save and load
         "save", "save 140001", "save -", "save 044", "save 44 44", "save 44.", "load", "load 4", "load 4x", "load on",
-        # count and convert
-        "count", "count D 555 0", "count D 555 0 3", "count D 555 0 1 1", "count D 55 0 1", "count D 5555 0 1",
-        "count 555 0 1", "count d 555 0 1", "count E 555 0 3", "count E 555 3 0", "count D 555 1 01",
-        "convert D 555 0 1", "convert D 555 0 1 66001", "convert E 555 0 1 140001", "convert D 555 0 3 5",
-        "convert E 555 2 1 5", "convert D 555 0 1 5 5", "convert F 555 0 1 5", "convert D 5a5 0 1 5",
+        # convert
+        "convert", "convert D 555 0", "convert D 555 0 1", "convert D 555 0 1 66001", "convert E 555 0 1 140001",
+        "convert D 555 0 3 5", "convert E 555 2 1 5", "convert D 555 0 1 5 5", "convert F 555 0 1 5", "convert D 5a5 0 1 5",
+        "convert D 55 0 1 5", "convert D 5555 0 1 5", "convert 555 0 1 5", "convert d 555 0 1 5", "convert E 555 0 3 5",
+        "convert E 555 3 0 5", "convert D 555 1 01 5", "convert D 555 0 1 05", "convert D 555 0 1 -", "convert E 555 0 1 -1",
+        # count is no command any more (CR 10)
+        "count", "count D 555 0 0", "count D 555 0 1", "count E 555 0 2", "count D 555 0 1 1",
         # nothing else is a command
         "quit", "help", "decodes 0 1 last 5", "tables sample.tbl", "policy 555", "shape\tgood",
     )
@@ -600,7 +613,7 @@ def grammar_script():
         script.expect(line, "?")
     script.note("all is as it was")
     script.expect("decode 0 2 more 5", "decode 1 2 1 0041 kept D 7 5 5 5 82 0 2 1 on")
-    script.expect("convert E 555 0 2 5", "convert 0 0 2 3 418140 kept")
+    script.expect("convert E 555 0 2 5", "convert 0 0 2 3 3 418140 kept")
     script.expect(f"run {run}", f"run {run}")
     script.note("lines that are passed over, then words at their limits")
     script.lines.append((b"", None))
@@ -608,17 +621,17 @@ def grammar_script():
     script.lines.append((b"# shape", None))
     script.lines.append((b"#shape\r", None))
     script.expect("fillbytes 66000 42", "bytes 66000")
-    script.expect("count D 555 65535 465", "count 0 0 465 465")
-    script.expect("count D 555 65535 466", "?")
+    script.expect("convert D 555 65535 465 0", "convert 2 0 0 465 0 - kept")
+    script.expect("convert D 555 65535 466 0", "?")
     script.expect("fillunits 66000 00413000", "units 66000")
-    script.expect("convert E 555 65996 4 140000", "convert 0 0 4 6 418140418140 kept")
-    script.expect("convert E 555 65999 1 2", "convert 0 0 1 2 8140 kept")
+    script.expect("convert E 555 65996 4 140000", "convert 0 0 4 6 6 418140418140 kept")
+    script.expect("convert E 555 65999 1 2", "convert 0 0 1 2 2 8140 kept")
     script.expect("fillbytes 5 41427C", "bytes 5")
-    script.expect("convert D 555 0 5 66000", "convert 0 0 5 5 00410042007C00410042 kept")
+    script.expect("convert D 555 0 5 66000", "convert 0 0 5 5 5 00410042007C00410042 kept")
     script.expect("fillbytes 1 4142", "bytes 1")
     script.expect("fillbytes 0 41", "bytes 0")
-    script.expect("count D 555 0 0", "count 0 0 0 0")
-    script.expect("count D 555 0 1", "?")
+    script.expect("convert D 555 0 0 0", "convert 0 0 0 0 0 - kept")
+    script.expect("convert D 555 0 1 0", "?")
     script.expect("fillunits 0 0041", "units 0")
     script.expect("bytes -", "bytes 0")
     script.expect("units -", "units 0")
@@ -646,14 +659,14 @@ def long_lines_script():
                  f"fillbytes 9 {'41' * 66001}", f"bytes {'4' * 399994}", f"bytes {'4' * 399995}", "#" * 400001,
                  " " * 400000, "a" * 500000):
         script.expect(line, "?")
-        script.expect("convert D 555 0 1 1", "convert 0 0 1 1 0041 kept")
+        script.expect("convert D 555 0 1 1", "convert 0 0 1 1 1 0041 kept")
     script.lines.append((b"#" * 400000, None))
     script.expect(f"bytes {'42' * 66000}", "bytes 66000")
-    script.expect("convert D 555 65999 1 1", "convert 0 0 1 1 0042 kept")
+    script.expect("convert D 555 65999 1 1", "convert 0 0 1 1 1 0042 kept")
     script.expect(f"units {'3000' * 66000}", "units 66000")
-    script.expect("convert E 555 65999 1 2", "convert 0 0 1 2 8140 kept")
+    script.expect("convert E 555 65999 1 2", "convert 0 0 1 2 2 8140 kept")
     script.expect(f"fillunits 3 {'3001' * 66000}", "units 3")
-    script.expect("convert E 555 0 3 6", "convert 0 0 3 6 814181418141 kept")
+    script.expect("convert E 555 0 3 6", "convert 0 0 3 6 6 814181418141 kept")
     script.expect(f"load {'41' * 66000}", "load 18")
     return script
 
@@ -684,25 +697,25 @@ def policies_script():
             if digit == 1:
                 script.call(f"D{{{policy};-;{code};last;0}}", f"0/{read}/-/{flag}/-/yes")
             else:
-                script.call(f"D{{{policy};-;{code};last;0}}", "2/0/-/0/-/no")
+                script.call(f"D{{{policy};-;{code};last;0}}", f"2/0/-/0/-/no {flag}/1")
     script.note("invalid: lead before a byte below 80 that may not be second, which is read afresh")
     for answered in (
         ("D{000;-;810A;last;3}", "3/1/-/12/-/yes"),
         ("D{000;-;810A;last;0}", "3/1/-/12/-/yes"),
-        ("D{001;-;810A;last;3}", "0/2/000A/4/-/yes"),
-        ("D{001;-;810A;last;0}", "2/1/-/4/-/no"),
+        ("D{001;-;810A;last;3}", "0/2/000A/4/-/yes 4/1/1"),
+        ("D{001;-;810A;last;0}", "2/1/-/4/-/no 4/1"),
         ("D{002;-;810A;last;3}", "0/2/0000000A/4/-/yes"),
-        ("D{002;-;810A;last;1}", "2/1/0000/4/-/no"),
-        ("D{002;-;810A;last;0}", "2/0/-/0/-/no"),
+        ("D{002;-;810A;last;1}", "2/1/0000/4/-/no 4/2"),
+        ("D{002;-;810A;last;0}", "2/0/-/0/-/no 4/2"),
         ("D{003;-;810A;last;3}", "0/2/003F000A/4/-/yes"),
-        ("D{003;-;810A;last;1}", "2/1/003F/4/-/no"),
-        ("D{003;-;810A;last;0}", "2/0/-/0/-/no"),
+        ("D{003;-;810A;last;1}", "2/1/003F/4/-/no 4/2"),
+        ("D{003;-;810A;last;0}", "2/0/-/0/-/no 4/2"),
         ("D{004;-;810A;last;3}", "0/2/005F000A/4/-/yes"),
-        ("D{004;-;810A;last;1}", "2/1/005F/4/-/no"),
-        ("D{004;-;810A;last;0}", "2/0/-/0/-/no"),
+        ("D{004;-;810A;last;1}", "2/1/005F/4/-/no 4/2"),
+        ("D{004;-;810A;last;0}", "2/0/-/0/-/no 4/2"),
         ("D{005;-;810A;last;3}", "0/2/30FB000A/4/-/yes"),
-        ("D{005;-;810A;last;1}", "2/1/30FB/4/-/no"),
-        ("D{005;-;810A;last;0}", "2/0/-/0/-/no"),
+        ("D{005;-;810A;last;1}", "2/1/30FB/4/-/no 4/2"),
+        ("D{005;-;810A;last;0}", "2/0/-/0/-/no 4/2"),
     ):
         script.call(*answered)
     script.note("encoding: the first digit for a unit without a code and for a surrogate pair, the third for any other surrogate")
@@ -715,13 +728,13 @@ def policies_script():
     script.call("E{055;-;D83DDE00;more;0}", "3/2/-/9/-/yes")
     script.call("E{550;-;D83D;last;0}", "3/1/-/12/-/yes")
     script.call("E{550;-;DE00;more;0}", "3/1/-/12/-/yes")
-    script.call("E{500;-;D83DDE00;last;0}", "2/0/-/0/-/no")
+    script.call("E{500;-;D83DDE00;last;0}", "2/0/-/0/-/no 1/1")
     script.call("E{100;-;D83DDE00;last;0}", "0/2/-/1/-/yes")
-    script.call("E{005;-;D83D;last;0}", "2/0/-/0/-/no")
+    script.call("E{005;-;D83D;last;0}", "2/0/-/0/-/no 4/1")
     script.call("E{001;-;D83D;last;0}", "0/1/-/4/-/yes")
     script.call("E{055;-;1234;last;3}", "3/1/-/9/-/yes")
     script.call("E{055;-;12340041;more;0}", "3/1/-/9/-/yes")
-    script.call("E{500;-;1234;last;0}", "2/0/-/0/-/no")
+    script.call("E{500;-;1234;last;0}", "2/0/-/0/-/no 1/1")
     script.call("E{100;-;1234;last;0}", "0/1/-/1/-/yes")
     script.table("odd_defaults.tbl", edited(odd_defaults))
     script.call("E{555;-;1234;last;3}", "0/1/81/1/-/yes")
@@ -768,11 +781,11 @@ def bad_halves(script):
         ("D{555;-;8281400A;last;9}", "0/4/30FB0040000A/4/-/yes"),
         ("D{555;-;8181820A;last;9}", "0/4/30FB30FB000A/4/-/yes"),
         # room ends before and behind the lead
-        ("D{555;-;820A41;last;0}", "2/0/-/0/-/no"),
-        ("D{555;-;820A41;last;1}", "2/1/30FB/4/-/no"),
-        ("D{555;-;820A41;last;2}", "2/2/30FB000A/4/-/no"),
-        ("D{551;-;820A41;last;0}", "2/1/-/4/-/no"),
-        ("D{551;-;820A41;last;1}", "2/2/000A/4/-/no"),
+        ("D{555;-;820A41;last;0}", "2/0/-/0/-/no 4/3"),
+        ("D{555;-;820A41;last;1}", "2/1/30FB/4/-/no 4/3"),
+        ("D{555;-;820A41;last;2}", "2/2/30FB000A/4/-/no 4/3"),
+        ("D{551;-;820A41;last;0}", "2/1/-/4/-/no 4/2"),
+        ("D{551;-;820A41;last;1}", "2/2/000A/4/-/no 4/2/1"),
         ("D{550;-;820A41;more;0}", "3/1/-/12/-/yes"),
         # the lead was carried: it is settled, and the byte is read only if it fits
         ("D{555;82;0A;more;9}", "0/1/30FB000A/4/-/no"),
@@ -828,7 +841,7 @@ def bad_halves(script):
     for asked, answered in (
         ("D{555;-;810B;last;9}", "0/2/30FB30FB/4/-/yes"),
         ("D{550;-;810B;last;9}", "3/1/-/12/-/yes"),
-        ("D{551;-;810B41;last;1}", "0/3/0041/4/-/yes"),
+        ("D{551;-;810B41;last;1}", "0/3/0041/4/-/yes 4/1/2"),
         ("D{555;81;0B;last;1}", "2/0/30FB/4/-/no"),
         ("D{551;81;0B;more;0}", "0/1/-/4/-/no"),
         ("D{555;-;810C;last;9}", "0/2/30FB30FB/5/-/yes"),
@@ -867,11 +880,11 @@ def calls_script():
         ("D{555;-;818281;more;1}", "1/3/30FB/4/81/no"),
         ("D{551;-;8381;more;0}", "1/2/-/4/81/no"),
         # in a last call it is not carried
-        ("D{555;-;82;last;0}", "2/0/-/0/-/no"),
+        ("D{555;-;82;last;0}", "2/0/-/0/-/no 4/1"),
         ("D{555;-;82;last;1}", "0/1/30FB/4/-/yes"),
         ("D{551;-;82;last;0}", "0/1/-/4/-/yes"),
         ("D{550;-;82;last;0}", "3/1/-/12/-/yes"),
-        ("D{555;-;4182;last;1}", "2/1/0041/0/-/no"),
+        ("D{555;-;4182;last;1}", "2/1/0041/0/-/no 4/2"),
         # a carried byte and an empty piece
         ("D{555;82;-;more;0}", "1/0/-/0/82/no"),
         ("D{555;82;-;more;9}", "1/0/-/0/82/no"),
@@ -903,15 +916,15 @@ def calls_script():
         ("D{550;-;810A41;last;9}", "3/1/-/12/-/yes"),
         ("D{550;-;818041;last;9}", "3/2/-/12/-/yes"),
         # flags are those of codes taken
-        ("D{555;-;4180;last;1}", "2/1/0041/0/-/no"),
-        ("D{155;-;4180;last;1}", "0/2/0041/1/-/yes"),
+        ("D{555;-;4180;last;1}", "2/1/0041/0/-/no 1/2"),
+        ("D{155;-;4180;last;1}", "0/2/0041/1/-/yes 1/1/0"),
         # room: 2 only if something is unread; skipped codes go on at room 0
         ("D{555;-;41;last;1}", "0/1/0041/0/-/yes"),
-        ("D{555;-;41;last;0}", "2/0/-/0/-/no"),
-        ("D{551;-;418342;last;1}", "2/2/0041/4/-/no"),
-        ("D{551;-;4183;last;1}", "0/2/0041/4/-/yes"),
+        ("D{555;-;41;last;0}", "2/0/-/0/-/no 0/1"),
+        ("D{551;-;418342;last;1}", "2/2/0041/4/-/no 4/2/0"),
+        ("D{551;-;4183;last;1}", "0/2/0041/4/-/yes 4/1/0"),
         ("D{551;-;838383;more;0}", "0/3/-/4/-/no"),
-        ("D{555;-;8140814141;last;2}", "2/4/30003001/0/-/no"),
+        ("D{555;-;8140814141;last;2}", "2/4/30003001/0/-/no 0/3"),
         ("D{555;-;8140814141;last;3}", "0/5/300030010041/0/-/yes"),
         # 0 ends the run only in a call marked last
         ("D{555;-;41;more;1}", "0/1/0041/0/-/no"),
@@ -930,14 +943,14 @@ def calls_script():
         ("D{555;-;8140;last;9}", "0/2/3000/0/-/yes"),
         ("D{555;-;8240;last;9}", "0/2/30FB/2/-/yes"),
         # encoding: both bytes or none
-        ("E{555;-;3000;last;1}", "2/0/-/0/-/no"),
-        ("E{555;-;3000;last;0}", "2/0/-/0/-/no"),
-        ("E{555;-;00413000;last;2}", "2/1/41/0/-/no"),
+        ("E{555;-;3000;last;1}", "2/0/-/0/-/no 0/2"),
+        ("E{555;-;3000;last;0}", "2/0/-/0/-/no 0/2"),
+        ("E{555;-;00413000;last;2}", "2/1/41/0/-/no 0/3"),
         ("E{555;-;004130000042;more;3}", "2/2/418140/0/-/no"),
         ("E{555;-;004130000042;more;4}", "0/3/41814042/0/-/no"),
         ("E{555;-;0041;last;1}", "0/1/41/0/-/yes"),
         ("E{155;-;12341234;more;0}", "0/2/-/1/-/no"),
-        ("E{155;-;123430001234;last;1}", "2/1/-/1/-/no"),
+        ("E{155;-;123430001234;last;1}", "2/1/-/1/-/no 1/2"),
         ("E{055;-;004112340042;last;9}", "3/2/41/9/-/yes"),
         ("E{555;-;FFFFD800DFFF00A0;last;9}", "0/4/3F3F20/1/-/yes"),
         ("E{555;-;007F0080;last;9}", "0/2/7F3F/1/-/yes"),
@@ -995,14 +1008,14 @@ def calls_script():
         script.call(asked, answered)
     script.note("a character equal to the default unit is still a character")
     script.table("default_character.tbl", edited(default_as_character))
-    script.call("D{155;-;41;last;1}", "0/1/30FB/0/-/yes")
+    script.call("D{155;-;41;last;1}", "0/1/30FB/0/-/yes 0/1/0")
     script.call("D{000;-;418141;last;2}", "0/3/30FB30FB/0/-/yes")
     script.note("codes up to 00FF are one byte, larger ones two; no class is looked at; FFFF is looked up, a surrogate is not")
     script.table("odd_codes.tbl", edited(odd_codes))
     for asked, answered in (
         ("E{555;-;0100;last;1}", "0/1/FF/0/-/yes"),
         ("E{555;-;0101;last;2}", "0/1/0100/0/-/yes"),
-        ("E{555;-;0101;last;1}", "2/0/-/0/-/no"),
+        ("E{555;-;0101;last;1}", "2/0/-/0/-/no 0/2"),
         ("E{555;-;0102;last;1}", "0/1/81/0/-/yes"),
         ("E{555;-;0103;last;2}", "0/1/FFFE/0/-/yes"),
         ("E{555;-;0104;last;1}", "0/1/00/0/-/yes"),
@@ -1106,7 +1119,7 @@ def refusals_script():
     script.expect("decode 0 4 last 0", f"decode 16 0 0 - kept D 7 5 5 5 - 0 {LIMIT - 3} 0 on")
     script.expect("decode 0 3 last 0", f"decode 2 0 0 - kept D 7 5 5 5 - 0 {LIMIT - 3} 0 on")
 
-    script.note("Counting and the one-go call: 17, 10, 11")
+    script.note("The one-go call: 17, 10, 11; empty room changes none of them")
     script.expect("fillbytes 65537 41", "bytes 65537")
     zero = edited(set_page(0))
     for table_is_bad in (False, True):
@@ -1121,22 +1134,20 @@ def refusals_script():
                     held = [number for number, holds in
                             ((17, digit_is_bad), (10, table_is_bad), (11, count > 65536)) if holds]
                     if held:
-                        script.expect(f"count {direction} {policy} 0 {count}", f"count {held[0]}")
                         script.expect(f"convert {direction} {policy} 0 {count} 3", f"convert {held[0]} kept")
                         script.expect(f"convert {direction} {policy} 0 {count} 0", f"convert {held[0]} kept")
                     else:
-                        script.expect(f"count {direction} {policy} 0 {count}", "count 0 0 65536 65536")
                         output = "004100410041" if direction == "D" else "414141"
-                        script.expect(f"convert {direction} {policy} 0 {count} 3", f"convert 2 0 3 3 {output} kept")
-                        script.expect(f"convert {direction} {policy} 0 {count} 0", "convert 2 0 0 0 - kept")
+                        script.expect(f"convert {direction} {policy} 0 {count} 3", f"convert 2 0 3 65536 3 {output} kept")
+                        script.expect(f"convert {direction} {policy} 0 {count} 0", "convert 2 0 0 65536 0 - kept")
     script.sample()
-    script.note("they stop at the first stop, past it; they leave the run in hand alone")
+    script.note("it stops at the first stop, past it; it leaves the run in hand alone")
     script.bytes("8041")
     script.start("E", 9, "123")
-    script.expect("count D 055 0 2", "count 3 9 1 0")
-    script.expect("convert D 055 0 2 5", "convert 3 9 1 0 - kept")
-    script.expect("count D 155 0 2", "count 0 1 2 1")
-    script.expect("count D 655 0 2", "count 0 1 2 2")
+    script.expect("convert D 055 0 2 0", "convert 3 9 1 0 0 - kept")
+    script.expect("convert D 055 0 2 5", "convert 3 9 1 0 0 - kept")
+    script.expect("convert D 155 0 2 0", "convert 2 1 1 1 0 - kept")
+    script.expect("convert D 655 0 2 0", "convert 2 1 0 2 0 - kept")
     script.expect("save 44", f"save 0 19 {line_hex('E>9>123>->0>0>0>on;')} kept")
 
     script.note("A refused run call gives back what it was handed, also a run that breaks the rules")
@@ -1327,19 +1338,19 @@ def edges_script():
     script.expect("decode 0 65537 last 66000", f"decode 11 0 0 - kept {fresh('D', 7, '555')}")
     script.expect("decode 1 65536 last 66000",
                   f"decode 0 65536 65536 {'0041' * 65536} kept D 7 5 5 5 - 0 65536 65536 over")
-    script.expect("count D 555 0 65537", "count 11")
-    script.expect("count D 555 0 65536", "count 0 0 65536 65536")
+    script.expect("convert D 555 0 65537 0", "convert 11 kept")
+    script.expect("convert D 555 0 65536 0", "convert 2 0 0 65536 0 - kept")
     script.expect("convert D 555 0 65537 3", "convert 11 kept")
-    script.expect("convert D 555 0 65536 3", "convert 2 0 3 3 004100410041 kept")
+    script.expect("convert D 555 0 65536 3", "convert 2 0 3 65536 3 004100410041 kept")
     script.expect("fillunits 65537 3000", "units 65537")
     script.start("E", 7, "555")
     script.expect("encode 0 65537 last 140000", f"encode 11 0 0 - kept {fresh('E', 7, '555')}")
     script.expect("encode 0 65536 last 131072",
                   f"encode 0 65536 131072 {'8140' * 65536} kept E 7 5 5 5 - 0 65536 131072 over")
-    script.expect("count E 555 1 65536", "count 0 0 65536 131072")
-    script.expect("count E 555 0 65537", "count 11")
+    script.expect("convert E 555 1 65536 0", "convert 2 0 0 131072 0 - kept")
+    script.expect("convert E 555 0 65537 0", "convert 11 kept")
     script.expect("convert E 555 0 65537 3", "convert 11 kept")
-    script.expect("convert E 555 0 65536 3", "convert 2 0 1 2 8140 kept")
+    script.expect("convert E 555 0 65536 3", "convert 2 0 1 131072 2 8140 kept")
     script.note("the same with all skipped: nothing is written")
     script.expect("fillbytes 65537 83", "bytes 65537")
     script.start("D", 7, "551")
@@ -1415,8 +1426,8 @@ def edges_script():
     script.run("E 7 1 5 1 D83D 0 1 0 on")
     script.expect("encode 0 65536 more 0", "encode 1 65536 0 - kept E 7 1 5 1 D83D 1 65537 0 on")
     script.expect("encode 0 65535 last 0", "encode 0 65535 0 - kept E 7 1 5 1 - 1 131072 0 over")
-    script.expect("count E 151 1 65535", "count 0 5 65535 0")
-    script.expect("count E 555 0 65536", "count 0 5 65536 32769")
+    script.expect("convert E 151 1 65535 0", "convert 0 5 65535 0 0 - kept")
+    script.expect("convert E 555 0 65536 0", "convert 2 5 0 32769 0 - kept")
     script.expect("fillbytes 65536 83", "bytes 65536")
     script.run("D 7 5 5 1 - 4 4294901759 0 on")
     script.expect("decode 0 65536 last 0", f"decode 0 65536 0 - kept D 7 5 5 1 - 4 {LIMIT} 0 over")
@@ -1445,7 +1456,7 @@ def edges_script():
     )
     script.expect("bytes " + "".join(f"{lead:02X}40" for lead in range(0x80, 0x100)), "bytes 256")
     script.expect(
-        "convert D 000 0 256 128", f"convert 0 0 256 128 {''.join(f'{0x6000 + place:04X}' for place in range(128))} kept"
+        "convert D 000 0 256 128", f"convert 0 0 256 128 128 {''.join(f'{0x6000 + place:04X}' for place in range(128))} kept"
     )
     script.call("D{555;-;80FFFFFF;last;9}", "0/4/5000507F/0/-/yes")
     script.call("D{555;-;808180FF;last;9}", "0/4/30FB5000/2/-/yes")

@@ -197,8 +197,14 @@ def table_answer(page, mapping):
     )
 
 
+def counted(flags, output):
+    """Document 02, CR 10, on a text whose every code writes something, with empty room: nothing is read or written, and need and
+    flags are those of the whole reading."""
+    return f"convert 2 {flags} 0 {len(output)} 0 - kept"
+
+
 def add_decode(script, page, text, units_and_flags):
-    """One run over the whole text, marked last, with just enough room, and the same counted."""
+    """One run over the whole text, marked last, with just enough room, and the same counted with empty room."""
     units = [unit for unit, _ in units_and_flags]
     flags = 0
     for _, flag in units_and_flags:
@@ -212,7 +218,7 @@ def add_decode(script, page, text, units_and_flags):
         f"decode 0 {len(text)} {len(units)} {hex_units(units)} kept "
         + run_words("D", page, DECODE_POLICY, flags, len(text), len(units), "over"),
     )
-    script.add(f"count D {DECODE_POLICY} 0 {len(text)}", f"count 0 {flags} {len(text)} {len(units)}")
+    script.add(f"convert D {DECODE_POLICY} 0 {len(text)} 0", counted(flags, units))
 
 
 def page_script(page, mapping):
@@ -234,7 +240,7 @@ def page_script(page, mapping):
         script.add(f"bytes {hex_bytes(leads)}", f"bytes {len(leads)}")
         for place in range(len(leads)):
             script.add(
-                f"convert D {DECODE_POLICY} {place} 1 1", f"convert 0 4 1 1 {hex_units([INVALID_UNIT])} kept"
+                f"convert D {DECODE_POLICY} {place} 1 1", f"convert 0 4 1 1 1 {hex_units([INVALID_UNIT])} kept"
             )
     script.note("every unit with a code, and the units around")
     dense = [part for part in stretches(mapping.codes) if part[0]]
@@ -253,7 +259,7 @@ def page_script(page, mapping):
         f"encode 0 {len(units)} {len(output)} {hex_bytes(output)} kept "
         + run_words("E", page, ENCODE_POLICY, flags, len(units), len(output), "over"),
     )
-    script.add(f"count E {ENCODE_POLICY} 0 {len(units)}", f"count 0 {flags} {len(units)} {len(output)}")
+    script.add(f"convert E {ENCODE_POLICY} 0 {len(units)} 0", counted(flags, output))
     return script
 
 
@@ -278,7 +284,7 @@ def undefined_script(mappings):
         for is_dense, first, count in stretches(mapping.codes):
             if not is_dense:
                 flags = undefined_flags(first, count)
-                script.add(f"convert E {SKIP_POLICY} {first} {count} 1", f"convert 0 {flags} {count} 0 - kept")
+                script.add(f"convert E {SKIP_POLICY} {first} {count} 1", f"convert 0 {flags} {count} 0 0 - kept")
     return script
 
 

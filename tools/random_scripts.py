@@ -387,7 +387,7 @@ def play_one_go(player, chance, direction, text_size):
     start = chance.randrange(text_size + 1)
     count = chance.randrange(text_size - start + 1)
     policy = random_policy(chance, direction)
-    player.do(f"count {direction} {policy} {start} {count}")
+    player.do(f"convert {direction} {policy} {start} {count} 0")
     player.do(f"convert {direction} {policy} {start} {count} {random_room(chance, count)}")
 
 
@@ -423,7 +423,7 @@ def play_long_list(player, chance, names, tables):
         room = chance.choice((0, 1, 2, 40, 200, 1000))
         player.do(f"{call} {position} {count} {mark} {room}")
         if chance.random() < 0.3:
-            player.do(f"count {direction} 111 {position} {count}")
+            player.do(f"convert {direction} 111 {position} {count} 0")
         if chance.random() < 0.2:
             player.do("save 44")
         if player.run.ended:

@@ -329,7 +329,7 @@ def run_call(direction, run, table, piece, last, out):
 
 
 def one_go_refusal(direction, digits, table, text):
-    """ "counting and the one-go call check 17 (policy), 10, 11" """
+    """The one-go call checks 17 (policy), 10, 11 ("No refusal changes", CR 10)."""
     if not digits_allowed(direction, digits):
         return 17
     if not shape_is_good(table):
@@ -349,27 +349,30 @@ class OneGo:
     number: int
     flags: int
     read: int
+    need: int
     written: int
 
 
-def count_call(direction, digits, table, text):
-    """ "Counting gives the same as if room never ended, and writes nothing." A refusal is the number alone."""
-    refusal = one_go_refusal(direction, digits, table, text)
-    if refusal is not None:
-        return refusal
-    taken = take_whole_text(direction, digits, table, text, NO_END_OF_ROOM)
-    return OneGo(taken.number, taken.flags, taken.read, len(taken.output))
+def one_go_number(whole, room):
+    """CR 10: "answer 2, ahead of 3, is given exactly if something did not fit, with empty room too": what the whole reading writes
+    is more than the room. Otherwise the conversion is the whole reading."""
+    return DOES_NOT_FIT if len(whole.output) > room else whole.number
 
 
 def convert_call(direction, digits, table, text, out):
-    """ "number (0, 2 or 3), flags, read, written". A refusal is the number alone, with the output untouched."""
+    """Document 02, CR 10: "one call reports the units or bytes the text needs and those written; empty room means just counting".
+    A refusal is the number alone, with the output untouched."""
     refusal = one_go_refusal(direction, digits, table, text)
     if refusal is not None:
         return refusal
+    # "The need and flags are always those of the whole reading, also when room ends": "as if room never ended" (document 01)
+    whole = take_whole_text(direction, digits, table, text, NO_END_OF_ROOM)
+    # "the written part and the input read are the conversion's as before"
     taken = take_whole_text(direction, digits, table, text, len(out))
     for place, element in enumerate(taken.output):
         out[place] = element
-    return OneGo(taken.number, taken.flags, taken.read, len(taken.output))
+    number = one_go_number(whole, len(out))
+    return OneGo(number, whole.flags, taken.read, len(whole.output), len(taken.output))
 
 
 # ---------------------------------------------------------------------------------------------------------------
@@ -721,7 +724,6 @@ class Console:
             b"encode": (4, self.do_encode),
             b"save": (1, self.do_save),
             b"load": (1, self.do_load),
-            b"count": (4, self.do_count),
             b"convert": (5, self.do_convert),
             b"hold": (1, self.do_hold),
             b"held": (1, self.do_held),
@@ -848,15 +850,6 @@ class Console:
         self.run = loaded
         return f"load 0 {run_text(self.run)}"
 
-    def do_count(self, direction, policy, start, count):
-        direction = direction_word(direction)
-        digits = policy_word(policy)
-        text = self.part_of(self.byte_text if direction == DECODING else self.unit_text, start, count)
-        counted = count_call(direction, digits, self.table, text)
-        if counted in (17, 10, 11):
-            return f"count {counted}"
-        return f"count {counted.number} {counted.flags} {counted.read} {counted.written}"
-
     def do_convert(self, direction, policy, start, count, room):
         direction = direction_word(direction)
         digits = policy_word(policy)
@@ -871,7 +864,8 @@ class Console:
             return f"convert {converted} {kept_text(out, 0, fill)}"
         written = hex_text(out[: converted.written], width)
         kept = kept_text(out, converted.written, fill)
-        return f"convert {converted.number} {converted.flags} {converted.read} {converted.written} {written} {kept}"
+        numbers = f"{converted.number} {converted.flags} {converted.read} {converted.need} {converted.written}"
+        return f"convert {numbers} {written} {kept}"
 
     def do_hold(self, size):
         self.hold = [UNIT_FILL] * number_word(size, HOLD_LIMIT)

@@ -19,14 +19,14 @@ PAIRS = (
     # a high surrogate and a low one: one undefined single of two units
     ("E{555;-;D83DDE00;last;9}", "0/2/3F/1/-/yes"),
     ("E{555;-;D83DDE00;last;1}", "0/2/3F/1/-/yes"),
-    ("E{555;-;D83DDE00;last;0}", "2/0/-/0/-/no"),
+    ("E{555;-;D83DDE00;last;0}", "2/0/-/0/-/no 1/1"),
     ("E{555;-;D83DDE00;more;0}", "2/0/-/0/-/no"),
     ("E{550;-;D83DDE00;last;9}", "0/2/3F/1/-/yes"),
     ("E{155;-;D83DDE00;more;0}", "0/2/-/1/-/no"),
     ("E{055;-;D83DDE000041;more;9}", "3/2/-/9/-/yes"),
     ("E{555;-;0041D83DDE000042;last;9}", "0/4/413F42/1/-/yes"),
     ("E{555;-;D83DDE00D83DDE01;last;9}", "0/4/3F3F/1/-/yes"),
-    ("E{555;-;D83DDE00D83DDE01;last;1}", "2/2/3F/1/-/no"),
+    ("E{555;-;D83DDE00D83DDE01;last;1}", "2/2/3F/1/-/no 1/2"),
 )
 ALONE = (
     # any other surrogate: invalid, one unit; the unit after it is read afresh
@@ -39,8 +39,8 @@ ALONE = (
     ("E{555;-;D83D000A0041;last;9}", "0/3/3F0A41/4/-/yes"),
     ("E{555;-;D83DD83DDE00;last;9}", "0/3/3F3F/5/-/yes"),
     ("E{555;-;D83DDE00DE00;last;9}", "0/3/3F3F/5/-/yes"),
-    ("E{555;-;D83D3000;last;2}", "2/1/3F/4/-/no"),
-    ("E{551;-;D83D3000;last;1}", "2/1/-/4/-/no"),
+    ("E{555;-;D83D3000;last;2}", "2/1/3F/4/-/no 4/3"),
+    ("E{551;-;D83D3000;last;1}", "2/1/-/4/-/no 4/2"),
     ("E{550;-;D83D0041;last;9}", "3/1/-/12/-/yes"),
     ("E{550;-;0041DE000042;last;9}", "3/2/41/12/-/yes"),
     ("E{055;-;D83D0041;last;9}", "0/2/3F41/4/-/yes"),
@@ -57,7 +57,7 @@ CARRIED = (
     ("E{551;-;D83DD83D;more;0}", "1/2/-/4/D83D/no"),
     ("E{555;-;D83DDE00D83D;more;1}", "1/3/3F/1/D83D/no"),
     # in a last call it is not
-    ("E{555;-;D83D;last;0}", "2/0/-/0/-/no"),
+    ("E{555;-;D83D;last;0}", "2/0/-/0/-/no 4/1"),
     ("E{551;-;D83D;last;0}", "0/1/-/4/-/yes"),
     ("E{550;-;D83D;last;0}", "3/1/-/12/-/yes"),
     # a carried unit and an empty piece; the low half of the unit is no byte that could be a lead or none
@@ -366,17 +366,18 @@ class Feed:
 
 
 def one_go(script, text, room):
-    """The whole text in one go, and counted."""
+    """The whole text in one go, and counted with empty room: need and flags are those of ample room."""
     count = len(text.units)
-    for name, size in (("convert", room), ("count", AMPLE)):
+    whole = Feed(text)
+    _, output = whole.take(count, True, AMPLE)
+    need = len(output) // 2
+    for size in sorted({room, 0}, reverse=True):
         feed = Feed(text)
         number, output = feed.take(count, True, size)
-        numbers = f"{number} {feed.flags} {feed.read} {len(output) // 2}"
-        asked = f"{name} E {text.policy} 0 {count}"
-        if name == "convert":
-            script.expect(f"{asked} {room}", f"convert {numbers} {output or '-'} kept")
-        else:
-            script.expect(asked, f"count {numbers}")
+        script.expect(
+            f"convert E {text.policy} 0 {count} {size}",
+            f"convert {number} {whole.flags} {feed.read} {need} {len(output) // 2} {output or '-'} kept",
+        )
 
 
 def cuttings(count):

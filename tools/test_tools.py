@@ -136,7 +136,6 @@ def check_coverage(options):
         "decode": (0, 1, 2, 3, 10, 11, 12, 13, 14, 15, 16),
         "encode": (0, 1, 2, 3, 10, 11, 12, 13, 15, 16),
         "start": (0, 17),
-        "count": (0, 3, 10, 11, 17),
         "convert": (0, 2, 3, 10, 11, 17),
         "save": (0, 12, 19),
         "load": (0, 18),
@@ -290,8 +289,24 @@ def check_lists(options):
                 break
             run, joined = outcome.run, joined + out[: outcome.written]
         expect((joined, run.flags, run.read) == whole, f"list {number}: element by element")
-        counted = converter.count_call(direction, digits, table, text)
-        expect((counted.flags, counted.read, counted.written) == (whole[1], whole[2], len(whole[0])), "counting")
+        check_one_go(table, direction, digits, text, whole, f"list {number}")
+
+
+def check_one_go(table, direction, digits, text, whole, name):
+    """CR 10, with every room up to the need and one more: need and flags are the uncut reading's, 2 exactly if the need is over the
+    room; read and written are those of one call marked last on a fresh run, and so is the number."""
+    output, flags, total = whole
+    for room in range(len(output) + 2):
+        out, same = [-1] * room, [-1] * room
+        answer = converter.convert_call(direction, digits, table, text, out)
+        outcome = converter.run_call(direction, converter.start_call(direction, table.page, digits), table, text, True, same)
+        number = 2 if len(output) > room else 3 if flags & 8 else 0
+        expect((answer.number, answer.need, answer.flags) == (number, len(output), flags), f"{name}: in one go, room {room}")
+        expect((answer.number, answer.read, answer.written) == (outcome.number, outcome.read, outcome.written),
+               f"{name}: in one go and by a run, room {room}")
+        expect(out == same, f"{name}: output in one go and by a run, room {room}")
+        expect(out == (output[: answer.written] + [-1] * room)[:room], f"{name}: output in one go, room {room}")
+        expect(number == 2 or answer.read == total, f"{name}: read in one go, room {room}")
 
 
 def fed_in_pieces(table, direction, digits, text, ends, room):
@@ -805,13 +820,13 @@ def wrong_surrogate_converters():
     def small_letters(direction, field):
         return right["is_carried_field"](direction, field.upper())
 
-    def counted_alone(direction, digits, table, text):
-        """Counting takes each unit for a text of its own."""
-        counted = right["count_call"](direction, digits, table, text)
-        if direction == "D" or isinstance(counted, int) or counted.number != 0:
-            return counted
-        parts = [right["count_call"](direction, digits, table, [unit]) for unit in text]
-        return converter.replace(counted, written=sum(part.written for part in parts))
+    def need_of_units_alone(direction, digits, table, text, out):
+        """The need takes each unit for a text of its own."""
+        answer = right["convert_call"](direction, digits, table, text, out)
+        if direction == "D" or isinstance(answer, int) or answer.flags & 8:
+            return answer
+        parts = [right["convert_call"](direction, digits, table, [unit], []) for unit in text]
+        return converter.replace(answer, need=sum(part.need for part in parts))
 
     return (
         ("D7FF is a high surrogate", "HIGH_SURROGATES", range(0xD7FF, 0xDC00)),
@@ -872,8 +887,91 @@ def wrong_surrogate_converters():
         ("small hex digits are read", "is_carried_field", small_letters),
         ("the carried unit is dropped when saved", "line_of", line_without_carried),
         ("the carried unit's low half is shown", "carried_field", low_half_carried),
-        ("counting takes each unit alone", "count_call", counted_alone),
+        ("the need takes each unit alone", "convert_call", need_of_units_alone),
     )
+
+
+def wrong_one_go_converters(directions):
+    """The same for the one call that counts and converts (document 02, CR 10), wrong in the directions given."""
+    convert_call, take_whole_text, ample = converter.convert_call, converter.take_whole_text, converter.NO_END_OF_ROOM
+
+    def changed(change):
+        """An accepted call that was answered otherwise; it is told what the conversion and the whole reading took."""
+
+        def wrong(direction, digits, table, text, out):
+            answer = convert_call(direction, digits, table, text, out)
+            if isinstance(answer, int) or direction not in directions:
+                return answer
+            asked = (direction, digits, table, text)
+            return converter.replace(answer, **change(answer, out, take_whole_text(*asked, len(out)), take_whole_text(*asked, ample)))
+
+        return wrong
+
+    def number(wrong_number):
+        return changed(lambda answer, out, taken, whole: {"number": wrong_number(answer, len(out), whole)})
+
+    def flags(wrong_flags):
+        return changed(lambda answer, out, taken, whole: {"flags": wrong_flags(answer, taken, whole)})
+
+    def room_rounded_up(direction, digits, table, text, out):
+        """Empty room is not told from room for one."""
+        lent = out or [0]
+        return convert_call(direction, digits, table, text, lent if direction in directions else out)
+
+    def refused(refusals):
+        """With empty room, a refusal is left out: an accepted call that reads nothing."""
+
+        def wrong(direction, digits, table, text, out):
+            answer = convert_call(direction, digits, table, text, out)
+            if answer in refusals and not out and direction in directions:
+                return converter.OneGo(0, 0, 0, 0, 0)
+            return answer
+
+        return wrong
+
+    def beyond_written(direction, digits, table, text, out):
+        """Room that nothing was written to is cleared."""
+        answer = convert_call(direction, digits, table, text, out)
+        if direction in directions:
+            written = 0 if isinstance(answer, int) else answer.written
+            out[written:] = [0] * (len(out) - written)
+        return answer
+
+    def past_stop(direction, digits, table, text, out):
+        """The need goes on behind a stop."""
+        answer = convert_call(direction, digits, table, text, out)
+        if isinstance(answer, int) or direction not in directions:
+            return answer
+        whole = take_whole_text(direction, tuple(digit or 1 for digit in digits), table, text, ample)
+        return converter.replace(answer, need=len(whole.output))
+
+    return tuple((f"{title}, directions {directions}", "convert_call", wrong) for title, wrong in (
+        ("flags of the converted part", flags(lambda answer, taken, whole: taken.flags)),
+        ("flag 8 only if the conversion stopped", flags(lambda answer, taken, whole: taken.flags & 8 | whole.flags & 7)),
+        ("flag 8 is not of the whole reading's flags", flags(lambda answer, taken, whole: whole.flags & 7)),
+        ("no flags with answer 2", flags(lambda answer, taken, whole: 0 if answer.number == 2 else answer.flags)),
+        ("3 ahead of 2", number(lambda answer, room, whole: whole.number or answer.number)),
+        ("empty room answers as counting did", number(lambda answer, room, whole: answer.number if room else whole.number)),
+        ("3 ahead of 2 with empty room", number(lambda answer, room, whole: answer.number if room else whole.number or answer.number)),
+        ("empty room is always 2", number(lambda answer, room, whole: answer.number if room else 2)),
+        ("2 if the need is the room", number(lambda answer, room, whole: 2 if answer.need == room else answer.number)),
+        ("2 only if the need is over the room by two",
+         number(lambda answer, room, whole: answer.number if answer.need > room + 1 else whole.number)),
+        ("the need is what is written", changed(lambda answer, out, taken, whole: {"need": answer.written})),
+        ("the need is at most the room", changed(lambda answer, out, taken, whole: {"need": min(answer.need, len(out))})),
+        ("the need is what did not fit", changed(lambda answer, out, taken, whole: {"need": answer.need - answer.written})),
+        ("the need goes on behind a stop", past_stop),
+        ("read is the whole reading's", changed(lambda answer, out, taken, whole: {"read": whole.read})),
+        ("read is the whole reading's with empty room",
+         changed(lambda answer, out, taken, whole: {"read": answer.read if out else whole.read})),
+        ("nothing is read with empty room", changed(lambda answer, out, taken, whole: {"read": answer.read if out else 0})),
+        ("written is the need", changed(lambda answer, out, taken, whole: {"written": answer.need})),
+        ("empty room is room for one", room_rounded_up),
+        ("10 is not asked with empty room", refused((10,))),
+        ("11 is not asked with empty room", refused((11,))),
+        ("17 is not asked with empty room", refused((17,))),
+        ("the room beyond is cleared", beyond_written),
+    ))
 
 
 class SeparatedByLowHalf(dict):
@@ -1018,6 +1116,8 @@ def check_wrong_converters(options):
         expect_found_out(settling + on_sample, names)
     carrying, settling = wrong_takings("E")
     expect_found_out(carrying + settling + wrong_surrogate_converters(), ("surrogates",))
+    for directions in ("D", "E"):
+        expect_found_out(wrong_one_go_converters(directions), ("one_call",))
     expect_found_out(wrong_field_converters(), ("fields",))
 
 

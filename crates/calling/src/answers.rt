@@ -3,7 +3,6 @@
 use checkpoint::Written;
 use codepage::Fault;
 use convert::Outcome;
-use oneshot::Counted;
 use oneshot::Totals;
 use script::texts;
 
@@ -74,25 +73,16 @@ pub fn answer_save(written: Written, room: &[u8], out: &mut [u8], at: usize) -> 
     }
 }
 
-// Number, flags, read and written.
+// Number, flags, read, need and written.
 fn put_totals(number: u64, totals: Totals, out: &mut [u8], at: usize) -> usize {
     let end = print::put_number(number, out, at);
     let end = print::put_number(totals.flags as u64, out, end);
     let end = print::put_number(totals.read as u64, out, end);
+    let end = print::put_number(totals.need as u64, out, end);
     print::put_number(totals.written as u64, out, end)
 }
 
-pub fn put_counted(counted: Counted, out: &mut [u8], at: usize) -> usize {
-    match counted {
-        Counted::All(totals) => put_totals(0, totals, out, at),
-        Counted::Stopped(totals) => put_totals(3, totals, out, at),
-        Counted::BadPolicy => print::put_number(17, out, at),
-        Counted::BadShape => print::put_number(10, out, at),
-        Counted::TooLong => print::put_number(11, out, at),
-    }
-}
-
-// The word, the number and, where it is no refusal, flags, read and written of the one-go call.
+// The word, the number and, where it is no refusal, flags, read, need and written of the one-go call.
 fn put_converted(number: u8, totals: Totals, out: &mut [u8], at: usize) -> usize {
     let end = print::put(b"convert", out, at);
     if 10 <= number {

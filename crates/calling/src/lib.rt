@@ -93,20 +93,6 @@ fn call_text(
     let at = next.at;
     let from = command::second(line);
     match command {
-        Command::Count => text::count(
-            line,
-            from,
-            state,
-            classes,
-            singles,
-            pairs,
-            index,
-            blocks,
-            bytes,
-            units,
-            out,
-            at,
-        ),
         Command::Convert => text::convert_text(
             line,
             from,

@@ -1,145 +1,13 @@
-// The commands on a text in one go.
+// The command on a text in one go.
 use crate::answers;
 use codepage::Numbers;
 use convert::Direction;
 use convert::Policy;
-use oneshot::Counted;
 use oneshot::Totals;
 use script::state::Next;
 use script::state::State;
 use script::texts;
 use script::words;
-
-fn answer_count(counted: Counted, state: State, out: &mut [u8], at: usize) -> Next {
-    let end = print::put(b"count", out, at);
-    let end = answers::put_counted(counted, out, end);
-    Next {
-        state,
-        at: print::put_end(out, end),
-    }
-}
-
-// `FROM COUNT` of the command `count D`.
-fn count_decoding(
-    line: &[u8],
-    from: usize,
-    policy: Policy,
-    state: State,
-    classes: &[u8],
-    singles: &[u16],
-    pairs: &[u16],
-    index: &[u8],
-    blocks: &[u16],
-    text: &[u8],
-    out: &mut [u8],
-    at: usize,
-) -> Next {
-    let piece = words::piece_at(line, from, text.len());
-    if !words::at_end(line, piece.next) {
-        return state.answered(print::put_refusal(out, at));
-    }
-    let start = piece.from;
-    let end = piece.to;
-    let numbers = state.numbers;
-    let counted = oneshot::count_units(
-        policy,
-        numbers,
-        classes,
-        singles,
-        pairs,
-        index,
-        blocks,
-        &text[start..end],
-    );
-    answer_count(counted, state, out, at)
-}
-
-// The same of `count E`.
-fn count_encoding(
-    line: &[u8],
-    from: usize,
-    policy: Policy,
-    state: State,
-    classes: &[u8],
-    singles: &[u16],
-    pairs: &[u16],
-    index: &[u8],
-    blocks: &[u16],
-    text: &[u16],
-    out: &mut [u8],
-    at: usize,
-) -> Next {
-    let piece = words::piece_at(line, from, text.len());
-    if !words::at_end(line, piece.next) {
-        return state.answered(print::put_refusal(out, at));
-    }
-    let start = piece.from;
-    let end = piece.to;
-    let numbers = state.numbers;
-    let counted = oneshot::count_bytes(
-        policy,
-        numbers,
-        classes,
-        singles,
-        pairs,
-        index,
-        blocks,
-        &text[start..end],
-    );
-    answer_count(counted, state, out, at)
-}
-
-// `count D POLICY FROM COUNT`.
-pub fn count(
-    line: &[u8],
-    from: usize,
-    state: State,
-    classes: &[u8],
-    singles: &[u16],
-    pairs: &[u16],
-    index: &[u8],
-    blocks: &[u16],
-    bytes: &[u8],
-    units: &[u16],
-    out: &mut [u8],
-    at: usize,
-) -> Next {
-    let letter = words::direction_at(line, from);
-    let digits = words::policy_at(line, letter.next);
-    let next = digits.next;
-    let direction = letter.value;
-    let policy = digits.value;
-    match direction {
-        Direction::Decoding => count_decoding(
-            line,
-            next,
-            policy,
-            state,
-            classes,
-            singles,
-            pairs,
-            index,
-            blocks,
-            bytes,
-            out,
-            at,
-        ),
-        Direction::Encoding => count_encoding(
-            line,
-            next,
-            policy,
-            state,
-            classes,
-            singles,
-            pairs,
-            index,
-            blocks,
-            units,
-            out,
-            at,
-        ),
-    }
-}
 
 // Decodes a text into room that is filled before, and looks at the rest of the room when the part is used.
 fn decode_text(
@@ -159,6 +27,7 @@ fn decode_text(
     let mut number = 0;
     let mut flags = 0;
     let mut read = 0;
+    let mut need = 0;
     let part = oneshot::decode_filled(
         policy,
         numbers,
@@ -171,12 +40,14 @@ fn decode_text(
         &mut number,
         &mut flags,
         &mut read,
+        &mut need,
         room,
     );
     let written = part.len();
     let totals = Totals {
         flags,
         read,
+        need,
         written,
     };
     let end = answers::put_decoded(number, totals, part, out, at);
@@ -201,6 +72,7 @@ fn encode_text(
     let mut number = 0;
     let mut flags = 0;
     let mut read = 0;
+    let mut need = 0;
     let part = oneshot::encode_filled(
         policy,
         numbers,
@@ -213,12 +85,14 @@ fn encode_text(
         &mut number,
         &mut flags,
         &mut read,
+        &mut need,
         room,
     );
     let written = part.len();
     let totals = Totals {
         flags,
         read,
+        need,
         written,
     };
     let end = answers::put_encoded(number, totals, part, out, at);

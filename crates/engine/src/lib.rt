@@ -1,4 +1,4 @@
-// Taking code after code: policies, and the loops of counting. (Document 01, "Policies and flags" and the
+// Taking code after code: policies, and what a code does. (Document 01, "Policies and flags" and the
 // first paragraph of "One call of a run".) The functions of the modules are inner: the run calls above call them on tables whose
 // shape was found good. They are no public calls.
 ghost use mathlib.Core.Path.{_≡_};

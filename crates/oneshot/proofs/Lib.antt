@@ -1,3 +1,3 @@
 pub mod TextLaws
-pub mod TextTheorems
 pub mod TextNumbers
+pub mod TextTheorems

@@ -1,16 +1,16 @@
--- Laws of counting and of the one-go call.
+-- Laws of the call on a whole text.
 use mathlib.Core.Bool.{Bool, true, false, true≢false}
 use mathlib.Core.List.{List, [], _∷_}
 use mathlib.Core.Logic.{_⊎_, inl, inr}
 use mathlib.Core.Option.{Option, none, some}
-use mathlib.Core.Path.{_≡_, refl, sym, ap, _∙_, subst}
-use Prim.Native.Nat.{ℕ, zero, suc, _+_, _*_, _≤_}
+use mathlib.Core.Path.{_≡_, refl, sym, ap, ap₂, _∙_, subst}
+use Prim.Native.Nat.{ℕ, zero, suc, _+_, _-_, _*_, _<_, _≤_}
 use native.Mathlib.Omega.{arith}
-use lib.Dec.{leb, eqb}
-use lib.ListN.{length, take, drop}
+use lib.Dec.{leb, ltb, eqb}
+use lib.ListN.{length, length-append, take, drop}
 use denote.Ref.{RefT, ptr, now}
 use lib.Seq.{take-at}
-use borrow.Author.Tests.{leb-true, eq-eqb, ne-eqb}
+use borrow.Author.Tests.{leb-true, le-leb, ltb-true, ltb-false, eq-eqb, ne-eqb}
 use Rattle.codepage.specs.CodePage.{CodePage, pick, entry, GoodShape, firstFault, isGood}
 use Rattle.codepage.specs.Reading.{Code, sizeOf, callCodes, waitingUnit}
 use Rattle.codepage.proofs.ShapeLaws.{shape-exact}
@@ -18,7 +18,6 @@ use Rattle.engine.specs.declared.Direction.{Direction}
 use Rattle.engine.specs.declared.Direction.the-variants.{Decoding, Encoding}
 use Rattle.engine.specs.declared.Policy.{Policy}
 use Rattle.oneshot.specs.declared.Totals.{Totals}
-use Rattle.oneshot.specs.declared.Counted.{Counted}
 use Rattle.oneshot.specs.declared.Converted.{Converted}
 use Rattle.engine.specs.declared.progress.Progress.{Progress}
 use Rattle.engine.specs.Policies.{policyAllowed}
@@ -27,7 +26,7 @@ use Rattle.convert.specs.Runs.{pieceLimit}
 use Rattle.convert.specs.Calls.{check}
 use Rattle.codepage.specs.Lent.{over}
 use Rattle.engine.specs.Engine.{converterOf}
-use Rattle.oneshot.specs.Texts.{textRefusal, Text, acceptedText, refusedText, textFed, textOf, countedNumber, countedTotals, convertedNumber, convertedTotals, totalsOrNone, CountedAs, ConvertedAs, FilledAs}
+use Rattle.oneshot.specs.Texts.{textRefusal, Text, answerOf, acceptedText, refusedText, textFed, textOf, convertedNumber, convertedTotals, totalsOrNone, ConvertedAs, FilledAs}
 use Rattle.oneshot.specs.Steps.{totalsBy}
 use Rattle.engine.specs.Steps.{summary, DecodeSizes}
 use Rattle.engine.proofs.EngineLaws.{shape-from}
@@ -38,10 +37,6 @@ pub third : (n a b c : ℕ) → (n ≡ a) ⊎ ((n ≡ b) ⊎ (n ≡ c)) → (n �
 third n a b c (inl e) p q = absurd (p e)
 third n a b c (inr (inl e)) p q = absurd (q e)
 third n a b c (inr (inr e)) p q = sym e
-
-pub second : (n a b : ℕ) → (n ≡ a) ⊎ (n ≡ b) → (n ≡ a → ⊥) → b ≡ n
-second n a b (inl e) p = absurd (p e)
-second n a b (inr e) p = sym e
 
 -- ---- the refusals
 named-text : (b₁ b₂ b₃ : Bool) → (check 17 b₁ (check 10 b₂ (check 11 b₃ 0)) ≡ 0 → ⊥)
@@ -116,64 +111,101 @@ pub never-full : (v : Converter) (last : Bool) (p : Option ℕ) (l : List ℕ) �
 unfolding feedFrom
 never-full v last p l e = never-codes v (callCodes (v .reader) last p l) (waitingUnit (v .reader) last p l) e
 
-pub count-answer : (direction : Direction) (policy : Policy) (p : CodePage) (text : List ℕ) (s : Progress) → s ≡ summary (textFed direction policy p endless text) → (s .answer ≡ 0) ⊎ (s .answer ≡ 3)
-unfolding textFed summary
-count-answer direction policy p text s e = by-case (text-answer direction policy p endless text s e)
+-- ---- room for all, or not
+ample-take : (s : Bool) (n room : ℕ) (k : Effect) (f g : Fed) → length (takeWhen s true n k g .output) ≤ room → (length (g .output) ≤ room - length (k .writes) → f ≡ g) → takeWhen s (leb (length (k .writes)) room) n k f ≡ takeWhen s true n k g
+unfolding takeWhen after
+ample-take true n room k f g h e = refl
+ample-take false n room k f g h e =
+    let whole = length-append (k .writes) (g .output) in
+    rw (le-leb (length (k .writes)) room (omega arith)) (ap (after n (k .writes) (k .flag)) (e (omega arith)))
+
+ample-codes : (v : Converter) (room : ℕ) (ks : List Code) (waiting : Option ℕ) → length (takeCodes v endless ks waiting .output) ≤ room → takeCodes v (limit room) ks waiting ≡ takeCodes v endless ks waiting
+unfolding takeCodes takeCode fits less
+ample-codes v room [] waiting h = refl
+ample-codes v room (k ∷ ks) waiting h = ample-take (v .does k .stops) (sizeOf k) room (v .does k) _ _ h (ample-codes v (room - length (v .does k .writes)) ks waiting)
+
+-- with room for what all of it needs, the conversion is the whole reading
+pub ample : (v : Converter) (last : Bool) (room : ℕ) (p : Option ℕ) (l : List ℕ) → length (feedFrom v last endless p l .output) ≤ room → feedFrom v last (limit room) p l ≡ feedFrom v last endless p l
+unfolding feedFrom
+ample v last room p l h = ample-codes v room (callCodes (v .reader) last p l) (waitingUnit (v .reader) last p l) h
+
+scant-take : (s : Bool) (n room : ℕ) (k : Effect) (f g : Fed) → room < length (takeWhen s true n k g .output) → (room - length (k .writes) < length (g .output) → f .answer ≡ 2) → takeWhen s (leb (length (k .writes)) room) n k f .answer ≡ 2
+unfolding takeWhen after stopAt halt
+scant-take true n room k f g h e = absurd (omega arith)
+scant-take false n room k f g h e = by-fit (leb (length (k .writes)) room) refl
   where
-    by-case : (s .answer ≡ 0) ⊎ ((s .answer ≡ 2) ⊎ (s .answer ≡ 3)) → (s .answer ≡ 0) ⊎ (s .answer ≡ 3)
-    by-case (inl z) = inl z
-    by-case (inr (inl z)) = absurd (never-full (converterOf direction p policy) true none text (sym (ap (λ (x : Progress). x .answer) e) ∙ z))
-    by-case (inr (inr z)) = inr z
+    by-fit : (t : Bool) → leb (length (k .writes)) room ≡ t → takeWhen false t n k f .answer ≡ 2
+    by-fit true q = e (omega (arith, leb-true (length (k .writes)) room q, length-append (k .writes) (g .output)))
+    by-fit false q = refl
+
+scant-codes : (v : Converter) (room : ℕ) (ks : List Code) (waiting : Option ℕ) → room < length (takeCodes v endless ks waiting .output) → takeCodes v (limit room) ks waiting .answer ≡ 2
+unfolding takeCodes takeCode fits less halt
+scant-codes v room [] waiting h = absurd (omega arith)
+scant-codes v room (k ∷ ks) waiting h = scant-take (v .does k .stops) (sizeOf k) room (v .does k) _ _ h (scant-codes v (room - length (v .does k .writes)) ks waiting)
+
+-- with less, a code does not fit
+pub scant : (v : Converter) (last : Bool) (room : ℕ) (p : Option ℕ) (l : List ℕ) → room < length (feedFrom v last endless p l .output) → feedFrom v last (limit room) p l .answer ≡ 2
+unfolding feedFrom
+scant v last room p l h = scant-codes v room (callCodes (v .reader) last p l) (waitingUnit (v .reader) last p l) h
+
+-- where all codes fitted, the conversion is the whole reading
+pub fitted : (v : Converter) (room : ℕ) (l : List ℕ) → (feedFrom v true (limit room) none l .answer ≡ 2 → ⊥) → feedFrom v true (limit room) none l ≡ feedFrom v true endless none l
+fitted v room l n = by-room (ltb room (length (feedFrom v true endless none l .output))) refl
+  where
+    by-room : (t : Bool) → ltb room (length (feedFrom v true endless none l .output)) ≡ t → feedFrom v true (limit room) none l ≡ feedFrom v true endless none l
+    by-room true q = absurd (n (scant v true room none l (ltb-true _ _ q)))
+    by-room false q = ample v true room none l (ltb-false _ _ q)
+
+-- the answer by the need is the conversion's own
+pub answer-is : (v : Converter) (room : ℕ) (l : List ℕ) → answerOf (feedFrom v true endless none l) room ≡ feedFrom v true (limit room) none l .answer
+unfolding answerOf
+answer-is v room l = by-room (ltb room (length (feedFrom v true endless none l .output))) refl
+  where
+    by-room : (t : Bool) → ltb room (length (feedFrom v true endless none l .output)) ≡ t → pick t 2 (feedFrom v true endless none l .answer) ≡ feedFrom v true (limit room) none l .answer
+    by-room true q = sym (scant v true room none l (ltb-true _ _ q))
+    by-room false q = ap (λ (f : Fed). f .answer) (sym (ample v true room none l (ltb-false _ _ q)))
 
 -- ---- the promises
 module _ (direction : Direction) (policy : Policy) (p : CodePage) (text : List ℕ) where
-  pub counted-refused : (n : ℕ) (r : Counted) → n ≡ textRefusal direction policy p (length text) → (n ≡ 0 → ⊥) → (countedNumber r ≡ n) × (countedTotals r ≡ none)
-      → CountedAs (textOf direction policy p endless text) r
-  unfolding textOf refusedText
-  counted-refused n r e z w = rw (← e, ne-eqb _ _ z) (record { number = w .0; totals = w .1 })
-
-  pub counted-accepted : (s : Progress) (r : Counted) → textRefusal direction policy p (length text) ≡ 0 → s ≡ summary (textFed direction policy p endless text)
-      → (countedNumber r ≡ s .answer) × (countedTotals r ≡ some (totalsBy s)) → CountedAs (textOf direction policy p endless text) r
-  unfolding textOf acceptedText summary
-  counted-accepted s r z e w =
-      let accepted : eqb (textRefusal direction policy p (length text)) 0 ≡ true = eq-eqb _ _ z in
-      rw accepted (record { number = w .0 ∙ ap (λ (x : Progress). x .answer) e; totals = w .1 ∙ ap (λ (x : Progress). some (totalsBy x)) e })
-
   pub converted-refused : (n : ℕ) (r : Converted) (before : List ℕ) → n ≡ textRefusal direction policy p (length text) → (n ≡ 0 → ⊥) → (convertedNumber r ≡ n) × (convertedTotals r ≡ none)
-      → ConvertedAs (textOf direction policy p (limit (length before)) text) r before before
+      → ConvertedAs (textOf direction policy p text (length before)) r before before
   unfolding textOf refusedText over
   converted-refused n r before e z w = rw (← e, ne-eqb _ _ z) (record { number = w .0; totals = w .1; lent = refl })
 
-  pub converted-accepted : (s : Progress) (r : Converted) (before after : List ℕ) → textRefusal direction policy p (length text) ≡ 0
-      → s ≡ summary (textFed direction policy p (limit (length before)) text) → after ≡ over before (textFed direction policy p (limit (length before)) text .output)
-      → (convertedNumber r ≡ s .answer) × (convertedTotals r ≡ some (totalsBy s)) → ConvertedAs (textOf direction policy p (limit (length before)) text) r before after
-  unfolding textOf acceptedText summary
-  converted-accepted s r before after z e f w =
+  pub converted-accepted : (whole made : Progress) (r : Converted) (before after : List ℕ) → textRefusal direction policy p (length text) ≡ 0
+      → whole ≡ summary (textFed direction policy p endless text) → made ≡ summary (textFed direction policy p (limit (length before)) text)
+      → after ≡ over before (textFed direction policy p (limit (length before)) text .output) → (convertedNumber r ≡ made .answer) × (convertedTotals r ≡ some (totalsBy whole made))
+      → ConvertedAs (textOf direction policy p text (length before)) r before after
+  unfolding textOf acceptedText summary textFed
+  converted-accepted whole made r before after z e m f w =
       let accepted : eqb (textRefusal direction policy p (length text)) 0 ≡ true = eq-eqb _ _ z in
-      rw accepted (record { number = w .0 ∙ ap (λ (x : Progress). x .answer) e; totals = w .1 ∙ ap (λ (x : Progress). some (totalsBy x)) e; lent = f })
+      rw accepted (record {
+        number = w .0 ∙ ap (λ (x : Progress). x .answer) m ∙ sym (answer-is (converterOf direction p policy) (length before) text);
+        totals = w .1 ∙ ap₂ (λ (x y : Progress). some (totalsBy x y)) e m;
+        lent = f;
+      })
 
   -- written is the output's length
-  pub written-is : (room : Room) → totalsOrNone (textOf direction policy p room text .totals) .written ≡ length (textOf direction policy p room text .output)
+  pub written-is : (room : ℕ) → totalsOrNone (textOf direction policy p text room .totals) .written ≡ length (textOf direction policy p text room .output)
   unfolding textOf acceptedText refusedText
-  written-is room = by-test (eqb (textRefusal direction policy p (length text)) 0)
+  written-is room = by-test (eqb (textRefusal direction policy p (length text)) 0) refl
     where
-      by-test : (t : Bool)
-          → totalsOrNone (pick t (acceptedText (textFed direction policy p room text)) (refusedText (textRefusal direction policy p (length text))) .totals) .written
-          ≡ length (pick t (acceptedText (textFed direction policy p room text)) (refusedText (textRefusal direction policy p (length text))) .output)
-      by-test true = refl
-      by-test false = refl
+      by-test : (t : Bool) → eqb (textRefusal direction policy p (length text)) 0 ≡ t
+          → totalsOrNone (textOf direction policy p text room .totals) .written ≡ length (textOf direction policy p text room .output)
+      by-test true e = rw e
+      by-test false e = rw e
 
 -- the filled part is what was written
 module _ (direction : Direction) (policy : Policy) (p : CodePage) (text : List ℕ) (before after : List ℕ) (r : Converted)
-    (done : ConvertedAs (textOf direction policy p (limit (length before)) text) r before after) (totals : Totals) (known : totals ≡ totalsOrNone (convertedTotals r)) where
+    (done : ConvertedAs (textOf direction policy p text (length before)) r before after) (totals : Totals) (known : totals ≡ totalsOrNone (convertedTotals r)) where
   abbrev given : Text
-  given = textOf direction policy p (limit (length before)) text
+  given = textOf direction policy p text (length before)
 
   totals-are : totals ≡ totalsOrNone (given .totals)
   totals-are = known ∙ ap totalsOrNone (done .totals)
 
   count-is : totals .written ≡ length (given .output)
-  count-is = ap (λ (x : Totals). x .written) totals-are ∙ written-is direction policy p text (limit (length before))
+  count-is = ap (λ (x : Totals). x .written) totals-are ∙ written-is direction policy p text (length before)
 
   front-is : take (totals .written) after ≡ given .output
   unfolding over
@@ -183,7 +215,7 @@ module _ (direction : Direction) (policy : Policy) (p : CodePage) (text : List �
   filled-count = count-is ∙ sym (ap length front-is)
 
   pub filled-as : (lent part : RefT (List ℕ)) (number : ℕ) → ptr part ≡ ptr lent → now part ≡ take (totals .written) after → number ≡ convertedNumber r
-      → FilledAs given lent part number (totals .flags) (totals .read)
+      → FilledAs given lent part number (totals .flags) (totals .read) (totals .need)
   filled-as lent part number place front n =
       record {
         front = place;
@@ -191,4 +223,11 @@ module _ (direction : Direction) (policy : Policy) (p : CodePage) (text : List �
         number = n ∙ done .number;
         flags = ap (λ (x : Totals). x .flags) totals-are;
         read = ap (λ (x : Totals). x .read) totals-are;
+        need = ap (λ (x : Totals). x .need) totals-are;
       }
+
+-- the numbers of a conversion that all codes fitted are the whole reading's
+pub whole-made : (v : Converter) (room : ℕ) (text : List ℕ) (made : Progress) → made ≡ summary (feedFrom v true (limit room) none text) → (made .answer ≡ 2 → ⊥)
+    → made ≡ summary (feedFrom v true endless none text)
+unfolding summary
+whole-made v room text made e n = e ∙ ap summary (fitted v room text (λ z. n (ap (λ (x : Progress). x .answer) e ∙ z)))

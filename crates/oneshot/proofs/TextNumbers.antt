@@ -1,4 +1,4 @@
--- Each number of counting and of the one-go call exactly in its case.
+-- Each number of the call on a whole text exactly in its case.
 use mathlib.Core.Bool.{Bool, true, false, true≢false, false≢true}
 use mathlib.Core.List.{List, [], _∷_}
 use mathlib.Core.Logic.{_↔_}
@@ -6,23 +6,24 @@ use mathlib.Core.Option.{Option, none, some}
 use mathlib.Core.Path.{_≡_, refl, sym, ap, _∙_}
 use Prim.Native.Nat.{ℕ, _<_, _≤_}
 use native.Mathlib.Omega.{arith}
-use lib.Dec.{leb, eqb}
+use lib.Dec.{leb, ltb, eqb}
 use lib.ListN.{length}
-use borrow.Author.Tests.{eqb-true, eqb-false, leb-true, leb-false, le-leb, lt-leb, eq-eqb, ne-eqb}
-use Rattle.codepage.specs.CodePage.{CodePage, GoodShape, firstFault, isGood}
+use borrow.Author.Tests.{eqb-true, eqb-false, leb-true, leb-false, le-leb, lt-leb, ltb-true, ltb-false, eq-eqb, ne-eqb}
+use Rattle.codepage.specs.CodePage.{CodePage, pick, GoodShape, firstFault, isGood}
 use Rattle.codepage.specs.Reading.{Code, codes}
 use Rattle.codepage.proofs.ReadingLaws.{none-waits}
 use Rattle.codepage.proofs.ShapeLaws.{shape-exact}
 use Rattle.engine.specs.declared.Direction.{Direction}
 use Rattle.engine.specs.declared.Policy.{Policy}
 use Rattle.engine.specs.Policies.{policyAllowed}
-use Rattle.engine.specs.Engine.{Converter, converter, converterOf, readerOf, Room, endless, fits, Fed, atEnd, takeCodes, feedFrom}
+use Rattle.engine.specs.Engine.{Converter, converter, converterOf, readerOf, limit, endless, Fed, atEnd, takeCodes, feedFrom}
 use Rattle.engine.proofs.AnswerLaws.{Goes, StopsAt, NoRoomAt, codes-exact, AnswerCases, answer-cases}
 use Rattle.engine.proofs.EngineLaws.{shape-from}
 use Rattle.convert.specs.Runs.{pieceLimit}
 use Rattle.convert.specs.Calls.{check}
 use Rattle.convert.proofs.RuleLaws.{Digits, digits-allowed}
-use Rattle.oneshot.specs.Texts.{textRefusal, Text, acceptedText, refusedText, textFed, textOf, countOf}
+use Rattle.oneshot.specs.Texts.{textRefusal, Text, answerOf, acceptedText, refusedText, textFed, textOf}
+use Rattle.oneshot.proofs.TextLaws.{never-full, answer-is}
 
 -- What the checks that pass say: 17, 10, 11.
 abbrev pub PolicyShape : Direction → Policy → CodePage → Type 0
@@ -38,11 +39,13 @@ pub record TextCases (direction : Direction) (policy : Policy) (p : CodePage) (c
   pub too-long : (number ≡ 11) ↔ (PolicyShape direction policy p × (pieceLimit < count))
   pub accepted : (number < 10) ↔ TextPasses direction policy p count
 
--- The numbers of such a call: 0 all codes are taken, 2 one of them does not fit, 3 one of them stops; never 1; 17, 10, 11.
-pub record TextNumbers (direction : Direction) (policy : Policy) (p : CodePage) (text : List ℕ) (room : Room) (t : Text) : Type 0 where
-  pub all-read : (t .number ≡ 0) ↔ (TextPasses direction policy p (length text) × Goes (converterOf direction p policy) room (codes (readerOf direction p) text))
-  pub full : (t .number ≡ 2) ↔ (TextPasses direction policy p (length text) × NoRoomAt (converterOf direction p policy) room (codes (readerOf direction p) text))
-  pub stopped : (t .number ≡ 3) ↔ (TextPasses direction policy p (length text) × StopsAt (converterOf direction p policy) room (codes (readerOf direction p) text))
+-- The numbers of the call: 0 all codes are taken, 2 one of them does not fit, 3 one of them stops; never 1; 17, 10, 11. And 2 said
+-- without the codes: the need of the whole reading is over the room.
+pub record TextNumbers (direction : Direction) (policy : Policy) (p : CodePage) (text : List ℕ) (room : ℕ) (t : Text) : Type 0 where
+  pub all-read : (t .number ≡ 0) ↔ (TextPasses direction policy p (length text) × Goes (converterOf direction p policy) (limit room) (codes (readerOf direction p) text))
+  pub full : (t .number ≡ 2) ↔ (TextPasses direction policy p (length text) × NoRoomAt (converterOf direction p policy) (limit room) (codes (readerOf direction p) text))
+  pub stopped : (t .number ≡ 3) ↔ (TextPasses direction policy p (length text) × StopsAt (converterOf direction p policy) (limit room) (codes (readerOf direction p) text))
+  pub over-room : (t .number ≡ 2) ↔ (TextPasses direction policy p (length text) × (room < length (textFed direction policy p endless text .output)))
   pub never-waits : t .number ≡ 1 → ⊥
   pub refused : TextCases direction policy p (length text) (t .number)
 
@@ -102,7 +105,7 @@ module _ (direction : Direction) (policy : Policy) (p : CodePage) where
   unfolding textRefusal
   accepted-zero count h = known-by (policyAllowed direction policy) (isGood (firstFault p)) (leb count pieceLimit) h
 
-module _ (direction : Direction) (policy : Policy) (p : CodePage) (text : List ℕ) (room : Room) where
+module _ (direction : Direction) (policy : Policy) (p : CodePage) (text : List ℕ) (room : ℕ) where
   abbrev v : Converter
   v = converterOf direction p policy
 
@@ -110,29 +113,43 @@ module _ (direction : Direction) (policy : Policy) (p : CodePage) (text : List �
   ks = codes (readerOf direction p) text
 
   abbrev given : Text
-  given = textOf direction policy p room text
+  given = textOf direction policy p text room
 
   abbrev refusedWith : ℕ
   refusedWith = textRefusal direction policy p (length text)
 
-  fed-codes : textFed direction policy p room text ≡ takeCodes v room ks none
-  unfolding textFed feedFrom codes converter
-  fed-codes = ap (takeCodes v room ks) (none-waits (readerOf direction p) none text)
+  fed-codes : feedFrom v true (limit room) none text ≡ takeCodes v (limit room) ks none
+  unfolding feedFrom codes converter
+  fed-codes = ap (takeCodes v (limit room) ks) (none-waits (readerOf direction p) none text)
 
-  cases : AnswerCases v room ks none (takeCodes v room ks none .answer)
-  cases = answer-cases v room ks none _ (codes-exact v room ks none)
+  cases : AnswerCases v (limit room) ks none (takeCodes v (limit room) ks none .answer)
+  cases = answer-cases v (limit room) ks none _ (codes-exact v (limit room) ks none)
 
-  accepted-is : refusedWith ≡ 0 → given .number ≡ takeCodes v room ks none .answer
+  accepted-is : refusedWith ≡ 0 → given .number ≡ takeCodes v (limit room) ks none .answer
+  unfolding textOf acceptedText textFed
+  accepted-is e = rw (eq-eqb refusedWith 0 e) (answer-is v room text ∙ ap (λ (f : Fed). f .answer) fed-codes)
+
+  -- by the need: 2 or another number
+  by-need : refusedWith ≡ 0 → given .number ≡ answerOf (textFed direction policy p endless text) room
   unfolding textOf acceptedText
-  accepted-is e = rw (eq-eqb refusedWith 0 e) (ap (λ (f : Fed). f .answer) fed-codes)
+  by-need e = rw (eq-eqb refusedWith 0 e)
+
+  need-over : refusedWith ≡ 0 → (given .number ≡ 2) ↔ (room < length (textFed direction policy p endless text .output))
+  unfolding answerOf textFed
+  need-over e = by-room (ltb room (length (textFed direction policy p endless text .output))) refl
+    where
+      by-room : (t : Bool) → ltb room (length (textFed direction policy p endless text .output)) ≡ t → (given .number ≡ 2) ↔ (room < length (textFed direction policy p endless text .output))
+      by-room true q = (λ z. ltb-true _ _ q, λ h. by-need e ∙ ap (λ (b : Bool). pick b 2 (textFed direction policy p endless text .answer)) q)
+      by-room false q =
+          let whole = by-need e ∙ ap (λ (b : Bool). pick b 2 (textFed direction policy p endless text .answer)) q in
+          (λ z. absurd (never-full v true none text (sym whole ∙ z)), λ h. absurd (omega (arith, ltb-false room (length (textFed direction policy p endless text .output)) q)))
 
   refused-is : (refusedWith ≡ 0 → ⊥) → given .number ≡ refusedWith
   unfolding textOf refusedText
   refused-is e = rw (ne-eqb refusedWith 0 e)
 
   low : refusedWith ≡ 0 → given .number ≤ 3
-  unfolding textFed
-  low e = omega (arith, accepted-is e, ap (λ (f : Fed). f .answer) fed-codes, shape-from v true room none text tt .known)
+  low e = omega (arith, accepted-is e, ap (λ (f : Fed). f .answer) fed-codes, shape-from v true (limit room) none text tt .known)
 
   same : (k : ℕ) → 10 ≤ k → (given .number ≡ k) ↔ (refusedWith ≡ k)
   same k h = by-test (eqb refusedWith 0) refl
@@ -154,10 +171,10 @@ module _ (direction : Direction) (policy : Policy) (p : CodePage) (text : List �
   zero-of : TextPasses direction policy p (length text) → refusedWith ≡ 0
   zero-of h = accepted-zero direction policy p (length text) (text-refusals direction policy p (length text) .accepted .1 h)
 
-  answer-of : (k : ℕ) → k < 10 → given .number ≡ k → takeCodes v room ks none .answer ≡ k
+  answer-of : (k : ℕ) → k < 10 → given .number ≡ k → takeCodes v (limit room) ks none .answer ≡ k
   answer-of k h e = sym (accepted-is (zero-of (passes (omega arith)))) ∙ e
 
-  -- EACH NUMBER EXACTLY IN ITS CASE, with any room (the one-go call) and with room that never ends (counting).
+  -- EACH NUMBER EXACTLY IN ITS CASE, with any room, also with none (counting).
   pub text-numbers : TextNumbers direction policy p text room given
   text-numbers =
       let r = text-refusals direction policy p (length text) in
@@ -165,6 +182,7 @@ module _ (direction : Direction) (policy : Policy) (p : CodePage) (text : List �
         all-read = (λ e. (passes (omega arith), cases .all-read .0 (answer-of 0 (omega arith) e) .0), λ h. accepted-is (zero-of (h .0)) ∙ cases .all-read .1 (h .1, refl));
         full = (λ e. (passes (omega arith), cases .full .0 (answer-of 2 (omega arith) e)), λ h. accepted-is (zero-of (h .0)) ∙ cases .full .1 (h .1));
         stopped = (λ e. (passes (omega arith), cases .stopped .0 (answer-of 3 (omega arith) e)), λ h. accepted-is (zero-of (h .0)) ∙ cases .stopped .1 (h .1));
+        over-room = (λ e. let h = passes (omega arith) in (h, need-over (zero-of h) .0 e), λ h. need-over (zero-of (h .0)) .1 (h .1));
         never-waits = λ e. let (g, (c, w)) = cases .waits .0 (answer-of 1 (omega arith) e) in let z : _≡_ {A = ℕ} 0 1 = cc in omega arith;
         refused =
             record {
@@ -174,8 +192,3 @@ module _ (direction : Direction) (policy : Policy) (p : CodePage) (text : List �
               accepted = (passes, λ h. omega (arith, low (zero-of h)));
             };
       }
-
--- COUNTING never answers 2: there is always room.
-pub counting-never-full : (direction : Direction) (policy : Policy) (p : CodePage) (text : List ℕ) → countOf direction policy p text .number ≡ 2 → ⊥
-unfolding fits
-counting-never-full direction policy p text e = true≢false (text-numbers direction policy p text endless .full .0 e .1 .large)

@@ -1,34 +1,49 @@
--- The one-go call is one call marked last on a fresh run; counting is the whole reading; with room for all they are one.
+-- What was written and read is that of one call marked last on a fresh run; need and flags are the whole reading's; with room for
+-- all they agree.
 use mathlib.Core.Bool.{Bool, true, false, true≢false}
 use mathlib.Core.List.{List, [], _∷_}
 use mathlib.Core.Option.{Option, none, some}
-use mathlib.Core.Path.{_≡_, refl, sym, ap}
+use mathlib.Core.Path.{_≡_, refl, sym, ap, _∙_}
 use Prim.Native.Nat.{ℕ, _-_, _≤_}
 use native.Mathlib.Omega.{arith}
-use lib.Dec.{leb, eqb}
-use lib.ListN.{length, length-append}
+use lib.Dec.{ltb, eqb}
+use lib.ListN.{length}
 use lib.Bits.{or-zero-l}
-use borrow.Author.Tests.{eq-eqb, ne-eqb, le-leb}
-use Rattle.codepage.specs.CodePage.{CodePage}
+use borrow.Author.Tests.{eq-eqb, ne-eqb, le-ltb}
+use Rattle.codepage.specs.CodePage.{CodePage, pick}
 use Rattle.engine.specs.declared.Direction.{Direction}
 use Rattle.engine.specs.declared.Policy.{Policy}
-use Rattle.engine.specs.Engine.{Effect, Converter, limit, endless, fits, less, Fed, after, takeWhen, takeCode, takeCodes, feedFrom, feed, whole}
-use Rattle.codepage.specs.Reading.{Code, sizeOf, callCodes, waitingUnit}
+use Rattle.engine.specs.Engine.{limit, endless, Fed, feedFrom, feed, whole}
 use Rattle.convert.specs.Runs.{fresh, startOf}
 use Rattle.convert.specs.Calls.{refusal, Called, readOf, runAfter, fedBy, acceptedCall, runCall}
 use Rattle.engine.specs.Engine.{converterOf, readerOf, defaultOf}
-use Rattle.oneshot.specs.Texts.{textRefusal, Text, acceptedText, textFed, textOf, convertOf, countOf}
+use Rattle.oneshot.specs.declared.Totals.{Totals}
+use Rattle.oneshot.specs.Texts.{textRefusal, Text, answerOf, acceptedText, textFed, textOf, totalsOrNone}
 use Rattle.engine.proofs.EngineLaws.{uncut, shape-from}
 use Rattle.engine.proofs.CodeLaws.{whole-is-feed}
 use Rattle.convert.proofs.RuleLaws.{rules-exact}
 use Rattle.convert.proofs.RefusalLaws.{accepted-of}
 use Rattle.convert.proofs.RunLaws.{start-kept}
-use Rattle.oneshot.proofs.TextLaws.{TextAccepted, text-accepted}
+use Rattle.oneshot.proofs.TextLaws.{TextAccepted, text-accepted, ample, answer-is}
 
--- ---- the one-go call and one call marked last
--- what a run call gives, as the one-go call answers it
-abbrev pub answeredBy : Called → Text
-answeredBy c = record { number = c .number; totals = some (record { flags = c .run .flags; read = c .read; written = length (c .output) }); output = c .output }
+-- ---- one call marked last
+-- what the call on a text has of a run call: number, read, written and what was written
+pub record AsCall (t : Text) (c : Called) : Type 0 where
+  pub number : t .number ≡ c .number
+  pub read : totalsOrNone (t .totals) .read ≡ c .read
+  pub written : totalsOrNone (t .totals) .written ≡ length (c .output)
+  pub output : t .output ≡ c .output
+
+-- what it has of the whole reading: need and flags
+pub record AsWhole (t : Text) (f : Fed) : Type 0 where
+  pub need : totalsOrNone (t .totals) .need ≡ length (f .output)
+  pub flags : totalsOrNone (t .totals) .flags ≡ f .flags
+
+-- all of a run call: its flags too, and a need that was written
+pub record AllAsCall (t : Text) (c : Called) : Type 0 where
+  pub as-call : AsCall t c
+  pub flags : totalsOrNone (t .totals) .flags ≡ c .run .flags
+  pub need : totalsOrNone (t .totals) .need ≡ length (c .output)
 
 module _ (direction : Direction) (policy : Policy) (p : CodePage) (text : List ℕ) (room : ℕ) (ok : textRefusal direction policy p (length text) ≡ 0) where
   facts : TextAccepted direction policy p (length text)
@@ -48,50 +63,50 @@ module _ (direction : Direction) (policy : Policy) (p : CodePage) (text : List �
   unfolding textFed
   not-waiting e = true≢false (shape-from (converterOf direction p policy) true (limit room) none text tt .holds e .2)
 
-  text-as-call : acceptedText (textFed direction policy p (limit room) text) ≡ answeredBy (acceptedCall (fresh direction (p .page) policy) text true (textFed direction policy p (limit room) text))
-  unfolding acceptedText acceptedCall runAfter readOf
-  text-as-call =
-      let f = textFed direction policy p (limit room) text in
+  -- the call that is meant
+  abbrev called : Called
+  called = runCall direction (fresh direction (p .page) policy) p text true room
+
+  called-is : called ≡ acceptedCall (fresh direction (p .page) policy) text true (textFed direction policy p (limit room) text)
+  unfolding runCall fedBy textFed
+  called-is = rw (eq-eqb (refusal direction (fresh direction (p .page) policy) p (length text)) 0 call-accepted)
+
+  text-is : textOf direction policy p text room ≡ acceptedText (textFed direction policy p endless text) (textFed direction policy p (limit room) text) room
+  unfolding textOf
+  text-is = rw (eq-eqb (textRefusal direction policy p (length text)) 0 ok)
+
+  as-accepted : AsCall (acceptedText (textFed direction policy p endless text) (textFed direction policy p (limit room) text) room)
+      (acceptedCall (fresh direction (p .page) policy) text true (textFed direction policy p (limit room) text))
+  unfolding acceptedText acceptedCall runAfter readOf textFed
+  as-accepted =
+      let f = feedFrom (converterOf direction p policy) true (limit room) none text in
       let used : f .used - 0 ≡ f .used = omega arith in
-      rw (ne-eqb (f .answer) 1 not-waiting, used, or-zero-l)
+      record { number = answer-is (converterOf direction p policy) room text; read = rw (ne-eqb (f .answer) 1 not-waiting, used); written = refl; output = refl }
 
-  -- THE ONE-GO CALL answers as one call marked last on a fresh run of the set's page.
-  pub one-go-is-call : convertOf direction policy p text room ≡ answeredBy (runCall direction (fresh direction (p .page) policy) p text true room)
-  unfolding textOf runCall fedBy textFed
-  one-go-is-call = rw (eq-eqb (textRefusal direction policy p (length text)) 0 ok, eq-eqb (refusal direction (fresh direction (p .page) policy) p (length text)) 0 call-accepted) text-as-call
+  -- NUMBER, READ, WRITTEN AND OUTPUT are those of one call marked last on a fresh run of the set's page.
+  pub one-go-is-call : AsCall (textOf direction policy p text room) called
+  one-go-is-call = rw (text-is, called-is) as-accepted
 
-  -- COUNTING gives the numbers of the whole reading.
-  pub count-is-whole : countOf direction policy p text ≡ acceptedText (whole (readerOf direction p) policy (defaultOf direction p) text)
-  unfolding textOf textFed uncut feed
-  count-is-whole =
-      rw (eq-eqb (textRefusal direction policy p (length text)) 0 ok) (ap acceptedText (sym (whole-is-feed (readerOf direction p) policy (defaultOf direction p) text)))
+  -- NEED AND FLAGS are those of the whole reading, whatever the room.
+  pub need-is-whole : AsWhole (textOf direction policy p text room) (whole (readerOf direction p) policy (defaultOf direction p) text)
+  unfolding acceptedText textFed uncut feed
+  need-is-whole = rw (text-is, whole-is-feed (readerOf direction p) policy (defaultOf direction p) text) (record { need = refl; flags = refl })
 
--- ---- with room for all
-ample-take : (s : Bool) (n room : ℕ) (k : Effect) (f g : Fed) → length (takeWhen s true n k g .output) ≤ room → (length (g .output) ≤ room - length (k .writes) → f ≡ g) → takeWhen s (leb (length (k .writes)) room) n k f ≡ takeWhen s true n k g
-unfolding takeWhen after
-ample-take true n room k f g h e = refl
-ample-take false n room k f g h e =
-    let whole = length-append (k .writes) (g .output) in
-    rw (le-leb (length (k .writes)) room (omega arith)) (ap (after n (k .writes) (k .flag)) (e (omega arith)))
+  module _ (fits : length (feedFrom (converterOf direction p policy) true endless none text .output) ≤ room) where
+    flags-agree : totalsOrNone (acceptedText (textFed direction policy p endless text) (textFed direction policy p (limit room) text) room .totals) .flags
+        ≡ acceptedCall (fresh direction (p .page) policy) text true (textFed direction policy p (limit room) text) .run .flags
+    unfolding acceptedText acceptedCall runAfter textFed
+    flags-agree = rw or-zero-l (ap (λ (f : Fed). f .flags) (sym (ample (converterOf direction p policy) true room none text fits)))
 
-ample-codes : (v : Converter) (room : ℕ) (ks : List Code) (waiting : Option ℕ) → length (takeCodes v endless ks waiting .output) ≤ room → takeCodes v (limit room) ks waiting ≡ takeCodes v endless ks waiting
-unfolding takeCodes takeCode fits less
-ample-codes v room [] waiting h = refl
-ample-codes v room (k ∷ ks) waiting h = ample-take (v .does k .stops) (sizeOf k) room (v .does k) _ _ h (ample-codes v (room - length (v .does k .writes)) ks waiting)
+    need-agrees : totalsOrNone (acceptedText (textFed direction policy p endless text) (textFed direction policy p (limit room) text) room .totals) .need
+        ≡ length (acceptedCall (fresh direction (p .page) policy) text true (textFed direction policy p (limit room) text) .output)
+    unfolding acceptedText acceptedCall textFed
+    need-agrees = ap (λ (f : Fed). length (f .output)) (sym (ample (converterOf direction p policy) true room none text fits))
 
-pub ample : (v : Converter) (last : Bool) (room : ℕ) (p : Option ℕ) (l : List ℕ) → length (feedFrom v last endless p l .output) ≤ room → feedFrom v last (limit room) p l ≡ feedFrom v last endless p l
-unfolding feedFrom
-ample v last room p l h = ample-codes v room (callCodes (v .reader) last p l) (waitingUnit (v .reader) last p l) h
-
--- WITH ROOM FOR ALL the one-go call gives what counting gives, and writes it.
-pub one-go-is-count : (direction : Direction) (policy : Policy) (p : CodePage) (text : List ℕ) (room : ℕ) → length (countOf direction policy p text .output) ≤ room
-    → convertOf direction policy p text room ≡ countOf direction policy p text
-unfolding textOf acceptedText textFed
-one-go-is-count direction policy p text room h = by-test (eqb (textRefusal direction policy p (length text)) 0) refl
-  where
-    by-test : (t : Bool) → eqb (textRefusal direction policy p (length text)) 0 ≡ t → convertOf direction policy p text room ≡ countOf direction policy p text
-    by-test true e = rw e (ap acceptedText (ample (converterOf direction p policy) true room none text (omega (arith, ap (λ (x : Text). length (x .output)) (shown e)))))
-      where
-        shown : eqb (textRefusal direction policy p (length text)) 0 ≡ true → countOf direction policy p text ≡ acceptedText (feedFrom (converterOf direction p policy) true endless none text)
-        shown q = rw q
-    by-test false e = rw e
+  -- WITH ROOM FOR ALL the call agrees with that call in everything, and what it needs is written.
+  pub room-for-all : length (whole (readerOf direction p) policy (defaultOf direction p) text .output) ≤ room → AllAsCall (textOf direction policy p text room) called
+  unfolding uncut feed
+  room-for-all h =
+      let fits : length (feedFrom (converterOf direction p policy) true endless none text .output) ≤ room =
+      omega (arith, ap (λ (f : Fed). length (f .output)) (whole-is-feed (readerOf direction p) policy (defaultOf direction p) text)) in
+      record { as-call = one-go-is-call; flags = rw (text-is, called-is) (flags-agree fits); need = rw (text-is, called-is) (need-agrees fits) }

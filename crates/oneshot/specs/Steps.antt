@@ -2,6 +2,6 @@
 use Rattle.engine.specs.declared.progress.Progress.{Progress}
 use Rattle.oneshot.specs.declared.Totals.{Totals}
 
--- what a text gave, from the numbers of its loop
-abbrev pub totalsBy : Progress → Totals
-totalsBy s = record { flags = s .flags; read = s .used; written = s .written }
+-- what a text gave, from the numbers of the whole reading and of the conversion
+abbrev pub totalsBy : (whole made : Progress) → Totals
+totalsBy whole made = record { flags = whole .flags; read = made .used; need = whole .written; written = made .written }

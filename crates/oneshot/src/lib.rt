@@ -1,12 +1,18 @@
-// Counting and the one-go call: a text as a whole. (Document 01, "What the box does" and "One call of a run".)
+// A text as a whole, converted in one call; with empty room it is only counted. (Document 02, CR 10; document 01, "What the box
+// does" and "One call of a run".)
 ghost use mathlib.Core.Path.{_≡_};
 ghost use mathlib.Core.Option.{none, some};
 ghost use mathlib.Core.Logic.{_⊎_};
-ghost use Prim.Native.Nat.{ℕ, _≤_};
+ghost use mathlib.Core.Bool.{true};
+ghost use Prim.Native.Nat.{ℕ, _+_, _*_, _≤_};
 ghost use lib.ListN.{length};
-ghost use Rattle.codepage.specs.CodePage.{codePage};
+ghost use Rattle.codepage.specs.CodePage.{codePage, entry};
+ghost use Rattle.codepage.specs.Reading.{decoder, encoder};
 ghost use Rattle.engine.specs.declared.Direction.the-variants.{Decoding, Encoding};
-ghost use Rattle.oneshot.specs.Texts.{textRefusal, countOf, convertOf, countedNumber, countedTotals, convertedNumber, convertedTotals, totalsOrNone, CountedAs, ConvertedAs, FilledAs};
+ghost use Rattle.engine.specs.Policies.{policyAllowed};
+ghost use Rattle.engine.specs.Engine.{converter, limit, endless, feedFrom};
+ghost use Rattle.engine.specs.Steps.{summary, DecodeSizes};
+ghost use Rattle.oneshot.specs.Texts.{textRefusal, textOf, convertedNumber, convertedTotals, totalsOrNone, ConvertedAs, FilledAs};
 ghost use Rattle.oneshot.specs.Steps.{totalsBy};
 use codepage::Numbers;
 use convert::Run;
@@ -18,32 +24,19 @@ use loops::counter;
 use loops::decoder;
 use loops::encoder;
 
-// What a text gave as a whole: the flags it set, the units read, and the units of output.
+// What a text gave: the flags of its whole reading, the units read, the units of output that it needs, and those written.
 pub struct Totals {
     pub flags: u8,
     pub read: usize,
+    pub need: usize,
     pub written: usize,
 }
 
-// What counting answers.
-pub enum Counted {
-    // 0: all read.
-    All(Totals),
-    // 3: stopped by policy digit 0.
-    Stopped(Totals),
-    // 17: a policy digit is not allowed.
-    BadPolicy,
-    // 10: the shape of the tables is not good.
-    BadShape,
-    // 11: the text is over the limit.
-    TooLong,
-}
-
-// What the one-go call answers.
+// What the call answers.
 pub enum Converted {
     // 0: all read.
     All(Totals),
-    // 2: the next code does not fit.
+    // 2: the need is over the room.
     OutputFull(Totals),
     // 3: stopped by policy digit 0.
     Stopped(Totals),
@@ -81,17 +74,6 @@ fn text_refusal(
     0
 }
 
-fn refused_count(number: u8) -> Counted
-    requires { ⌜ ((number ≡ 10) ⊎ ((number ≡ 11) ⊎ (number ≡ 17))) ⌝ }
-    ensures { λ r. ⌜ (countedNumber r ≡ number) × (countedTotals r ≡ none) ⌝ }
-{
-    match number {
-        10 => Counted::BadShape,
-        11 => Counted::TooLong,
-        _ => Counted::BadPolicy,
-    }
-}
-
 fn refused_conversion(number: u8) -> Converted
     requires { ⌜ ((number ≡ 10) ⊎ ((number ≡ 11) ⊎ (number ≡ 17))) ⌝ }
     ensures { λ r. ⌜ (convertedNumber r ≡ number) × (convertedTotals r ≡ none) ⌝ }
@@ -103,54 +85,30 @@ fn refused_conversion(number: u8) -> Converted
     }
 }
 
-fn totals_by(s: Progress) -> Totals
-    ensures { λ r. ⌜ r ≡ totalsBy s ⌝ }
+fn totals_by(whole: Progress, made: Progress) -> Totals
+    ensures { λ r. ⌜ r ≡ totalsBy whole made ⌝ }
 {
     Totals {
-        flags: s.flags,
-        read: s.used,
-        written: s.written,
+        flags: whole.flags,
+        read: made.used,
+        need: whole.written,
+        written: made.written,
     }
-}
-
-// A count that came to 0 or 3.
-fn accepted_count(s: Progress) -> Counted
-    requires { ⌜ ((s .answer ≡ 0) ⊎ (s .answer ≡ 3)) ⌝ }
-    ensures { λ r. ⌜ (countedNumber r ≡ s .answer) × (countedTotals r ≡ some (totalsBy s)) ⌝ }
-{
-    let totals = totals_by(s);
-    if s.answer == 0 {
-        return Counted::All(totals);
-    }
-    Counted::Stopped(totals)
 }
 
 // A conversion that came to 0, 2 or 3.
-fn accepted_conversion(s: Progress) -> Converted
-    requires { ⌜ ((s .answer ≡ 0) ⊎ ((s .answer ≡ 2) ⊎ (s .answer ≡ 3))) ⌝ }
-    ensures { λ r. ⌜ (convertedNumber r ≡ s .answer) × (convertedTotals r ≡ some (totalsBy s)) ⌝ }
+fn accepted_conversion(whole: Progress, made: Progress) -> Converted
+    requires { ⌜ ((made .answer ≡ 0) ⊎ ((made .answer ≡ 2) ⊎ (made .answer ≡ 3))) ⌝ }
+    ensures { λ r. ⌜ (convertedNumber r ≡ made .answer) × (convertedTotals r ≡ some (totalsBy whole made)) ⌝ }
 {
-    let totals = totals_by(s);
-    if s.answer == 0 {
+    let totals = totals_by(whole, made);
+    if made.answer == 0 {
         return Converted::All(totals);
     }
-    if s.answer == 2 {
+    if made.answer == 2 {
         return Converted::OutputFull(totals);
     }
     Converted::Stopped(totals)
-}
-
-fn number_of(answer: Converted) -> u8
-    ensures { λ r. ⌜ r ≡ convertedNumber answer ⌝ }
-{
-    match answer {
-        Converted::All(_) => 0,
-        Converted::OutputFull(_) => 2,
-        Converted::Stopped(_) => 3,
-        Converted::BadPolicy => 17,
-        Converted::BadShape => 10,
-        Converted::TooLong => 11,
-    }
 }
 
 fn no_totals() -> Totals
@@ -159,86 +117,81 @@ fn no_totals() -> Totals
     Totals {
         flags: 0,
         read: 0,
+        need: 0,
         written: 0,
     }
 }
 
-fn totals_of(answer: Converted) -> Totals
-    ensures { λ r. ⌜ r ≡ totalsOrNone (convertedTotals answer) ⌝ }
-{
-    match answer {
-        Converted::All(totals) => totals,
-        Converted::OutputFull(totals) => totals,
-        Converted::Stopped(totals) => totals,
-        Converted::BadPolicy => no_totals(),
-        Converted::BadShape => no_totals(),
-        Converted::TooLong => no_totals(),
+impl Converted {
+    // The number that documents 01 and 02 give the answer.
+    pub fn number(self) -> u8
+        ensures { λ r. ⌜ r ≡ convertedNumber self ⌝ }
+    {
+        match self {
+            Converted::All(_) => 0,
+            Converted::OutputFull(_) => 2,
+            Converted::Stopped(_) => 3,
+            Converted::BadPolicy => 17,
+            Converted::BadShape => 10,
+            Converted::TooLong => 11,
+        }
+    }
+
+    // Flags, read, need and written; of a refusal zeros.
+    pub fn totals(self) -> Totals
+        ensures { λ r. ⌜ r ≡ totalsOrNone (convertedTotals self) ⌝ }
+    {
+        match self {
+            Converted::All(totals) => totals,
+            Converted::OutputFull(totals) => totals,
+            Converted::Stopped(totals) => totals,
+            Converted::BadPolicy => no_totals(),
+            Converted::BadShape => no_totals(),
+            Converted::TooLong => no_totals(),
+        }
     }
 }
 
-// Counts the units that a byte text needs.
-pub fn count_units(
+// The whole reading of a byte text, from its conversion: the same, unless room ended.
+fn whole_decoded(
     policy: Policy,
-    numbers: Numbers,
+    default: u16,
     classes: &[u8],
     singles: &[u16],
     pairs: &[u16],
-    index: &[u8],
-    blocks: &[u16],
     text: &[u8],
-) -> Counted
-    ensures { λ r. ⌜ CountedAs (countOf Decoding policy (codePage numbers (now (classes .entry)) (now (singles .entry)) (now (pairs .entry)) (now (index .entry)) (now (blocks .entry))) (now (text .entry))) r ⌝ }
+    made: Progress,
+) -> Progress
+    requires { ⌜ DecodeSizes (now classes) (now singles) (now pairs) ⌝ }
+    ensures { λ r. ⌜ ((room : ℕ) → made ≡ summary (feedFrom (converter (decoder (now (classes .entry)) (now (singles .entry)) (now (pairs .entry))) policy default) true (limit room) none (now (text .entry))) → r ≡ summary (feedFrom (converter (decoder (now (classes .entry)) (now (singles .entry)) (now (pairs .entry))) policy default) true endless none (now (text .entry)))) ⌝ }
 {
-    let number = text_refusal(
-        Direction::Decoding,
-        policy,
-        numbers,
-        classes,
-        singles,
-        pairs,
-        index,
-        blocks,
-        text.len(),
-    );
-    if number != 0 {
-        return refused_count(number);
+    if made.answer != 2 {
+        return made;
     }
-    let s = counter::count_decoded(policy, numbers.default_unit, classes, singles, pairs, text);
-    accepted_count(s)
+    counter::count_decoded(policy, default, classes, singles, pairs, text)
 }
 
-// Counts the bytes that a unit text needs.
-pub fn count_bytes(
+// The same of a unit text.
+fn whole_encoded(
     policy: Policy,
-    numbers: Numbers,
-    classes: &[u8],
-    singles: &[u16],
-    pairs: &[u16],
+    default: u8,
     index: &[u8],
     blocks: &[u16],
     text: &[u16],
-) -> Counted
-    ensures { λ r. ⌜ CountedAs (countOf Encoding policy (codePage numbers (now (classes .entry)) (now (singles .entry)) (now (pairs .entry)) (now (index .entry)) (now (blocks .entry))) (now (text .entry))) r ⌝ }
+    made: Progress,
+) -> Progress
+    requires { ⌜ policyAllowed Encoding policy ≡ true ⌝ }
+    requires { ⌜ length (now index) ≡ 256 ⌝ }
+    requires { ⌜ ((high : ℕ) → 256 * entry (now index) high + 256 ≤ length (now blocks)) ⌝ }
+    ensures { λ r. ⌜ ((room : ℕ) → made ≡ summary (feedFrom (converter (encoder (now (index .entry)) (now (blocks .entry))) policy default) true (limit room) none (now (text .entry))) → r ≡ summary (feedFrom (converter (encoder (now (index .entry)) (now (blocks .entry))) policy default) true endless none (now (text .entry)))) ⌝ }
 {
-    let number = text_refusal(
-        Direction::Encoding,
-        policy,
-        numbers,
-        classes,
-        singles,
-        pairs,
-        index,
-        blocks,
-        text.len(),
-    );
-    if number != 0 {
-        return refused_count(number);
+    if made.answer != 2 {
+        return made;
     }
-    let s = counter::count_encoded(policy, numbers.default_byte, index, blocks, text);
-    accepted_count(s)
+    counter::count_encoded(policy, default, index, blocks, text)
 }
 
-// Decodes a byte text in one go.
+// Decodes a byte text, and says what all of it needs; with empty room it only counts.
 pub fn decode_text(
     policy: Policy,
     numbers: Numbers,
@@ -250,7 +203,7 @@ pub fn decode_text(
     text: &[u8],
     out: &mut [u16],
 ) -> Converted
-    ensures { λ r. ⌜ ConvertedAs (convertOf Decoding policy (codePage numbers (now (classes .entry)) (now (singles .entry)) (now (pairs .entry)) (now (index .entry)) (now (blocks .entry))) (now (text .entry)) (length (now (out .entry)))) r (now (out .entry)) (now (out .exit)) ⌝ }
+    ensures { λ r. ⌜ ConvertedAs (textOf Decoding policy (codePage numbers (now (classes .entry)) (now (singles .entry)) (now (pairs .entry)) (now (index .entry)) (now (blocks .entry))) (now (text .entry)) (length (now (out .entry)))) r (now (out .entry)) (now (out .exit)) ⌝ }
 {
     let number = text_refusal(
         Direction::Decoding,
@@ -266,7 +219,7 @@ pub fn decode_text(
     if number != 0 {
         return refused_conversion(number);
     }
-    let s = decoder::decode_loop(
+    let made = decoder::decode_loop(
         policy,
         numbers.default_unit,
         classes,
@@ -278,10 +231,19 @@ pub fn decode_text(
         true,
         out,
     );
-    accepted_conversion(s)
+    let whole = whole_decoded(
+        policy,
+        numbers.default_unit,
+        classes,
+        singles,
+        pairs,
+        text,
+        made,
+    );
+    accepted_conversion(whole, made)
 }
 
-// Encodes a unit text in one go.
+// Encodes a unit text, and says what all of it needs; with empty room it only counts.
 pub fn encode_text(
     policy: Policy,
     numbers: Numbers,
@@ -293,7 +255,7 @@ pub fn encode_text(
     text: &[u16],
     out: &mut [u8],
 ) -> Converted
-    ensures { λ r. ⌜ ConvertedAs (convertOf Encoding policy (codePage numbers (now (classes .entry)) (now (singles .entry)) (now (pairs .entry)) (now (index .entry)) (now (blocks .entry))) (now (text .entry)) (length (now (out .entry)))) r (now (out .entry)) (now (out .exit)) ⌝ }
+    ensures { λ r. ⌜ ConvertedAs (textOf Encoding policy (codePage numbers (now (classes .entry)) (now (singles .entry)) (now (pairs .entry)) (now (index .entry)) (now (blocks .entry))) (now (text .entry)) (length (now (out .entry)))) r (now (out .entry)) (now (out .exit)) ⌝ }
 {
     let number = text_refusal(
         Direction::Encoding,
@@ -309,7 +271,7 @@ pub fn encode_text(
     if number != 0 {
         return refused_conversion(number);
     }
-    let s = encoder::encode_loop(
+    let made = encoder::encode_loop(
         policy,
         numbers.default_byte,
         index,
@@ -320,11 +282,12 @@ pub fn encode_text(
         true,
         out,
     );
-    accepted_conversion(s)
+    let whole = whole_encoded(policy, numbers.default_byte, index, blocks, text, made);
+    accepted_conversion(whole, made)
 }
 
-// Decodes a byte text in one go and hands back the filled part of the output. The number, flags and units read are answers
-// too; of a refusal the part is empty and flags and read are 0.
+// Decodes a byte text as `decode_text` does and hands back the filled part of the output. The number, flags, units read and need
+// are answers too; of a refusal the part is empty, and flags, read and need are 0.
 pub fn decode_filled<'a>(
     policy: Policy,
     numbers: Numbers,
@@ -337,9 +300,10 @@ pub fn decode_filled<'a>(
     number: &mut u8,
     flags: &mut u8,
     read: &mut usize,
+    need: &mut usize,
     out: &'a mut [u16],
 ) -> &'a mut [u16]
-    ensures { λ r. ⌜ FilledAs (convertOf Decoding policy (codePage numbers (now (classes .entry)) (now (singles .entry)) (now (pairs .entry)) (now (index .entry)) (now (blocks .entry))) (now (text .entry)) (length (now (out .entry)))) (out .entry) r (now (number .exit)) (now (flags .exit)) (now (read .exit)) ⌝ }
+    ensures { λ r. ⌜ FilledAs (textOf Decoding policy (codePage numbers (now (classes .entry)) (now (singles .entry)) (now (pairs .entry)) (now (index .entry)) (now (blocks .entry))) (now (text .entry)) (length (now (out .entry)))) (out .entry) r (now (number .exit)) (now (flags .exit)) (now (read .exit)) (now (need .exit)) ⌝ }
 {
     let answer = decode_text(
         policy,
@@ -352,15 +316,16 @@ pub fn decode_filled<'a>(
         text,
         out,
     );
-    let totals = totals_of(answer);
-    *number = number_of(answer);
+    let totals = answer.totals();
+    *number = answer.number();
     *flags = totals.flags;
     *read = totals.read;
+    *need = totals.need;
     let units = totals.written;
     &mut out[..units]
 }
 
-// Encodes a unit text in one go and hands back the filled part of the output, as `decode_filled` does.
+// Encodes a unit text as `encode_text` does and hands back the filled part of the output, as `decode_filled` does.
 pub fn encode_filled<'a>(
     policy: Policy,
     numbers: Numbers,
@@ -373,9 +338,10 @@ pub fn encode_filled<'a>(
     number: &mut u8,
     flags: &mut u8,
     read: &mut usize,
+    need: &mut usize,
     out: &'a mut [u8],
 ) -> &'a mut [u8]
-    ensures { λ r. ⌜ FilledAs (convertOf Encoding policy (codePage numbers (now (classes .entry)) (now (singles .entry)) (now (pairs .entry)) (now (index .entry)) (now (blocks .entry))) (now (text .entry)) (length (now (out .entry)))) (out .entry) r (now (number .exit)) (now (flags .exit)) (now (read .exit)) ⌝ }
+    ensures { λ r. ⌜ FilledAs (textOf Encoding policy (codePage numbers (now (classes .entry)) (now (singles .entry)) (now (pairs .entry)) (now (index .entry)) (now (blocks .entry))) (now (text .entry)) (length (now (out .entry)))) (out .entry) r (now (number .exit)) (now (flags .exit)) (now (read .exit)) (now (need .exit)) ⌝ }
 {
     let answer = encode_text(
         policy,
@@ -388,10 +354,11 @@ pub fn encode_filled<'a>(
         text,
         out,
     );
-    let totals = totals_of(answer);
-    *number = number_of(answer);
+    let totals = answer.totals();
+    *number = answer.number();
     *flags = totals.flags;
     *read = totals.read;
+    *need = totals.need;
     let bytes = totals.written;
     &mut out[..bytes]
 }

@@ -17,7 +17,6 @@ pub enum Command {
     Encode,
     Save,
     Load,
-    Count,
     Convert,
     Hold,
     Held,
@@ -55,9 +54,6 @@ fn named_call(word: &[u8]) -> Command {
     }
     if words::is_word(word, b"save") {
         return Command::Save;
-    }
-    if words::is_word(word, b"count") {
-        return Command::Count;
     }
     if words::is_word(word, b"convert") {
         return Command::Convert;

@@ -19,21 +19,27 @@ refused-conversion-requires c κs = text-named Decoding (c .before .before .befo
 
 returns : tie.Need-returns
 returns c =
-    let entry = c .before .before .before .before .before .before .before .before .before .before in
-    converted-refused Decoding (entry .args .policy) _ (entry .args .text .now) _ _ _ (c .before .before .text-refusal .ensures) (c .before .if1 .taken) (c .refused-conversion .ensures)
+    let start = c .before .before .before .before .before .before .before .before .before .before in
+    converted-refused Decoding (start .args .policy) _ (start .args .text .now) _ _ _ (c .before .before .text-refusal .ensures) (c .before .if1 .taken) (c .refused-conversion .ensures)
 
 decode-loop-requires : tie.Need-decode-loop-requires
 decode-loop-requires c κs =
-    let entry = c .before .before .before .before .before .before .before .before .before .before in
-    let p : CodePage = codePage (entry .args .numbers) (entry .args .classes .now) (entry .args .singles .now) (entry .args .pairs .now) (entry .args .index .now) (entry .args .blocks .now) in
-    (decode-text-needs (entry .args .policy) p _ (text-accepted Decoding (entry .args .policy) p _ (sym (c .before .before .text-refusal .ensures) ∙ c .before .if1 .left)), λ e. absurd (false≢true e))
+    let start = c .before .before .before .before .before .before .before .before .before .before in
+    let p : CodePage = codePage (start .args .numbers) (start .args .classes .now) (start .args .singles .now) (start .args .pairs .now) (start .args .index .now) (start .args .blocks .now) in
+    (decode-text-needs (start .args .policy) p _ (text-accepted Decoding (start .args .policy) p _ (sym (c .before .before .text-refusal .ensures) ∙ c .before .if1 .left)), λ e. absurd (false≢true e))
+
+whole-decoded-requires : tie.Need-whole-decoded-requires
+whole-decoded-requires c κs =
+    let start = c .before .before .before .before .before .before .before .before .before .before .before .before .before in
+    let p : CodePage = codePage (start .args .numbers) (start .args .classes .now) (start .args .singles .now) (start .args .pairs .now) (start .args .index .now) (start .args .blocks .now) in
+    decode-text-needs (start .args .policy) p _ (text-accepted Decoding (start .args .policy) p _ (sym (c .before .before .before .before .before .text-refusal .ensures) ∙ c .before .before .before .before .if1 .left))
 
 accepted-conversion-requires : tie.Need-accepted-conversion-requires
 unfolding textFed
 accepted-conversion-requires c κs =
-    let entry = c .before .before .before .before .before .before .before .before .before .before .before .before .before in
-    let p : CodePage = codePage (entry .args .numbers) (entry .args .classes .now) (entry .args .singles .now) (entry .args .pairs .now) (entry .args .index .now) (entry .args .blocks .now) in
-    text-answer Decoding (entry .args .policy) p (limit (length (entry .args .out .now))) (entry .args .text .now) _ (c .before .before .decode-loop .ensures .0)
+    let start = c .before .before .before .before .before .before .before .before .before .before .before .before .before .before in
+    let p : CodePage = codePage (start .args .numbers) (start .args .classes .now) (start .args .singles .now) (start .args .pairs .now) (start .args .index .now) (start .args .blocks .now) in
+    text-answer Decoding (start .args .policy) p (limit (length (start .args .out .now))) (start .args .text .now) _ (c .before .before .before .decode-loop .ensures .0)
 
 same-length : tie.Need-same-length
 same-length c = search needs
@@ -41,12 +47,13 @@ same-length c = search needs
 returns-2 : tie.Need-returns-2
 unfolding textFed
 returns-2 c =
-    let at-decode-loop = c .before .before .before in
-    let at-if1 = at-decode-loop .before .before in
-    let at-text-refusal = at-if1 .before in
-    let entry = at-text-refusal .before .before .before .before .before .before .before .before in
-    let p : CodePage = codePage (entry .args .numbers) (entry .args .classes .now) (entry .args .singles .now) (entry .args .pairs .now) (entry .args .index .now) (entry .args .blocks .now) in
-    converted-accepted Decoding (entry .args .policy) p (entry .args .text .now) _ _ (entry .args .out .now) _ (sym (at-text-refusal .text-refusal .ensures) ∙ at-if1 .if1 .left) (at-decode-loop .decode-loop .ensures .0) (at-decode-loop .decode-loop .ensures .1) (c .accepted-conversion .ensures)
+    let at-loop = c .before .before .before .before in
+    let start = c .before .before .before .before .before .before .before .before .before .before .before .before .before .before .before in
+    let p : CodePage = codePage (start .args .numbers) (start .args .classes .now) (start .args .singles .now) (start .args .pairs .now) (start .args .index .now) (start .args .blocks .now) in
+    let accepted = sym (c .before .before .before .before .before .before .before .text-refusal .ensures) ∙ c .before .before .before .before .before .before .if1 .left in
+    let made = at-loop .decode-loop .ensures in
+    let whole = c .before .whole-decoded .ensures (length (start .args .out .now)) (made .0) in
+    converted-accepted Decoding (start .args .policy) p (start .args .text .now) _ _ _ (start .args .out .now) _ accepted whole (made .0) (made .1) (c .accepted-conversion .ensures)
 
 pub decode-text-spec : {M : Type 1} → statement M
 decode-text-spec =
@@ -56,6 +63,7 @@ decode-text-spec =
     refused-conversion-requires
     returns
     decode-loop-requires
+    whole-decoded-requires
     accepted-conversion-requires
     same-length
     returns-2)

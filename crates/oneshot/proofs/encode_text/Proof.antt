@@ -19,22 +19,28 @@ refused-conversion-requires c κs = text-named Encoding (c .before .before .befo
 
 returns : tie.Need-returns
 returns c =
-    let entry = c .before .before .before .before .before .before .before .before .before .before in
-    converted-refused Encoding (entry .args .policy) _ (entry .args .text .now) _ _ _ (c .before .before .text-refusal .ensures) (c .before .if1 .taken) (c .refused-conversion .ensures)
+    let start = c .before .before .before .before .before .before .before .before .before .before in
+    converted-refused Encoding (start .args .policy) _ (start .args .text .now) _ _ _ (c .before .before .text-refusal .ensures) (c .before .if1 .taken) (c .refused-conversion .ensures)
 
 encode-loop-requires : tie.Need-encode-loop-requires
 encode-loop-requires c κs =
-    let entry = c .before .before .before .before .before .before .before .before .before .before in
-    let p : CodePage = codePage (entry .args .numbers) (entry .args .classes .now) (entry .args .singles .now) (entry .args .pairs .now) (entry .args .index .now) (entry .args .blocks .now) in
-    let n = encode-text-needs (entry .args .policy) p _ (text-accepted Encoding (entry .args .policy) p _ (sym (c .before .before .text-refusal .ensures) ∙ c .before .if1 .left)) in
+    let start = c .before .before .before .before .before .before .before .before .before .before in
+    let p : CodePage = codePage (start .args .numbers) (start .args .classes .now) (start .args .singles .now) (start .args .pairs .now) (start .args .index .now) (start .args .blocks .now) in
+    let n = encode-text-needs (start .args .policy) p _ (text-accepted Encoding (start .args .policy) p _ (sym (c .before .before .text-refusal .ensures) ∙ c .before .if1 .left)) in
     (n .0, (n .1 .0, (n .1 .1, λ e. absurd (false≢true e))))
+
+whole-encoded-requires : tie.Need-whole-encoded-requires
+whole-encoded-requires c κs =
+    let start = c .before .before .before .before .before .before .before .before .before .before .before .before .before in
+    let p : CodePage = codePage (start .args .numbers) (start .args .classes .now) (start .args .singles .now) (start .args .pairs .now) (start .args .index .now) (start .args .blocks .now) in
+    encode-text-needs (start .args .policy) p _ (text-accepted Encoding (start .args .policy) p _ (sym (c .before .before .before .before .before .text-refusal .ensures) ∙ c .before .before .before .before .if1 .left))
 
 accepted-conversion-requires : tie.Need-accepted-conversion-requires
 unfolding textFed
 accepted-conversion-requires c κs =
-    let entry = c .before .before .before .before .before .before .before .before .before .before .before .before .before in
-    let p : CodePage = codePage (entry .args .numbers) (entry .args .classes .now) (entry .args .singles .now) (entry .args .pairs .now) (entry .args .index .now) (entry .args .blocks .now) in
-    text-answer Encoding (entry .args .policy) p (limit (length (entry .args .out .now))) (entry .args .text .now) _ (c .before .before .encode-loop .ensures .0)
+    let start = c .before .before .before .before .before .before .before .before .before .before .before .before .before .before in
+    let p : CodePage = codePage (start .args .numbers) (start .args .classes .now) (start .args .singles .now) (start .args .pairs .now) (start .args .index .now) (start .args .blocks .now) in
+    text-answer Encoding (start .args .policy) p (limit (length (start .args .out .now))) (start .args .text .now) _ (c .before .before .before .encode-loop .ensures .0)
 
 same-length : tie.Need-same-length
 same-length c = search needs
@@ -42,12 +48,13 @@ same-length c = search needs
 returns-2 : tie.Need-returns-2
 unfolding textFed
 returns-2 c =
-    let at-encode-loop = c .before .before .before in
-    let at-if1 = at-encode-loop .before .before in
-    let at-text-refusal = at-if1 .before in
-    let entry = at-text-refusal .before .before .before .before .before .before .before .before in
-    let p : CodePage = codePage (entry .args .numbers) (entry .args .classes .now) (entry .args .singles .now) (entry .args .pairs .now) (entry .args .index .now) (entry .args .blocks .now) in
-    converted-accepted Encoding (entry .args .policy) p (entry .args .text .now) _ _ (entry .args .out .now) _ (sym (at-text-refusal .text-refusal .ensures) ∙ at-if1 .if1 .left) (at-encode-loop .encode-loop .ensures .0) (at-encode-loop .encode-loop .ensures .1) (c .accepted-conversion .ensures)
+    let at-loop = c .before .before .before .before in
+    let start = c .before .before .before .before .before .before .before .before .before .before .before .before .before .before .before in
+    let p : CodePage = codePage (start .args .numbers) (start .args .classes .now) (start .args .singles .now) (start .args .pairs .now) (start .args .index .now) (start .args .blocks .now) in
+    let accepted = sym (c .before .before .before .before .before .before .before .text-refusal .ensures) ∙ c .before .before .before .before .before .before .if1 .left in
+    let made = at-loop .encode-loop .ensures in
+    let whole = c .before .whole-encoded .ensures (length (start .args .out .now)) (made .0) in
+    converted-accepted Encoding (start .args .policy) p (start .args .text .now) _ _ _ (start .args .out .now) _ accepted whole (made .0) (made .1) (c .accepted-conversion .ensures)
 
 pub encode-text-spec : {M : Type 1} → statement M
 encode-text-spec =
@@ -57,6 +64,7 @@ encode-text-spec =
     refused-conversion-requires
     returns
     encode-loop-requires
+    whole-encoded-requires
     accepted-conversion-requires
     same-length
     returns-2)
