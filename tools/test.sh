@@ -20,6 +20,7 @@ run python3 tools/test_tools.py
 if command -v java > /dev/null; then
     run python3 tools/make_journal.py --check
 fi
+run python3 tools/readme_test.py
 run python3 tools/test_tillbox.py
 run python3 tools/kill_test.py
 if [ $failed -ne 0 ]; then
