@@ -17,7 +17,7 @@ use crate::runs::Place;
 use lookup::profile::Leads;
 
 // A run of fewer codes is short.
-const FEW: usize = 8;
+const FEW: usize = 16;
 
 // Whether a whole text is plain bytes that the page keeps as they are: each is one unit.
 pub fn all_plain_bytes(classes: &[u8], singles: &[u16], text: &[u8]) -> bool

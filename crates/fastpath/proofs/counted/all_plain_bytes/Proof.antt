@@ -18,9 +18,13 @@ plain-bytes-requires : tie.Need-plain-bytes-requires
 plain-bytes-requires c κs = search needs
 
 returns-2 : tie.Need-returns-2
-returns-2 c = λ e pairs.
-    met-whole (c .before .before .before .before .before .before .args .text .now)
-    (λ k b. let page = c .plain-bytes .ensures e (entry (c .before .before .before .before .before .before .args .text .now) k) (c .before .before .bytes-below-80 .ensures (not-false _ (c .before .if1 .left)) k b) in
+returns-2 c =
+    let at-if1 = c .before in
+    let at-bytes-below-80 = at-if1 .before in
+    let start = at-bytes-below-80 .before .before .before .before in
+    λ e pairs.
+    met-whole (start .args .text .now)
+    (λ k b. let page = c .plain-bytes .ensures e (entry (start .args .text .now) k) (at-bytes-below-80 .bytes-below-80 .ensures (not-false _ (at-if1 .if1 .left)) k b) in
     plain-byte _ _ pairs _ (page .0) (page .1))
 
 pub all-plain-bytes-spec : {M : Type 1} → statement M

@@ -29,7 +29,9 @@ shared-slice-read-code-of : tie.Need-shared-slice-read-code-of Inv-loop μ-loop
 shared-slice-read-code-of c = omega arith
 
 code-of-requires : tie.Need-code-of-requires Inv-loop μ-loop
-code-of-requires c κs = (c .before .before .before .before .before .before .pre .0, (c .before .before .before .before .before .before .pre .1 .0, c .before .before .before .before .before .before .pre .1 .1 .1 _))
+code-of-requires c κs =
+    let start = c .before .before .before .before .before .before in
+    (start .pre .0, (start .pre .1 .0, start .pre .1 .1 .1 _))
 
 returns : tie.Need-returns Inv-loop μ-loop
 returns c = c .before .before .before .before .loop .inv .1
@@ -42,8 +44,10 @@ loop-less c = omega arith
 
 loop-again : tie.Need-loop-again Inv-loop μ-loop
 loop-again c =
-    let code = c .before .code-of in
-    (omega arith, met-at (met-byte _ _ (c .before .before .before .before .loop .inv .1) (code .result) (omega arith) (code .ensures (omega arith)) (omega arith)) (omega arith) (omega arith))
+    let at-code-of = c .before in
+    let turn = at-code-of .before .before .before in
+    let code = at-code-of .code-of in
+    (omega arith, met-at (met-byte _ _ (turn .loop .inv .1) (code .result) (omega arith) (code .ensures (omega arith)) (omega arith)) (omega arith) (omega arith))
 
 returns-2 : tie.Need-returns-2 Inv-loop μ-loop
 returns-2 c = c .before .loop .inv .1

@@ -1,6 +1,5 @@
 use Rattle.fastpath.proofs.MetLaws.{met-join}
 use borrow.Author.Needs.{needs}
-use native.Mathlib.Omega.{arith}
 use Rattle.fastpath.proofs.counted.met_codes.Statement.{statement}
 use Rattle.fastpath.proofs.counted.met_codes.Tie as tie
 
@@ -11,7 +10,9 @@ returns : tie.Need-returns
 returns c = c .before .before .met-few .ensures
 
 met-long-requires : tie.Need-met-long-requires
-met-long-requires c κs = (c .before .before .before .before .before .before .before .pre .0, (c .before .before .before .before .before .before .before .pre .1 .0, c .before .before .met-few .ensures .inside))
+met-long-requires c κs =
+    let start = c .before .before .before .before .before .before .before in
+    (start .pre .0, (start .pre .1 .0, c .before .before .met-few .ensures .inside))
 
 add-t12 : tie.Need-add-t12
 add-t12 c = search needs

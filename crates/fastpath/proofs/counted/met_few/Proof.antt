@@ -63,7 +63,9 @@ loop-again c =
     (omega arith, omega arith, inv .2, met-pair _ _ _ (inv .3) (unit .result) (omega arith) lead (unit .ensures (c .if2 .left)))
 
 single-unit-requires : tie.Need-single-unit-requires Inv-loop μ-loop
-single-unit-requires c κs = (c .before .before .before .before .before .before .before .before .before .before .pre .0 .all-classes, c .before .before .before .before .before .before .before .before .before .before .pre .0 .all-singles)
+single-unit-requires c κs =
+    let start = c .before .before .before .before .before .before .before .before .before .before in
+    (start .pre .0 .all-classes, start .pre .0 .all-singles)
 
 returns-2 : tie.Need-returns-2 Inv-loop μ-loop
 returns-2 c = c .before .before .before .before .before .before .loop .inv .3
@@ -79,9 +81,13 @@ loop-less-2 c = omega arith
 
 loop-again-2 : tie.Need-loop-again-2 Inv-loop μ-loop
 loop-again-2 c =
-    let inv = c .before .before .before .before .before .before .loop .inv in
-    let unit = c .before .single-unit in
-    (omega arith, omega arith, inv .2, met-single _ _ _ (inv .3) (unit .result) (omega arith) (sym (c .before .before .before .is-lead .ensures) ∙ c .before .before .if1 .left) (unit .ensures (c .if3 .left)))
+    let at-single-unit = c .before in
+    let at-if1 = at-single-unit .before in
+    let at-is-lead = at-if1 .before in
+    let turn = at-is-lead .before .before .before in
+    let inv = turn .loop .inv in
+    let unit = at-single-unit .single-unit in
+    (omega arith, omega arith, inv .2, met-single _ _ _ (inv .3) (unit .result) (omega arith) (sym (at-is-lead .is-lead .ensures) ∙ at-if1 .if1 .left) (unit .ensures (c .if3 .left)))
 
 returns-3 : tie.Need-returns-3 Inv-loop μ-loop
 returns-3 c = c .before .loop .inv .3

@@ -6,7 +6,9 @@ use Rattle.fastpath.proofs.counted.met_mixed.Statement.{statement}
 use Rattle.fastpath.proofs.counted.met_mixed.Tie as tie
 
 met-pairs-requires : tie.Need-met-pairs-requires
-met-pairs-requires c κs = ((c .before .before .before .before .pre .0 .0 .all-classes, c .before .before .before .before .pre .1 .0), ((λ lead e. pair-room _ _ _ lead (c .before .before .before .before .pre .0 .0) e), c .before .before .before .before .pre .1 .1))
+met-pairs-requires c κs =
+    let start = c .before .before .before .before in
+    ((start .pre .0 .0 .all-classes, start .pre .1 .0), ((λ lead e. pair-room _ _ _ lead (start .pre .0 .0) e), start .pre .1 .1))
 
 mul-i : tie.Need-mul-i
 mul-i c = search needs

@@ -41,12 +41,16 @@ add-k c = omega (arith, c .plain-count .ensures .0)
 
 returns-2 : tie.Need-returns-2 Inv-loop μ-loop
 returns-2 c =
-    let turn = c .before .before .before .before .loop in
-    let word = c .before .before .word-at .ensures in
-    let few = c .before .plain-count .ensures in (
+    let at-plain-count = c .before in
+    let at-word-at = at-plain-count .before in
+    let turn = at-word-at .before .before in
+    let at-if1 = turn .before in
+    let turn = turn .loop in
+    let word = at-word-at .word-at .ensures in
+    let few = at-plain-count .plain-count .ensures in (
       omega (arith, few .0),
       λ classes singles pairs page.
-          met-at (met-join (turn .inv .1 classes singles pairs page) (met-plain classes singles pairs (page (not-false _ (c .before .before .before .before .before .if1 .left))) (c .before .plain-count .result) (omega (arith, few .0)) (few .1 _ _ word)))
+          met-at (met-join (turn .inv .1 classes singles pairs page) (met-plain classes singles pairs (page (not-false _ (at-if1 .if1 .left))) (at-plain-count .plain-count .result) (omega (arith, few .0)) (few .1 _ _ word)))
           (omega arith) (omega arith),
     )
 
@@ -55,12 +59,16 @@ loop-less c = omega (arith, c .before .plain-count .ensures .0)
 
 loop-again : tie.Need-loop-again Inv-loop μ-loop
 loop-again c =
-    let turn = c .before .before .before .before .loop in
-    let word = c .before .before .word-at .ensures in
-    let few = c .before .plain-count .ensures in (
+    let at-plain-count = c .before in
+    let at-word-at = at-plain-count .before in
+    let turn = at-word-at .before .before in
+    let at-if1 = turn .before in
+    let turn = turn .loop in
+    let word = at-word-at .word-at .ensures in
+    let few = at-plain-count .plain-count .ensures in (
       omega (arith, few .0),
       λ classes singles pairs page.
-          met-at (met-join (turn .inv .1 classes singles pairs page) (met-plain classes singles pairs (page (not-false _ (c .before .before .before .before .before .if1 .left))) (c .before .plain-count .result) (omega (arith, few .0)) (few .1 _ _ word)))
+          met-at (met-join (turn .inv .1 classes singles pairs page) (met-plain classes singles pairs (page (not-false _ (at-if1 .if1 .left))) (at-plain-count .plain-count .result) (omega (arith, few .0)) (few .1 _ _ word)))
           (omega arith) (omega arith),
     )
 

@@ -26,7 +26,9 @@ shared-slice-read-code-of : tie.Need-shared-slice-read-code-of Inv-loop μ-loop
 shared-slice-read-code-of c = omega arith
 
 code-of-requires : tie.Need-code-of-requires Inv-loop μ-loop
-code-of-requires c κs = (c .before .before .before .before .before .before .pre .0, (c .before .before .before .before .before .before .pre .1 .0, c .before .before .before .before .before .before .pre .1 .1 .1 _))
+code-of-requires c κs =
+    let start = c .before .before .before .before .before .before in
+    (start .pre .0, (start .pre .1 .0, start .pre .1 .1 .1 _))
 
 returns : tie.Need-returns Inv-loop μ-loop
 returns c = c .before .before .before .before .loop .inv
@@ -36,8 +38,11 @@ byte-count-requires c κs = search needs
 
 add-w : tie.Need-add-w Inv-loop μ-loop
 add-w c =
-    let met = c .before .before .before .before .before .loop .inv in
-    omega (arith, c .byte-count .ensures, two-bytes (c .before .before .code-of .result), met .little, met .inside, c .before .before .before .before .before .before .before .before .before .good .1 .1 .0)
+    let at-code-of = c .before .before in
+    let turn = at-code-of .before .before .before in
+    let start = turn .before .before .before .before in
+    let met = turn .loop .inv in
+    omega (arith, c .byte-count .ensures, two-bytes (at-code-of .code-of .result), met .little, met .inside, start .good .1 .1 .0)
 
 add-i : tie.Need-add-i Inv-loop μ-loop
 add-i c = omega arith
@@ -46,7 +51,12 @@ loop-less : tie.Need-loop-less Inv-loop μ-loop
 loop-less c = omega arith
 
 loop-again : tie.Need-loop-again Inv-loop μ-loop
-loop-again c = met-unit _ _ (c .before .before .before .before .before .loop .inv) (c .before .before .code-of .result) (c .before .before .before .before .loop-test .taken) (c .before .before .code-of .ensures (c .before .if1 .left)) _ (c .byte-count .ensures)
+loop-again c =
+    let at-if1 = c .before in
+    let at-code-of = at-if1 .before in
+    let at-loop-test = at-code-of .before .before in
+    let turn = at-loop-test .before in
+    met-unit _ _ (turn .loop .inv) (at-code-of .code-of .result) (at-loop-test .loop-test .taken) (at-code-of .code-of .ensures (at-if1 .if1 .left)) _ (c .byte-count .ensures)
 
 returns-2 : tie.Need-returns-2 Inv-loop μ-loop
 returns-2 c = c .before .loop .inv

@@ -15,11 +15,18 @@ units-written-requires : tie.Need-units-written-requires
 units-written-requires c κs = search needs
 
 count-code-requires : tie.Need-count-code-requires
-count-code-requires c κs = (c .before .before .before .before .before .pre .1 .0, omega (arith, c .units-written .ensures, units-short (c .before .decoded .result), c .before .before .before .before .before .pre .1 .1))
+count-code-requires c κs =
+    let at-decoded = c .before in
+    let start = at-decoded .before .before .before .before in
+    (start .pre .1 .0, omega (arith, c .units-written .ensures, units-short (at-decoded .decoded .result), start .pre .1 .1))
 
 returns : tie.Need-returns
-returns c = λ pairs.
-    came-as (decoded-one _ _ pairs _ _ _ _ _ (c .before .before .before .byte-alone .ensures) (c .before .before .decoded .ensures)) (came-units _ _ _ _ _ (c .before .units-written .ensures) (c .count-code .ensures))
+returns c =
+    let at-units-written = c .before in
+    let at-decoded = at-units-written .before in
+    let at-byte-alone = at-decoded .before in
+    λ pairs.
+    came-as (decoded-one _ _ pairs _ _ _ _ _ (at-byte-alone .byte-alone .ensures) (at-decoded .decoded .ensures)) (came-units _ _ _ _ _ (at-units-written .units-written .ensures) (c .count-code .ensures))
 
 pub alone-decoded-spec : {M : Type 1} → statement M
 alone-decoded-spec =

@@ -15,11 +15,17 @@ bytes-written-requires : tie.Need-bytes-written-requires
 bytes-written-requires c κs = search needs
 
 count-code-requires : tie.Need-count-code-requires
-count-code-requires c κs = (c .before .before .before .before .before .pre .1 .1 .1 .0, omega (arith, c .bytes-written .ensures, bytes-short (c .before .encoded .result), c .before .before .before .before .before .pre .1 .1 .1 .1))
+count-code-requires c κs =
+    let at-encoded = c .before in
+    let start = at-encoded .before .before .before .before in
+    (start .pre .1 .1 .1 .0, omega (arith, c .bytes-written .ensures, bytes-short (at-encoded .encoded .result), start .pre .1 .1 .1 .1))
 
 returns : tie.Need-returns
 returns c =
-    came-as (encoded-one _ _ _ _ _ _ _ (c .before .before .before .unit-alone .ensures) (c .before .before .encoded .ensures _)) (came-bytes _ _ _ _ _ (c .before .bytes-written .ensures) (c .count-code .ensures))
+    let at-bytes-written = c .before in
+    let at-encoded = at-bytes-written .before in
+    let at-unit-alone = at-encoded .before in
+    came-as (encoded-one _ _ _ _ _ _ _ (at-unit-alone .unit-alone .ensures) (at-encoded .encoded .ensures _)) (came-bytes _ _ _ _ _ (at-bytes-written .bytes-written .ensures) (c .count-code .ensures))
 
 pub alone-encoded-spec : {M : Type 1} → statement M
 alone-encoded-spec =

@@ -31,14 +31,19 @@ start-requires c κs = search needs
 
 loop-holds : tie.Need-loop-holds Inv-loop μ-loop
 loop-holds c =
-    let start = c .start .ensures in
-    (count-start _ _ (omega (arith, c .before .before .before .before .before .before .before .good .1 .1 .1 .1 .1 .0)) start, λ w. absurd (false≢true (sym (ap (λ (x : Turn). x .waits) start) ∙ w)))
+    let start = c .before .before .before .before .before .before .before in
+    let begun = c .start .ensures in
+    (count-start _ _ (omega (arith, start .good .1 .1 .1 .1 .1 .0)) begun, λ w. absurd (false≢true (sym (ap (λ (x : Turn). x .waits) begun) ∙ w)))
 
 turn-decoded-requires : tie.Need-turn-decoded-requires Inv-loop μ-loop
 turn-decoded-requires c κs =
-    let inv = c .before .before .loop .inv in
+    let turn = c .before .before in
+    let at-plain-bytes = turn .before .before in
+    let at-leads-of = at-plain-bytes .before in
+    let start = at-leads-of .before .before .before .before .before in
+    let inv = turn .loop .inv in
     let inside = c .if1 .taken in
-    ((c .before .before .before .before .before .before .before .before .before .before .pre, c .before .before .before .before .before .leads-of .ensures), (c .before .before .before .before .plain-bytes .ensures, (inv .0, inside, none-waits (inv .1) inside)))
+    ((start .pre, at-leads-of .leads-of .ensures), (at-plain-bytes .plain-bytes .ensures, (inv .0, inside, none-waits (inv .1) inside)))
 
 returns : tie.Need-returns Inv-loop μ-loop
 returns c = c .before .before .before .turn-decoded .ensures .0 .ends (c .if2 .taken)

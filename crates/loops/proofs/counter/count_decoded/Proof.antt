@@ -14,7 +14,10 @@ only-singles-requires : tie.Need-only-singles-requires
 only-singles-requires c κs = c .before .before .before .before .before .before .pre .all-classes
 
 count-singles-requires : tie.Need-count-singles-requires
-count-singles-requires c κs = ((c .before .before .before .before .before .before .before .before .pre .all-classes, c .before .before .before .before .before .before .before .before .pre .all-singles), c .before .only-singles .ensures (c .if2 .taken))
+count-singles-requires c κs =
+    let at-only-singles = c .before in
+    let start = at-only-singles .before .before .before .before .before .before .before in
+    ((start .pre .all-classes, start .pre .all-singles), at-only-singles .only-singles .ensures (c .if2 .taken))
 
 returns-2 : tie.Need-returns-2
 returns-2 c = c .count-singles .ensures

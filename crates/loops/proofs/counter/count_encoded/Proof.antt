@@ -14,7 +14,10 @@ returns : tie.Need-returns
 returns c = count-whole _ _ (omega (arith, c .before .before .before .before .before .before .good .1 .1 .1 .1 .0)) (c .before .all-plain-units .ensures (c .if1 .taken))
 
 count-units-requires : tie.Need-count-units-requires
-count-units-requires c κs = (c .before .before .before .before .before .before .pre .0, (c .before .before .before .before .before .before .pre .1 .0, (c .before .before .before .before .before .before .pre .1 .1, c .before .before .bound-of-units .ensures)))
+count-units-requires c κs =
+    let at-bound-of-units = c .before .before in
+    let start = at-bound-of-units .before .before .before .before in
+    (start .pre .0, (start .pre .1 .0, (start .pre .1 .1, at-bound-of-units .bound-of-units .ensures)))
 
 returns-2 : tie.Need-returns-2
 returns-2 c = c .count-units .ensures

@@ -24,7 +24,10 @@ loop-holds : tie.Need-loop-holds Inv-loop μ-loop
 loop-holds c = (count-start _ _ (omega (arith, c .before .before .before .before .before .good .1 .1 .1 .1 .1 .0)) (c .start .ensures), ap (λ (x : Turn). x .waits) (c .start .ensures))
 
 turn-singles-requires : tie.Need-turn-singles-requires Inv-loop μ-loop
-turn-singles-requires c κs = (c .before .before .before .before .before .before .before .before .pre .0, (c .before .before .before .before .before .before .before .before .pre .1, (c .before .before .loop .inv .0, c .if1 .taken, c .before .before .loop .inv .1)))
+turn-singles-requires c κs =
+    let turn = c .before .before in
+    let start = turn .before .before .before .before .before .before in
+    (start .pre .0, (start .pre .1, (turn .loop .inv .0, c .if1 .taken, turn .loop .inv .1)))
 
 returns : tie.Need-returns Inv-loop μ-loop
 returns c = c .before .before .before .turn-singles .ensures .0 .ends (c .if2 .taken)

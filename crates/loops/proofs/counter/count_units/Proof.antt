@@ -28,8 +28,8 @@ start-requires c κs = search needs
 
 loop-holds : tie.Need-loop-holds Inv-loop μ-loop
 loop-holds c =
-    let start = c .start .ensures in
-    (count-start _ _ (omega (arith, c .before .before .before .before .before .good .1 .1 .1 .1 .1 .0)) start, λ w. absurd (false≢true (sym (ap (λ (x : Turn). x .waits) start) ∙ w)))
+    let begun = c .start .ensures in
+    (count-start _ _ (omega (arith, c .before .before .before .before .before .good .1 .1 .1 .1 .1 .0)) begun, λ w. absurd (false≢true (sym (ap (λ (x : Turn). x .waits) begun) ∙ w)))
 
 turn-encoded-requires : tie.Need-turn-encoded-requires Inv-loop μ-loop
 turn-encoded-requires c κs =

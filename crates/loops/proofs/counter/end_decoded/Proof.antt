@@ -9,7 +9,9 @@ use Rattle.loops.proofs.counter.end_decoded.Statement.{statement}
 use Rattle.loops.proofs.counter.end_decoded.Tie as tie
 
 returns : tie.Need-returns
-returns c = count-end (c .before .before .before .before .before .before .before .pre .1 .0) (not-true _ (c .if1 .taken)) (c .before .before .before .before .before .before .before .pre .1 .1)
+returns c =
+    let start = c .before .before .before .before .before .before .before in
+    count-end (start .pre .1 .0) (not-true _ (c .if1 .taken)) (start .pre .1 .1)
 
 cast-alone-decoded : tie.Need-cast-alone-decoded
 cast-alone-decoded c =
@@ -25,7 +27,10 @@ alone-decoded-requires c κs =
     (start .pre .0, (omega (arith, g .few, g .inside, g .short), omega (arith, g .little, g .few, g .inside, g .short, waits)))
 
 returns-2 : tie.Need-returns-2
-returns-2 c = count-last (c .before .before .before .before .before .before .before .before .before .pre .1 .0) (c .alone-decoded .ensures _) (not-false _ (c .before .before .if1 .left)) (c .before .before .before .before .before .before .before .before .before .pre .1 .1) refl
+returns-2 c =
+    let at-if1 = c .before .before in
+    let start = at-if1 .before .before .before .before .before .before .before in
+    count-last (start .pre .1 .0) (c .alone-decoded .ensures _) (not-false _ (at-if1 .if1 .left)) (start .pre .1 .1) refl
 
 pub end-decoded-spec : {M : Type 1} → statement M
 end-decoded-spec =

@@ -19,7 +19,10 @@ alone-encoded-requires c κs =
     (pre .0, (pre .1 .0, (pre .1 .1 .0, (omega (arith, g .few, g .inside, g .short), omega (arith, g .little, g .few, g .inside, g .short, waits)))))
 
 returns-2 : tie.Need-returns-2
-returns-2 c = count-last (c .before .before .before .before .before .before .before .pre .1 .1 .1 .0) (c .alone-encoded .ensures) (not-false _ (c .before .if1 .left)) (c .before .before .before .before .before .before .before .pre .1 .1 .1 .1) refl
+returns-2 c =
+    let at-if1 = c .before in
+    let start = at-if1 .before .before .before .before .before .before in
+    count-last (start .pre .1 .1 .1 .0) (c .alone-encoded .ensures) (not-false _ (at-if1 .if1 .left)) (start .pre .1 .1 .1 .1) refl
 
 pub end-encoded-spec : {M : Type 1} → statement M
 end-encoded-spec =

@@ -51,9 +51,14 @@ returns-3 c =
 
 settle-decoded-requires : tie.Need-settle-decoded-requires
 settle-decoded-requires c κs =
-    let pre = c .before .before .before .before .before .before .before .before .before .before .before .pre in
-    let waits = decoder-waits _ _ _ _ _ _ _ (sym (c .before .before .before .before .is-lead .ensures) ∙ not-false _ (c .before .before .before .if2 .left)) in
-    (pre .0, (count-wait (pre .1 .0) (pre .1 .1) (c .before .before .before .before .before .before .if1 .left) waits (c .before .before .wait .ensures), c .if3 .left, ap (λ (x : Turn). x .waits) (c .before .before .wait .ensures)))
+    let at-wait = c .before .before in
+    let at-if2 = at-wait .before in
+    let at-is-lead = at-if2 .before in
+    let at-if1 = at-is-lead .before .before in
+    let start = at-if1 .before .before .before .before .before in
+    let pre = start .pre in
+    let waits = decoder-waits _ _ _ _ _ _ _ (sym (at-is-lead .is-lead .ensures) ∙ not-false _ (at-if2 .if2 .left)) in
+    (pre .0, (count-wait (pre .1 .0) (pre .1 .1) (at-if1 .if1 .left) waits (at-wait .wait .ensures), c .if3 .left, ap (λ (x : Turn). x .waits) (at-wait .wait .ensures)))
 
 returns-4 : tie.Need-returns-4
 returns-4 c =

@@ -32,26 +32,39 @@ past-requires c κs = omega (arith, c .before .before .before .before .before .b
 
 returns-2 : tie.Need-returns-2
 returns-2 c =
+    let at-alone-encoded = c .before in
+    let at-if2 = at-alone-encoded .before .before in
+    let at-is-high = at-if2 .before in
+    let at-if1 = at-is-high .before .before in
     let start = c .before .before .before .before .before .before .before .before .before .before in
     let pre = start .pre .1 .1 .1 in
-    let waits = encoder-waits _ _ _ _ _ _ (sym (c .before .before .before .before .is-high .ensures) ∙ not-true _ (c .before .before .before .if2 .taken)) in
-    (count-one (pre .0) (c .before .alone-encoded .ensures) (pre .1) (c .before .before .before .before .before .before .if1 .left) waits refl (c .past .ensures), past-falls (start .args .text .now) (start .args .t) (c .past .ensures))
+    let waits = encoder-waits _ _ _ _ _ _ (sym (at-is-high .is-high .ensures) ∙ not-true _ (at-if2 .if2 .taken)) in
+    (count-one (pre .0) (at-alone-encoded .alone-encoded .ensures) (pre .1) (at-if1 .if1 .left) waits refl (c .past .ensures), past-falls (start .args .text .now) (start .args .t) (c .past .ensures))
 
 wait-requires : tie.Need-wait-requires
 wait-requires c κs = omega (arith, c .before .before .before .before .before .before .before .pre .1 .1 .1 .0 .short, c .before .before .before .if1 .left)
 
 returns-3 : tie.Need-returns-3
 returns-3 c =
+    let at-wait = c .before .before in
+    let at-if2 = at-wait .before in
+    let at-is-high = at-if2 .before in
+    let at-if1 = at-is-high .before .before in
     let start = c .before .before .before .before .before .before .before .before .before .before in
     let pre = start .pre .1 .1 .1 in
-    let waits = encoder-waits _ _ _ _ _ _ (sym (c .before .before .before .before .is-high .ensures) ∙ not-false _ (c .before .before .before .if2 .left)) in
-    (count-waits (pre .0) (pre .1) (c .before .before .before .before .before .before .if1 .left) waits (c .before .before .wait .ensures) (c .if3 .taken), wait-falls (start .args .text .now) (start .args .t) (c .before .before .wait .ensures))
+    let waits = encoder-waits _ _ _ _ _ _ (sym (at-is-high .is-high .ensures) ∙ not-false _ (at-if2 .if2 .left)) in
+    (count-waits (pre .0) (pre .1) (at-if1 .if1 .left) waits (at-wait .wait .ensures) (c .if3 .taken), wait-falls (start .args .text .now) (start .args .t) (at-wait .wait .ensures))
 
 settle-encoded-requires : tie.Need-settle-encoded-requires
 settle-encoded-requires c κs =
-    let pre = c .before .before .before .before .before .before .before .before .before .before .pre in
-    let waits = encoder-waits _ _ _ _ _ _ (sym (c .before .before .before .before .is-high .ensures) ∙ not-false _ (c .before .before .before .if2 .left)) in
-    (pre .0, (count-wait (pre .1 .1 .1 .0) (pre .1 .1 .1 .1) (c .before .before .before .before .before .before .if1 .left) waits (c .before .before .wait .ensures), c .if3 .left, ap (λ (x : Turn). x .waits) (c .before .before .wait .ensures)))
+    let at-wait = c .before .before in
+    let at-if2 = at-wait .before in
+    let at-is-high = at-if2 .before in
+    let at-if1 = at-is-high .before .before in
+    let start = at-if1 .before .before .before .before in
+    let pre = start .pre in
+    let waits = encoder-waits _ _ _ _ _ _ (sym (at-is-high .is-high .ensures) ∙ not-false _ (at-if2 .if2 .left)) in
+    (pre .0, (count-wait (pre .1 .1 .1 .0) (pre .1 .1 .1 .1) (at-if1 .if1 .left) waits (at-wait .wait .ensures), c .if3 .left, ap (λ (x : Turn). x .waits) (at-wait .wait .ensures)))
 
 returns-4 : tie.Need-returns-4
 returns-4 c =

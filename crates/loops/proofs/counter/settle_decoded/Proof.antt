@@ -27,19 +27,24 @@ decoded-requires : tie.Need-decoded-requires
 decoded-requires c κs = search needs
 
 add-count-code : tie.Need-add-count-code
-add-count-code c = omega (arith, settled-more _ _ _ (c .before .before .settle .ensures (c .before .before .before .before .before .before .before .before .before .before .args .singles .now)))
+add-count-code c =
+    let at-settle = c .before .before in
+    let start = at-settle .before .before .before .before .before .before .before .before in
+    omega (arith, settled-more _ _ _ (at-settle .settle .ensures (start .args .singles .now)))
 
 units-written-requires : tie.Need-units-written-requires
 units-written-requires c κs = search needs
 
 count-code-requires : tie.Need-count-code-requires
 count-code-requires c κs =
+    let at-decoded = c .before .before in
+    let at-settle = at-decoded .before in
     let start = c .before .before .before .before .before .before .before .before .before .before .before in
     let g = start .pre .1 .0 in
     let inside = start .pre .1 .1 in
     let waits = ap oneIf (start .pre .1 .2) in
-    let more = settled-more _ _ _ (c .before .before .before .settle .ensures (start .args .singles .now)) in
-    (omega (arith, g .few, g .short, waits, more, inside), omega (arith, c .units-written .ensures, units-short (c .before .before .decoded .result), g .little, g .few, g .short, waits, inside))
+    let more = settled-more _ _ _ (at-settle .settle .ensures (start .args .singles .now)) in
+    (omega (arith, g .few, g .short, waits, more, inside), omega (arith, c .units-written .ensures, units-short (at-decoded .decoded .result), g .little, g .few, g .short, waits, inside))
 
 past-requires : tie.Need-past-requires
 past-requires c κs =
@@ -48,10 +53,14 @@ past-requires c κs =
 
 returns : tie.Need-returns
 returns c =
+    let at-count-code = c .before in
+    let at-units-written = at-count-code .before in
+    let at-decoded = at-units-written .before .before in
+    let at-settle = at-decoded .before in
     let start = c .before .before .before .before .before .before .before .before .before .before .before .before .before in
-    let code = c .before .before .before .before .before .settle .ensures (start .args .singles .now) in
-    let came = came-units _ _ _ _ _ (c .before .before .units-written .ensures) (c .before .count-code .ensures) in
-    count-settled (start .pre .1 .0) came (start .pre .1 .2) (start .pre .1 .1) (decoded-settled _ _ _ _ _ _ _ code _ (c .before .before .before .before .decoded .ensures)) (settled-size _ _ _ _ _ code) (c .past .ensures)
+    let code = at-settle .settle .ensures (start .args .singles .now) in
+    let came = came-units _ _ _ _ _ (at-units-written .units-written .ensures) (at-count-code .count-code .ensures) in
+    count-settled (start .pre .1 .0) came (start .pre .1 .2) (start .pre .1 .1) (decoded-settled _ _ _ _ _ _ _ code _ (at-decoded .decoded .ensures)) (settled-size _ _ _ _ _ code) (c .past .ensures)
 
 pub settle-decoded-spec : {M : Type 1} → statement M
 settle-decoded-spec =

@@ -31,11 +31,14 @@ bytes-written-requires c κs = search needs
 
 count-code-requires : tie.Need-count-code-requires
 count-code-requires c κs =
-    let pre = c .before .before .before .before .before .before .before .before .before .pre in
+    let at-encoded = c .before .before in
+    let at-settle-high = at-encoded .before in
+    let start = at-settle-high .before .before .before .before .before .before in
+    let pre = start .pre in
     let g = pre .1 .0 in
     let waits = ap oneIf (pre .1 .2) in
-    let more = settled-more _ _ _ (c .before .before .before .settle-high .ensures [] [] _ (encoder-high _ _ _ _ _ (g .waiting (pre .1 .2)))) in
-    (omega (arith, g .few, g .short, waits, more, pre .1 .1), omega (arith, c .bytes-written .ensures, bytes-short (c .before .before .encoded .result), g .little, g .few, g .short, waits, pre .1 .1))
+    let more = settled-more _ _ _ (at-settle-high .settle-high .ensures [] [] _ (encoder-high _ _ _ _ _ (g .waiting (pre .1 .2)))) in
+    (omega (arith, g .few, g .short, waits, more, pre .1 .1), omega (arith, c .bytes-written .ensures, bytes-short (at-encoded .encoded .result), g .little, g .few, g .short, waits, pre .1 .1))
 
 past-requires : tie.Need-past-requires
 past-requires c κs =
@@ -44,10 +47,15 @@ past-requires c κs =
 
 returns : tie.Need-returns
 returns c =
-    let pre = c .before .before .before .before .before .before .before .before .before .before .before .pre in
-    let code = c .before .before .before .before .before .settle-high .ensures _ _ _ (encoder-high _ _ _ _ _ (pre .1 .0 .waiting (pre .1 .2))) in
-    let came = came-bytes _ _ _ _ _ (c .before .before .bytes-written .ensures) (c .before .count-code .ensures) in
-    count-settled (pre .1 .0) came (pre .1 .2) (pre .1 .1) (encoded-settled _ _ _ _ _ _ code _ (c .before .before .before .before .encoded .ensures _)) (settled-size _ _ _ _ _ code) (c .past .ensures)
+    let at-count-code = c .before in
+    let at-bytes-written = at-count-code .before in
+    let at-encoded = at-bytes-written .before .before in
+    let at-settle-high = at-encoded .before in
+    let start = at-settle-high .before .before .before .before .before .before in
+    let pre = start .pre in
+    let code = at-settle-high .settle-high .ensures _ _ _ (encoder-high _ _ _ _ _ (pre .1 .0 .waiting (pre .1 .2))) in
+    let came = came-bytes _ _ _ _ _ (at-bytes-written .bytes-written .ensures) (at-count-code .count-code .ensures) in
+    count-settled (pre .1 .0) came (pre .1 .2) (pre .1 .1) (encoded-settled _ _ _ _ _ _ code _ (at-encoded .encoded .ensures _)) (settled-size _ _ _ _ _ code) (c .past .ensures)
 
 pub settle-encoded-spec : {M : Type 1} → statement M
 settle-encoded-spec =

@@ -7,7 +7,9 @@ use Rattle.loops.proofs.counter.turn_decoded.Statement.{statement}
 use Rattle.loops.proofs.counter.turn_decoded.Tie as tie
 
 met-codes-requires : tie.Need-met-codes-requires
-met-codes-requires c κs = ((c .before .before .before .before .before .pre .0 .0, c .before .before .before .before .before .pre .1 .0), (c .before .before .before .before .before .pre .0 .1, c .before .before .before .before .before .pre .1 .1 .0 .inside))
+met-codes-requires c κs =
+    let start = c .before .before .before .before .before in
+    ((start .pre .0 .0, start .pre .1 .0), (start .pre .0 .1, start .pre .1 .1 .0 .inside))
 
 add-moved : tie.Need-add-moved
 add-moved c =

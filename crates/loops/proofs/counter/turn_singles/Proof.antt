@@ -55,7 +55,10 @@ alone-decoded-requires c κs =
     (pre .0, (omega (arith, met .few, met .inside, met .short), omega (arith, met .little, met .few, met .short, c .before .before .if1 .left)))
 
 past-requires : tie.Need-past-requires
-past-requires c κs = omega (arith, c .before .before .before .before .before .before .before .before .before .before .before .before .pre .1 .1 .0 .short, c .before .before .before .if1 .left)
+past-requires c κs =
+    let at-if1 = c .before .before .before in
+    let start = at-if1 .before .before .before .before .before .before .before .before .before in
+    omega (arith, start .pre .1 .1 .0 .short, at-if1 .if1 .left)
 
 returns-2 : tie.Need-returns-2
 returns-2 c =
