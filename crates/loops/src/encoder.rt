@@ -1,4 +1,5 @@
 // The loop of encoding: units to bytes.
+ghost use mathlib.Core.Option.{none};
 ghost use mathlib.Core.Path.{_≡_};
 ghost use mathlib.Core.Bool.{true, false};
 ghost use mathlib.Core.List.{List};
@@ -291,4 +292,36 @@ pub fn encode_loop(
         last,
         out,
     )
+}
+
+// A whole text. With no room nothing will be copied, and its units are not looked at before.
+pub fn encode_whole(
+    policy: Policy,
+    default: u8,
+    index: &[u8],
+    blocks: &[u16],
+    text: &[u16],
+    out: &mut [u8],
+) -> Progress
+    requires { ⌜ policyAllowed Encoding policy ≡ true ⌝ }
+    requires { ⌜ length (now index) ≡ 256 ⌝ }
+    requires { ⌜ ((high : ℕ) → 256 * entry (now index) high + 256 ≤ length (now blocks)) ⌝ }
+    ensures { λ r. ⌜ r ≡ summary (encodeFed (now (index .entry)) (now (blocks .entry)) policy default true (length (now (out .entry))) none (now (text .entry))) ⌝ }
+    ensures { λ _. ⌜ now (out .exit) ≡ over (now (out .entry)) (encodeFed (now (index .entry)) (now (blocks .entry)) policy default true (length (now (out .entry))) none (now (text .entry)) .output) ⌝ }
+{
+    if out.len() == 0 {
+        return encode_codes(
+            policy,
+            default,
+            index,
+            blocks,
+            false,
+            0,
+            0xFFFF,
+            text,
+            true,
+            out,
+        );
+    }
+    encode_loop(policy, default, index, blocks, false, 0, text, true, out)
 }

@@ -271,17 +271,7 @@ pub fn encode_text(
     if number != 0 {
         return refused_conversion(number);
     }
-    let made = encoder::encode_loop(
-        policy,
-        numbers.default_byte,
-        index,
-        blocks,
-        false,
-        0,
-        text,
-        true,
-        out,
-    );
+    let made = encoder::encode_whole(policy, numbers.default_byte, index, blocks, text, out);
     let whole = whole_encoded(policy, numbers.default_byte, index, blocks, text, made);
     accepted_conversion(whole, made)
 }

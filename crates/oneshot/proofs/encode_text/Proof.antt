@@ -1,4 +1,3 @@
-use mathlib.Core.Bool.{false≢true}
 use mathlib.Core.Path.{_≡_, _∙_, sym, ap, refl}
 use native.Mathlib.Omega.{arith}
 use lib.ListN.{length}
@@ -22,12 +21,12 @@ returns c =
     let start = c .before .before .before .before .before .before .before .before .before .before in
     converted-refused Encoding (start .args .policy) _ (start .args .text .now) _ _ _ (c .before .before .text-refusal .ensures) (c .before .if1 .taken) (c .refused-conversion .ensures)
 
-encode-loop-requires : tie.Need-encode-loop-requires
-encode-loop-requires c κs =
+encode-whole-requires : tie.Need-encode-whole-requires
+encode-whole-requires c κs =
     let start = c .before .before .before .before .before .before .before .before .before .before in
     let p : CodePage = codePage (start .args .numbers) (start .args .classes .now) (start .args .singles .now) (start .args .pairs .now) (start .args .index .now) (start .args .blocks .now) in
     let n = encode-text-needs (start .args .policy) p _ (text-accepted Encoding (start .args .policy) p _ (sym (c .before .before .text-refusal .ensures) ∙ c .before .if1 .left)) in
-    (n .0, (n .1 .0, (n .1 .1, λ e. absurd (false≢true e))))
+    (n .0, (n .1 .0, n .1 .1))
 
 whole-encoded-requires : tie.Need-whole-encoded-requires
 whole-encoded-requires c κs =
@@ -40,7 +39,7 @@ unfolding textFed
 accepted-conversion-requires c κs =
     let start = c .before .before .before .before .before .before .before .before .before .before .before .before .before .before in
     let p : CodePage = codePage (start .args .numbers) (start .args .classes .now) (start .args .singles .now) (start .args .pairs .now) (start .args .index .now) (start .args .blocks .now) in
-    text-answer Encoding (start .args .policy) p (limit (length (start .args .out .now))) (start .args .text .now) _ (c .before .before .before .encode-loop .ensures .0)
+    text-answer Encoding (start .args .policy) p (limit (length (start .args .out .now))) (start .args .text .now) _ (c .before .before .before .encode-whole .ensures .0)
 
 same-length : tie.Need-same-length
 same-length c = search needs
@@ -52,7 +51,7 @@ returns-2 c =
     let start = c .before .before .before .before .before .before .before .before .before .before .before .before .before .before .before in
     let p : CodePage = codePage (start .args .numbers) (start .args .classes .now) (start .args .singles .now) (start .args .pairs .now) (start .args .index .now) (start .args .blocks .now) in
     let accepted = sym (c .before .before .before .before .before .before .before .text-refusal .ensures) ∙ c .before .before .before .before .before .before .if1 .left in
-    let made = at-loop .encode-loop .ensures in
+    let made = at-loop .encode-whole .ensures in
     let whole = c .before .whole-encoded .ensures (length (start .args .out .now)) (made .0) in
     converted-accepted Encoding (start .args .policy) p (start .args .text .now) _ _ _ (start .args .out .now) _ accepted whole (made .0) (made .1) (c .accepted-conversion .ensures)
 
@@ -63,7 +62,7 @@ encode-text-spec =
     text-refusal-requires
     refused-conversion-requires
     returns
-    encode-loop-requires
+    encode-whole-requires
     whole-encoded-requires
     accepted-conversion-requires
     same-length
