@@ -29,7 +29,7 @@ int main(int argc, char **argv)
     uint16_t units[8];
     uint8_t line[TILL_LINE_LIMIT];
 
-    till_handed start = till_start(TILL_DECODING, t.page, 5, 5, 5);
+    till_handed start = till_start(TILL_DECODING, t.page, TILL_REPLACING);
     printf("start %u\n", start.number);
     till_outcome o = till_decode(start.run, TABLES(&t), first, sizeof first, 0, units, 8);
     printf("decode %u, read %zu, written %zu, pending %02X:", o.number, o.read, o.written, o.run.pending);
@@ -47,7 +47,7 @@ int main(int argc, char **argv)
     /* back to bytes */
     static const uint16_t text[3] = {0x0041, 0x65E5, 0x672C};
     uint8_t bytes[8];
-    start = till_start(TILL_ENCODING, t.page, 5, 5, 5);
+    start = till_start(TILL_ENCODING, t.page, TILL_REPLACING);
     o = till_encode(start.run, TABLES(&t), text, 3, 1, bytes, 8);
     printf("encode %u, read %zu, written %zu:", o.number, o.read, o.written);
     for (size_t i = 0; i < o.written; i++)
@@ -78,7 +78,7 @@ int main(int argc, char **argv)
     o = till_encode(start.run, TABLES(&t), text, 3, 2, bytes, 8);
     printf("last 2: encode %u, ended %u\n", o.number, o.run.ended);
     printf("room 3: save %u\n", till_save(start.run, line, 3).number);
-    printf("page 0: start %u, page %u\n", till_start(TILL_DECODING, 0, 5, 5, 5).number, till_start(TILL_DECODING, 0, 5, 5, 5).run.page);
+    printf("page 0: start %u, page %u\n", till_start(TILL_DECODING, 0, TILL_REPLACING).number, till_start(TILL_DECODING, 0, TILL_REPLACING).run.page);
     printf("no line: load %u\n", till_load(line, 0).number);
     t.index[0xFF] = 200; /* there are 107 blocks */
     till_fault fault = till_shape(TABLES(&t));

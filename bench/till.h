@@ -98,7 +98,12 @@ typedef struct {
         size_t singles_len, const uint16_t *pairs, size_t pairs_len, const uint8_t *index, size_t index_len, const uint16_t *blocks, \
         size_t blocks_len
 
-/* A fresh run: 0, or 17 if the direction is neither 0 nor 1, the page is 0 or a digit is not allowed. 5, 5, 5 is the standard policy. */
+/* Policies by name, as three arguments. The standard stops on an invalid code; the replacing one writes the default for every code
+ * without a character, and gets through. */
+#define TILL_STANDARD 5, 5, 0
+#define TILL_REPLACING 5, 5, 5
+
+/* A fresh run: 0, or 17 if the direction is neither 0 nor 1, the page is 0 or a digit is not allowed. */
 till_handed till_start(uint8_t direction, uint16_t page, uint8_t single, uint8_t pair, uint8_t invalid);
 
 /* One call of a decoding run: bytes to UTF-16 units. last: 0, or any other number for the text's last piece. Answers 0 to 3 or 10 to

@@ -13,7 +13,7 @@ use Rattle.codepage.specs.declared.Fault.{Fault}
 use Rattle.codepage.specs.declared.Fault.the-variants.{Good, Page, ClassesSize, SinglesSize, PairsSize, IndexSize, BlocksSize, Class, Lead, Number}
 use Rattle.engine.specs.declared.Direction.{Direction}
 use Rattle.engine.specs.declared.Direction.the-variants.{Decoding, Encoding}
-use Rattle.engine.specs.declared.Policy.{Policy}
+use Rattle.engine.specs.Policies.{digits}
 use Rattle.codepage.specs.Lent.{over}
 use Rattle.convert.specs.declared.Pending.{Pending}
 use Rattle.convert.specs.declared.Pending.the-variants.{Nothing, Byte, High}
@@ -60,16 +60,13 @@ flagOut false = 0
 unfoldable pub isRun : TillRun → Bool
 isRun r = leb (r .direction) 1 && (isPending (r .pending) && leb (r .ended) 1)
 
-abbrev pub policyOf : (single pair invalid : ℕ) → Policy
-policyOf single pair invalid = record { single = single; pair = pair; invalid = invalid }
-
 -- The run that the numbers name, on a page.
 unfoldable pub runOn : (page : ℕ) → TillRun → Run
 runOn page r =
     record {
       direction = directionIn (r .direction);
       page = page;
-      policy = policyOf (r .single) (r .pair) (r .invalid);
+      policy = digits (r .single) (r .pair) (r .invalid);
       pending = pendingIn (r .pending);
       flags = r .flags;
       read = r .read;
@@ -180,7 +177,7 @@ startOut s = handed (s .number) (s .run)
 
 unfoldable pub tillStart : (direction page single pair invalid : ℕ) → TillHanded
 tillStart direction page single pair invalid =
-    pick (leb direction 1) (startOut (startOf (directionIn direction) page (policyOf single pair invalid))) (handed 17 none)
+    pick (leb direction 1) (startOut (startOf (directionIn direction) page (digits single pair invalid))) (handed 17 none)
 
 abbrev pub loadOut : Loading → TillHanded
 loadOut l = handed (l .number) (l .run)

@@ -3,14 +3,10 @@ use mathlib.Core.List.{List}
 use mathlib.Core.Path.{_≡_}
 use Prim.Native.Nat.{ℕ}
 use Rattle.codepage.specs.Lent.{over}
-use Rattle.engine.specs.declared.Policy.{Policy}
 use Rattle.oneshot.specs.declared.Totals.{Totals}
 use Rattle.oneshot.specs.declared.Converted.{Converted}
 use Rattle.oneshot.specs.Texts.{Text, convertedNumber, convertedTotals, totalsOrNone}
 use Rattle.capi_text.specs.declared.TillText.{TillText}
-
-abbrev pub policyIn : (single pair invalid : ℕ) → Policy
-policyIn single pair invalid = record { single = single; pair = pair; invalid = invalid }
 
 -- a number and totals as C sees them
 unfoldable pub textOut : (number : ℕ) → Totals → TillText

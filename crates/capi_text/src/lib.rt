@@ -5,7 +5,8 @@ ghost use lib.ListN.{length};
 ghost use Rattle.engine.specs.declared.Direction.the-variants.{Decoding, Encoding};
 ghost use Rattle.oneshot.specs.Texts.{textOf};
 ghost use Rattle.capi.specs.Interface.{tillPage};
-ghost use Rattle.capi_text.specs.Texts.{policyIn, convertedOut, TillConverted};
+ghost use Rattle.engine.specs.Policies.{digits};
+ghost use Rattle.capi_text.specs.Texts.{convertedOut, TillConverted};
 use codepage::Numbers;
 use engine::Policy;
 use oneshot::Converted;
@@ -22,7 +23,7 @@ pub struct TillText {
 }
 
 fn policy_in(single: u8, pair: u8, invalid: u8) -> Policy
-    ensures { λ r. ⌜ r ≡ policyIn single pair invalid ⌝ }
+    ensures { λ r. ⌜ r ≡ digits single pair invalid ⌝ }
 {
     Policy {
         single,
@@ -61,7 +62,7 @@ pub extern "C" fn till_decode_text(
     text: &[u8],
     out: &mut [u16],
 ) -> TillText
-    ensures { λ r. ⌜ TillConverted (textOf Decoding (policyIn single pair invalid) (tillPage page «default_byte» «default_unit» (now (classes .entry)) (now (singles .entry)) (now (pairs .entry)) (now (index .entry)) (now (blocks .entry))) (now (text .entry)) (length (now (out .entry)))) r (now (out .entry)) (now (out .exit)) ⌝ }
+    ensures { λ r. ⌜ TillConverted (textOf Decoding (digits single pair invalid) (tillPage page «default_byte» «default_unit» (now (classes .entry)) (now (singles .entry)) (now (pairs .entry)) (now (index .entry)) (now (blocks .entry))) (now (text .entry)) (length (now (out .entry)))) r (now (out .entry)) (now (out .exit)) ⌝ }
 {
     let numbers = Numbers {
         page,
@@ -100,7 +101,7 @@ pub extern "C" fn till_encode_text(
     text: &[u16],
     out: &mut [u8],
 ) -> TillText
-    ensures { λ r. ⌜ TillConverted (textOf Encoding (policyIn single pair invalid) (tillPage page «default_byte» «default_unit» (now (classes .entry)) (now (singles .entry)) (now (pairs .entry)) (now (index .entry)) (now (blocks .entry))) (now (text .entry)) (length (now (out .entry)))) r (now (out .entry)) (now (out .exit)) ⌝ }
+    ensures { λ r. ⌜ TillConverted (textOf Encoding (digits single pair invalid) (tillPage page «default_byte» «default_unit» (now (classes .entry)) (now (singles .entry)) (now (pairs .entry)) (now (index .entry)) (now (blocks .entry))) (now (text .entry)) (length (now (out .entry)))) r (now (out .entry)) (now (out .exit)) ⌝ }
 {
     let numbers = Numbers {
         page,

@@ -5,6 +5,7 @@ use mathlib.Core.List.{List, [], _∷_, _++_}
 use mathlib.Core.Path.{_≡_}
 use Prim.Native.Nat.{ℕ}
 use Rattle.engine.specs.declared.Direction.the-variants.{Decoding, Encoding}
+use Rattle.engine.specs.Policies.{replacing}
 use Rattle.convert.specs.declared.Pending.the-variants.{Nothing, Byte, High}
 use Rattle.convert.specs.declared.Run.{Run}
 use Rattle.checkpoint.specs.Line.{wordOf, readOf}
@@ -15,7 +16,7 @@ sampleRun =
     record {
       direction = Decoding;
       page = 932;
-      policy = record { single = 5; pair = 5; invalid = 5 };
+      policy = replacing;
       pending = Byte 0x83;
       flags = 0;
       read = 512;
@@ -34,7 +35,7 @@ carryingRun =
     record {
       direction = Encoding;
       page = 7;
-      policy = record { single = 5; pair = 5; invalid = 5 };
+      policy = replacing;
       pending = High 0xD83D;
       flags = 0;
       read = 1;
@@ -79,7 +80,7 @@ longestRun =
     record {
       direction = Encoding;
       page = 65535;
-      policy = record { single = 5; pair = 5; invalid = 5 };
+      policy = replacing;
       pending = Nothing;
       flags = 15;
       read = 4294967295;
@@ -93,7 +94,7 @@ longestCarrying =
     record {
       direction = Encoding;
       page = 65535;
-      policy = record { single = 5; pair = 5; invalid = 5 };
+      policy = replacing;
       pending = High 0xDBFF;
       flags = 7;
       read = 4294967295;

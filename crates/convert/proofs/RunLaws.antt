@@ -244,6 +244,16 @@ pub refused-same : (direction : Direction) (run : Run) (p : CodePage) (piece : L
 unfolding runCall
 refused-same direction run p piece last room e = rw (ne-eqb (refusal direction run p (length piece)) 0 e)
 
+-- A RUN GOES ON UNDER ITS OWN DIGITS: no call changes them, whatever the standard policy is (CR 4).
+pub policy-stays : (direction : Direction) (run : Run) (p : CodePage) (piece : List ℕ) (last : Bool) (room : ℕ) → runCall direction run p piece last room .run .policy ≡ run .policy
+unfolding runCall acceptedCall refusedCall runAfter
+policy-stays direction run p piece last room = by-test (eqb (refusal direction run p (length piece)) 0)
+  where
+    by-test : (t : Bool)
+        → pick t (acceptedCall run piece last (fedBy direction run p piece last room)) (refusedCall (refusal direction run p (length piece)) run) .run .policy ≡ run .policy
+    by-test true = refl
+    by-test false = refl
+
 -- TOTALS NEVER OVERFLOW: those of a run that keeps the rules fit 64 bits.
 pub totals-fit : (run : Run) → validRun run ≡ true → (run .read ≤ 4294967295) × (run .written ≤ 8589934590)
 totals-fit run e = (valid-facts run e .read, by-direction (run .direction) (valid-facts run e .written))

@@ -1,4 +1,4 @@
--- The rows of document 01, of CR 2 and of CR 5 hold of the rules, the sample page has a good shape, and texts on it return or do not.
+-- The rows of document 01, of CR 2, CR 4 and CR 5 hold of the rules, the sample page has a good shape, and texts on it return or do not.
 use mathlib.Core.List.{List, [], _∷_}
 use mathlib.Core.Path.{_≡_, refl, sym, ap, _∙_, subst}
 use Prim.Native.Nat.{ℕ}
@@ -11,7 +11,7 @@ use Rattle.codepage.proofs.ShapeLaws.{shape-exact}
 use Rattle.engine.specs.declared.Direction.the-variants.{Decoding, Encoding}
 use Rattle.engine.specs.Engine.{readerOf}
 use Rattle.convert.specs.RoundTrips.{RoundTrips, UnitsReturn, BytesReturn}
-use Rattle.convert.specs.Sample.{samplePage, rows, badHalfRows, surrogateRows, carriedRefusals, AllHold}
+use Rattle.convert.specs.Sample.{samplePage, rows, standardRows, badHalfRows, surrogateRows, carriedRefusals, AllHold}
 use Rattle.convert.proofs.Computing.{shapeRules, readingRules, callRules}
 
 pub sample-good : GoodShape samplePage
@@ -22,6 +22,11 @@ sample-good = shape-exact samplePage .0 refl
 pub rows-hold : AllHold rows
 unfolding callRules
 rows-hold = (refl, (refl, (refl, (refl, (refl, (refl, (refl, (refl, (refl, (refl, (refl, (refl, (refl, (refl, (refl, (refl, tt))))))))))))))))
+
+-- THE ROWS OF CR 4.
+pub standard-rows-hold : AllHold standardRows
+unfolding callRules
+standard-rows-hold = (refl, (refl, (refl, tt)))
 
 -- THE ROWS OF CR 2.
 pub bad-halves-hold : AllHold badHalfRows

@@ -1,5 +1,5 @@
 -- Document 01, "The little page, and sixteen rows to prove": the sample page, and its rows of run calls, row 7 as amended by CR 2
--- and row 15 by CR 5; and rows of CR 2 and CR 5.
+-- and row 15 by CR 5, each under 555 by name (CR 4) unless it names digits; and rows of CR 2, CR 4 and CR 5.
 use mathlib.Core.Bool.{Bool, true, false}
 use mathlib.Core.List.{List, [], _∷_, _++_}
 use mathlib.Core.Path.{_≡_}
@@ -10,6 +10,7 @@ use Rattle.codepage.specs.Lent.{over}
 use Rattle.engine.specs.declared.Direction.{Direction}
 use Rattle.engine.specs.declared.Direction.the-variants.{Decoding, Encoding}
 use Rattle.engine.specs.declared.Policy.{Policy}
+use Rattle.engine.specs.Policies.{digits, standard, replacing}
 use Rattle.convert.specs.declared.Pending.{Pending}
 use Rattle.convert.specs.declared.Pending.the-variants.{Nothing, Byte, High}
 use Rattle.convert.specs.declared.Run.{Run}
@@ -42,10 +43,6 @@ samplePage =
           noneOf 256
           ++ (upFrom 0 0x80 ++ (noneOf 0x20 ++ (0x20 ∷ noneOf 0x5F)) ++ (set (set (noneOf 256) 0x00 0x8140) 0x01 0x8141 ++ set (noneOf 256) 0x00 0x827C));
     }
-
--- the policies of the rows, by their digits
-abbrev pub digits : (single pair invalid : ℕ) → Policy
-digits single pair invalid = record { single = single; pair = pair; invalid = invalid }
 
 -- A row: a call of a run on the sample page, with the lent output before it; what is seen of it: its answer, what it read and
 -- wrote, the lent output after it, and the new run's flags, totals, pending byte and end.
@@ -119,7 +116,7 @@ abbrev pub row4 : Row
 row4 =
     record {
       direction = Decoding;
-      run = fresh Decoding 7 (digits 5 5 5);
+      run = fresh Decoding 7 replacing;
       piece = 0x82 ∷ [];
       last = false;
       lent = ample;
@@ -140,11 +137,11 @@ row4 =
 abbrev pub rows : List Row
 rows =
     -- 1. empty: nothing, 0, ended
-    lastCall Decoding (digits 5 5 5) ample [] (allRead 0 [] (room 9) 0)
+    lastCall Decoding replacing ample [] (allRead 0 [] (room 9) 0)
     -- 2. 41: 0041
-    ∷ lastCall Decoding (digits 5 5 5) ample (0x41 ∷ []) (allRead 1 (0x0041 ∷ []) (room 8) 0)
+    ∷ lastCall Decoding replacing ample (0x41 ∷ []) (allRead 1 (0x0041 ∷ []) (room 8) 0)
     -- 3. 82 7C: 4E00
-    ∷ lastCall Decoding (digits 5 5 5) ample (0x82 ∷ 0x7C ∷ []) (allRead 2 (0x4E00 ∷ []) (room 8) 0)
+    ∷ lastCall Decoding replacing ample (0x82 ∷ 0x7C ∷ []) (allRead 2 (0x4E00 ∷ []) (room 8) 0)
     -- 4. 82 not last: 1, read 1, written 0; then 7C last: 4E00
     ∷ row4
     ∷ record {
@@ -167,17 +164,17 @@ rows =
           };
     }
     -- 5. 82: 30FB, flag 4
-    ∷ lastCall Decoding (digits 5 5 5) ample (0x82 ∷ []) (allRead 1 (0x30FB ∷ []) (room 8) 4)
+    ∷ lastCall Decoding replacing ample (0x82 ∷ []) (allRead 1 (0x30FB ∷ []) (room 8) 4)
     -- 6. 81 5A: 30FB, flag 2
-    ∷ lastCall Decoding (digits 5 5 5) ample (0x81 ∷ 0x5A ∷ []) (allRead 2 (0x30FB ∷ []) (room 8) 2)
+    ∷ lastCall Decoding replacing ample (0x81 ∷ 0x5A ∷ []) (allRead 2 (0x30FB ∷ []) (room 8) 2)
     -- 7. 81 0A 41: 30FB 000A 0041, flag 4 (CR 2)
-    ∷ lastCall Decoding (digits 5 5 5) ample (0x81 ∷ 0x0A ∷ 0x41 ∷ []) (allRead 3 (0x30FB ∷ 0x000A ∷ 0x0041 ∷ []) (room 6) 4)
+    ∷ lastCall Decoding replacing ample (0x81 ∷ 0x0A ∷ 0x41 ∷ []) (allRead 3 (0x30FB ∷ 0x000A ∷ 0x0041 ∷ []) (room 6) 4)
     -- 8. 83 41: 30FB 0041, flag 4
-    ∷ lastCall Decoding (digits 5 5 5) ample (0x83 ∷ 0x41 ∷ []) (allRead 2 (0x30FB ∷ 0x0041 ∷ []) (room 7) 4)
+    ∷ lastCall Decoding replacing ample (0x83 ∷ 0x41 ∷ []) (allRead 2 (0x30FB ∷ 0x0041 ∷ []) (room 7) 4)
     -- 9. 80, policy 655: F180, flag 1
     ∷ lastCall Decoding (digits 6 5 5) ample (0x80 ∷ []) (allRead 1 (0xF180 ∷ []) (room 8) 1)
     -- 10. 41 42, room 1: 0041, answer 2, read 1
-    ∷ lastCall Decoding (digits 5 5 5) (room 1) (0x41 ∷ 0x42 ∷ [])
+    ∷ lastCall Decoding replacing (room 1) (0x41 ∷ 0x42 ∷ [])
     (record {
       number = 2;
       read = 1;
@@ -203,7 +200,7 @@ rows =
       ended = true;
     })
     -- 12. encode 3000, room 1: answer 2, read 0, byte untouched
-    ∷ lastCall Encoding (digits 5 5 5) (0xEE ∷ []) (0x3000 ∷ [])
+    ∷ lastCall Encoding replacing (0xEE ∷ []) (0x3000 ∷ [])
     (record {
       number = 2;
       read = 0;
@@ -216,11 +213,31 @@ rows =
       ended = false;
     })
     -- 13. encode 3000, room 2: 81 40
-    ∷ lastCall Encoding (digits 5 5 5) (room 2) (0x3000 ∷ []) (allRead 1 (0x81 ∷ 0x40 ∷ []) [] 0)
+    ∷ lastCall Encoding replacing (room 2) (0x3000 ∷ []) (allRead 1 (0x81 ∷ 0x40 ∷ []) [] 0)
     -- 14. encode 00A0: 20, no flag
-    ∷ lastCall Encoding (digits 5 5 5) ample (0x00A0 ∷ []) (allRead 1 (0x20 ∷ []) (room 8) 0)
+    ∷ lastCall Encoding replacing ample (0x00A0 ∷ []) (allRead 1 (0x20 ∷ []) (room 8) 0)
     -- 15. encode D83D DE00: 3F, flag 1 (CR 5)
-    ∷ lastCall Encoding (digits 5 5 5) ample (0xD83D ∷ 0xDE00 ∷ []) (allRead 2 (0x3F ∷ []) (room 8) 1)
+    ∷ lastCall Encoding replacing ample (0xD83D ∷ 0xDE00 ∷ []) (allRead 2 (0x3F ∷ []) (room 8) 1)
+    ∷ []
+
+-- CR 4: under the standard 82 at the text's end stops: 3, read 1, flags 12, nothing written, ended. Under 555, asked for by name,
+-- it is replaced, as before; and the standard goes on over an undefined single and an undefined pair.
+abbrev pub standardRows : List Row
+standardRows =
+    lastCall Decoding standard ample (0x82 ∷ [])
+    (record {
+      number = 3;
+      read = 1;
+      written = 0;
+      lent = ample;
+      flags = 12;
+      totalRead = 1;
+      totalWritten = 0;
+      pending = Nothing;
+      ended = true;
+    })
+    ∷ lastCall Decoding replacing ample (0x82 ∷ []) (allRead 1 (0x30FB ∷ []) (room 8) 4)
+    ∷ lastCall Decoding standard ample (0x80 ∷ 0x81 ∷ 0x5A ∷ 0x41 ∷ []) (allRead 4 (0x30FB ∷ 0x30FB ∷ 0x0041 ∷ []) (room 6) 3)
     ∷ []
 
 -- a run that has read one unit and carries it
@@ -246,7 +263,7 @@ carriedCall policy lent piece seen = record { direction = Decoding; run = carryi
 abbrev pub badHalfRows : List Row
 badHalfRows =
     -- 82 carried, 0A, room 1: the lead is settled, 0A does not fit and stays unread
-    carriedCall (digits 5 5 5) (room 1) (0x0A ∷ [])
+    carriedCall replacing (room 1) (0x0A ∷ [])
     (record {
       number = 2;
       read = 0;
@@ -259,7 +276,7 @@ badHalfRows =
       ended = false;
     })
     -- room 0: nothing fits, the lead stays carried
-    ∷ carriedCall (digits 5 5 5) [] (0x0A ∷ [])
+    ∷ carriedCall replacing [] (0x0A ∷ [])
     (record {
       number = 2;
       read = 0;
@@ -298,7 +315,7 @@ badHalfRows =
       ended = true;
     })
     -- room enough: the lead, and 0A by itself
-    ∷ carriedCall (digits 5 5 5) ample (0x0A ∷ [])
+    ∷ carriedCall replacing ample (0x0A ∷ [])
     (record {
       number = 0;
       read = 1;
@@ -311,7 +328,7 @@ badHalfRows =
       ended = false;
     })
     -- 81, a lead that may not be second: taken with it, not carried
-    ∷ carriedCall (digits 5 5 5) (room 1) (0x81 ∷ [])
+    ∷ carriedCall replacing (room 1) (0x81 ∷ [])
     (record {
       number = 0;
       read = 1;
@@ -324,8 +341,8 @@ badHalfRows =
       ended = false;
     })
     -- 82 7F, marked last: 30FB 007F; 82 80: one invalid code of two bytes
-    ∷ lastCall Decoding (digits 5 5 5) ample (0x82 ∷ 0x7F ∷ []) (allRead 2 (0x30FB ∷ 0x007F ∷ []) (room 7) 4)
-    ∷ lastCall Decoding (digits 5 5 5) ample (0x82 ∷ 0x80 ∷ []) (allRead 2 (0x30FB ∷ []) (room 8) 4)
+    ∷ lastCall Decoding replacing ample (0x82 ∷ 0x7F ∷ []) (allRead 2 (0x30FB ∷ 0x007F ∷ []) (room 7) 4)
+    ∷ lastCall Decoding replacing ample (0x82 ∷ 0x80 ∷ []) (allRead 2 (0x30FB ∷ []) (room 8) 4)
     ∷ []
 
 -- a call on an encoding run that carries D83D
@@ -339,7 +356,7 @@ surrogateRows =
     -- D83D not last, room 0: 1, carried
     record {
       direction = Encoding;
-      run = fresh Encoding 7 (digits 5 5 5);
+      run = fresh Encoding 7 replacing;
       piece = 0xD83D ∷ [];
       last = false;
       lent = [];
@@ -357,7 +374,7 @@ surrogateRows =
           };
     }
     -- D83D carried, DE00 last: one 3F, flag 1
-    ∷ highCall (digits 5 5 5) true (room 1) (0xDE00 ∷ [])
+    ∷ highCall replacing true (room 1) (0xDE00 ∷ [])
     (record {
       number = 0;
       read = 1;
@@ -370,7 +387,7 @@ surrogateRows =
       ended = true;
     })
     -- 0041 last, room 1: D83D is settled alone, flag 4; 0041 does not fit and stays unread
-    ∷ highCall (digits 5 5 5) true (room 1) (0x0041 ∷ [])
+    ∷ highCall replacing true (room 1) (0x0041 ∷ [])
     (record {
       number = 2;
       read = 0;
@@ -383,7 +400,7 @@ surrogateRows =
       ended = false;
     })
     -- D83D again, not last: the first is settled alone, the second is carried
-    ∷ highCall (digits 5 5 5) false (room 1) (0xD83D ∷ [])
+    ∷ highCall replacing false (room 1) (0xD83D ∷ [])
     (record {
       number = 1;
       read = 1;
@@ -409,7 +426,7 @@ surrogateRows =
       ended = true;
     })
     -- an empty piece marked last: D83D at the text's end is invalid
-    ∷ highCall (digits 5 5 5) true ample []
+    ∷ highCall replacing true ample []
     (record {
       number = 0;
       read = 0;
@@ -422,9 +439,9 @@ surrogateRows =
       ended = true;
     })
     -- DE00 D83D: two that are invalid
-    ∷ lastCall Encoding (digits 5 5 5) ample (0xDE00 ∷ 0xD83D ∷ []) (allRead 2 (0x3F ∷ 0x3F ∷ []) (room 7) 4)
+    ∷ lastCall Encoding replacing ample (0xDE00 ∷ 0xD83D ∷ []) (allRead 2 (0x3F ∷ 0x3F ∷ []) (room 7) 4)
     -- DBFF DFFF and D800 DC00 are pairs; D7FF and E000 are no surrogates
-    ∷ lastCall Encoding (digits 5 5 5) ample (0xDBFF ∷ 0xDFFF ∷ 0xD800 ∷ 0xDC00 ∷ []) (allRead 4 (0x3F ∷ 0x3F ∷ []) (room 7) 1)
+    ∷ lastCall Encoding replacing ample (0xDBFF ∷ 0xDFFF ∷ 0xD800 ∷ 0xDC00 ∷ []) (allRead 4 (0x3F ∷ 0x3F ∷ []) (room 7) 1)
     ∷ lastCall Encoding (digits 5 5 0) ample (0xD7FF ∷ 0xE000 ∷ []) (allRead 2 (0x3F ∷ 0x3F ∷ []) (room 7) 1)
     ∷ []
 
@@ -456,15 +473,15 @@ refusedRow direction run =
 abbrev pub carriedRefusals : List Row
 carriedRefusals =
     -- a low surrogate; a unit that is none; the units beside the high ones
-    refusedRow Encoding (carrying Encoding (High 0xDC00) (digits 5 5 5))
-    ∷ refusedRow Encoding (carrying Encoding (High 0x0041) (digits 5 5 5))
-    ∷ refusedRow Encoding (carrying Encoding (High 0xD7FF) (digits 5 5 5))
+    refusedRow Encoding (carrying Encoding (High 0xDC00) replacing)
+    ∷ refusedRow Encoding (carrying Encoding (High 0x0041) replacing)
+    ∷ refusedRow Encoding (carrying Encoding (High 0xD7FF) replacing)
     -- a byte in encoding, a unit in decoding
-    ∷ refusedRow Encoding (carrying Encoding (Byte 0x82) (digits 5 5 5))
-    ∷ refusedRow Decoding (carrying Decoding (High 0xD83D) (digits 5 5 5))
+    ∷ refusedRow Encoding (carrying Encoding (Byte 0x82) replacing)
+    ∷ refusedRow Decoding (carrying Decoding (High 0xD83D) replacing)
     -- read 1, written 1; ended
-    ∷ refusedRow Encoding (record { direction = Encoding; page = 7; policy = digits 5 5 5; pending = High 0xD83D; flags = 0; read = 1; written = 1; ended = false })
-    ∷ refusedRow Encoding (record { direction = Encoding; page = 7; policy = digits 5 5 5; pending = High 0xD83D; flags = 0; read = 1; written = 0; ended = true })
+    ∷ refusedRow Encoding (record { direction = Encoding; page = 7; policy = replacing; pending = High 0xD83D; flags = 0; read = 1; written = 1; ended = false })
+    ∷ refusedRow Encoding (record { direction = Encoding; page = 7; policy = replacing; pending = High 0xD83D; flags = 0; read = 1; written = 0; ended = true })
     ∷ []
 
 abbrev pub AllHold : List Row → Type 0

@@ -8,4 +8,5 @@ pub mod EncodeLaws
 pub mod CodeLaws
 pub mod AnswerLaws
 pub mod DigitLaws
+pub mod ReplacedLaws
 pub mod BoundLaws

@@ -105,6 +105,15 @@ feed v last room units = feedFrom v last room none units
 unfoldable pub whole : Reader → Policy → ℕ → List ℕ → Fed
 whole r policy default text = takeCodes (converter r policy default) endless (codes r text) none
 
+-- How many of some codes have no character.
+abbrev pub lacks : Lookup → ℕ
+lacks (Found value) = 0
+lacks (Lacking kind) = 1
+
+unfoldable pub lackingIn : List Code → ℕ
+lackingIn [] = 0
+lackingIn (k ∷ ks) = lacks (k .means) + lackingIn ks
+
 -- ---- The two directions
 
 abbrev pub readerOf : Direction → CodePage → Reader

@@ -47,6 +47,17 @@ highestSingle Encoding = 5
 unfoldable pub policyAllowed : Direction → Policy → Bool
 policyAllowed direction policy = leb (policy .single) (highestSingle direction) && (leb (policy .pair) 5 && leb (policy .invalid) 5)
 
--- the standard policy is 555
+abbrev pub digits : (single pair invalid : ℕ) → Policy
+digits single pair invalid = record { single = single; pair = pair; invalid = invalid }
+
+-- the standard policy is 550: it stops on an invalid code (CR 4)
 abbrev pub standard : Policy
-standard = record { single = 5; pair = 5; invalid = 5 }
+standard = digits 5 5 0
+
+-- 555, by name for programs that must get through: the default is written for every code without a character
+abbrev pub replacing : Policy
+replacing = digits 5 5 5
+
+-- 111: every code without a character is skipped
+abbrev pub skipping : Policy
+skipping = digits 1 1 1

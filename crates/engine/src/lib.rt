@@ -2,7 +2,7 @@
 // first paragraph of "One call of a run".) The functions of the modules are inner: the run calls above call them on tables whose
 // shape was found good. They are no public calls.
 ghost use mathlib.Core.Path.{_≡_};
-ghost use Rattle.engine.specs.Policies.{standard};
+ghost use Rattle.engine.specs.Policies.{digits, standard, replacing, skipping};
 
 pub mod policies;
 pub mod progress;
@@ -20,15 +20,37 @@ pub struct Policy {
     pub invalid: u8,
 }
 
+// A policy by its digits.
+fn with_digits(single: u8, pair: u8, invalid: u8) -> Policy
+    ensures { λ r. ⌜ r ≡ digits single pair invalid ⌝ }
+{
+    Policy {
+        single,
+        pair,
+        invalid,
+    }
+}
+
 impl Policy {
-    // The standard policy, 555.
+    // The standard policy, 550: it stops on an invalid code.
     pub fn standard() -> Policy
         ensures { λ r. ⌜ r ≡ standard ⌝ }
     {
-        Policy {
-            single: 5,
-            pair: 5,
-            invalid: 5,
-        }
+        with_digits(5, 5, 0)
+    }
+
+    // 555, for programs that must get through: it writes the default for every code without a character.
+    pub fn replacing() -> Policy
+        ensures { λ r. ⌜ r ≡ replacing ⌝ }
+    {
+        with_digits(5, 5, 5)
+    }
+
+    // 111: it skips every code without a character. A text gives as many units (encoding: bytes) more under 555 as it has such
+    // codes (`replaced-are-more`).
+    pub fn skipping() -> Policy
+        ensures { λ r. ⌜ r ≡ skipping ⌝ }
+    {
+        with_digits(1, 1, 1)
     }
 }

@@ -1,6 +1,6 @@
 // Numbers about files: places and sizes, the blocks of an input. The bytes of UTF-16 units are in `utf16`.
 ghost use mathlib.Core.Path.{_≡_};
-ghost use Prim.Native.Nat.{_-_, _≤_, min};
+ghost use Prim.Native.Nat.{_+_, _-_, _≤_, min};
 ghost use lib.IntN.{pos};
 ghost use Rattle.layout.specs.Files.{Front, sizeOf, unitsIn, isWhole, placeOf, blockLen, isFinal, blockCount};
 
@@ -15,6 +15,16 @@ fn least(a: usize, b: usize) -> usize
     ensures { λ r. ⌜ r ≡ min a b ⌝ }
 {
     if a < b { a } else { b }
+}
+
+// The sum, or the greatest number where it is too large. No file has so many units.
+pub fn sum(a: u64, b: u64) -> u64
+    ensures { λ r. ⌜ r ≡ min (a + b) 18446744073709551615 ⌝ }
+{
+    if 18446744073709551615 - a < b {
+        return 18446744073709551615;
+    }
+    a + b
 }
 
 // The smaller of a count and a slice's length, so that it counts elements at the front of the slice.

@@ -7,6 +7,7 @@ ghost use Rattle.checkpoint.specs.Line.{hexByte};
 ghost use Rattle.print.specs.Prints.{Printed, hexOfByte, hexOfUnit, hexRun};
 use convert::Direction;
 use convert::Pending;
+use convert::Policy;
 use convert::Run;
 
 // A byte.
@@ -139,15 +140,20 @@ fn put_ending(ended: bool, out: &mut [u8], at: usize) -> usize {
     put(b" on\n", out, at)
 }
 
+// The three digits, each behind a space.
+pub fn put_policy(policy: Policy, out: &mut [u8], at: usize) -> usize {
+    let end = put_number(policy.single as u64, out, at);
+    let end = put_number(policy.pair as u64, out, end);
+    put_number(policy.invalid as u64, out, end)
+}
+
 // Direction, page and the three digits.
 fn put_start(run: Run, out: &mut [u8], at: usize) -> usize {
     let direction = run.direction;
     let policy = run.policy;
     let end = put_direction(direction, out, at);
     let end = put_number(run.page as u64, out, end);
-    let end = put_number(policy.single as u64, out, end);
-    let end = put_number(policy.pair as u64, out, end);
-    put_number(policy.invalid as u64, out, end)
+    put_policy(policy, out, end)
 }
 
 // Flags, read and written.

@@ -11,6 +11,7 @@ pub enum Command {
     Units,
     FillBytes,
     FillUnits,
+    Standard,
     Start,
     Run,
     Decode,
@@ -77,6 +78,9 @@ fn named(word: &[u8]) -> Command {
     }
     if words::is_word(word, b"fillunits") {
         return Command::FillUnits;
+    }
+    if words::is_word(word, b"standard") {
+        return Command::Standard;
     }
     if words::is_word(word, b"start") {
         return Command::Start;

@@ -3,6 +3,7 @@
 ghost use Rattle.io.specs.Counts.{Counts};
 use checkpoint::Restored;
 use codepage::Numbers;
+use convert::Policy;
 use convert::Run;
 use convert::Started;
 use image::Loaded;
@@ -202,6 +203,17 @@ fn fill_units(
     put_units_count(count, state, out, at)
 }
 
+// `standard`: the digits of the standard policy.
+fn standard(line: &[u8], from: usize, state: State, out: &mut [u8], at: usize) -> Next {
+    if !words::at_end(line, from) {
+        return state.answered(print::put_refusal(out, at));
+    }
+    let policy = Policy::standard();
+    let end = print::put(b"standard", out, at);
+    let end = print::put_policy(policy, out, end);
+    state.answered(print::put_end(out, end))
+}
+
 // `start D PAGE POLICY`.
 fn start(line: &[u8], from: usize, state: State, out: &mut [u8], at: usize) -> Next {
     let letter = words::direction_at(line, from);
@@ -337,7 +349,7 @@ pub fn run_text(
     }
 }
 
-// Runs a command that sets the run in hand, or refuses a line that is no command.
+// Runs a command that sets the run in hand or tells the standard policy, or refuses a line that is no command.
 pub fn run_run(
     command: Command,
     line: &[u8],
@@ -349,6 +361,7 @@ pub fn run_run(
     let at = next.at;
     let from = command::second(line);
     match command {
+        Command::Standard => standard(line, from, state, out, at),
         Command::Start => start(line, from, state, out, at),
         Command::Run => run(line, from, state, out, at),
         Command::Load => load(line, from, state, buffer, out, at),

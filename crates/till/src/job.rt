@@ -5,6 +5,8 @@ use crate::report;
 use crate::resume;
 use crate::resume::Beginning;
 use crate::resume::Origin;
+use crate::stops;
+use crate::stops::Stop;
 use crate::tables;
 use codepage::Fault;
 use codepage::Numbers;
@@ -27,6 +29,8 @@ pub struct Job {
     pub last: bool,
     // Whether there is a checkpoint file.
     pub saves: bool,
+    // Whether the characters that are replaced are counted: an encoding under 555 alone.
+    pub counts: bool,
 }
 
 // How a job ended.
@@ -86,6 +90,15 @@ fn names_apart(job: Job, table: &[u8], input: &[u8], output: &[u8], checkpoint: 
     true
 }
 
+// Sums up a run: all is read, or it was stopped.
+fn told(run: Run, stop: Stop, checkpoint: &[u8]) -> Ending {
+    report::summary(run, stop, checkpoint);
+    if stops::is_stopped(run) {
+        return Ending::Stopped;
+    }
+    Ending::Done
+}
+
 // The end of a job whose blocks are done: the last line is saved and the run summed up.
 fn finished(job: Job, turn: Turn, target: i32, output: &[u8], checkpoint: &[u8]) -> Ending {
     let run = turn.run;
@@ -98,11 +111,12 @@ fn finished(job: Job, turn: Turn, target: i32, output: &[u8], checkpoint: &[u8])
         }
         files::sync_folder(checkpoint);
     }
-    report::summary(run);
-    if report::is_stopped(run) {
-        return Ending::Stopped;
+    if job.counts {
+        report::preview(run, turn.replaced);
+        return Ending::Done;
     }
-    Ending::Done
+    let stop = turn.stop;
+    told(run, stop, checkpoint)
 }
 
 // Whether the units that a run reads have two bytes; those that it writes have the other size.
@@ -179,13 +193,9 @@ fn with_run(
 }
 
 // The end of a job whose run had ended before.
-fn nothing_to_do(run: Run) -> Ending {
+fn nothing_to_do(run: Run, checkpoint: &[u8]) -> Ending {
     messages::say(b"tillbox: nothing to do: the run of the checkpoint has ended\n");
-    report::summary(run);
-    if report::is_stopped(run) {
-        return Ending::Stopped;
-    }
-    Ending::Done
+    told(run, stops::none(), checkpoint)
 }
 
 // From an input of `total` units on.
@@ -234,7 +244,7 @@ fn with_total(
             output,
             checkpoint,
         ),
-        Origin::Finished(run) => nothing_to_do(run),
+        Origin::Finished(run) => nothing_to_do(run, checkpoint),
         Origin::Failed => Ending::Failed,
     }
 }

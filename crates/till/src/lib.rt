@@ -4,4 +4,5 @@ pub mod blocks;
 pub mod job;
 pub mod report;
 mod resume;
+pub mod stops;
 pub mod tables;

@@ -1,6 +1,7 @@
 // Where a job begins: a fresh run, or the run of its checkpoint.
 use crate::job::Job;
 use crate::report;
+use crate::stops;
 use checkpoint::Restored;
 use codepage::Numbers;
 use convert::Direction;
@@ -112,9 +113,7 @@ fn note_policy(job: Job, run: Run) {
         return;
     }
     messages::say(b"tillbox: note: the run goes on under its own policy, ");
-    messages::say_number(policy.single as u64);
-    messages::say_number(policy.pair as u64);
-    messages::say_number(policy.invalid as u64);
+    report::say_policy(policy);
     messages::say(b"\n");
 }
 
@@ -142,7 +141,7 @@ fn ended(run: Run, total: u64, path: &[u8]) -> Origin {
         return beyond(path);
     }
     messages::refuse(15, path);
-    report::summary(run);
+    report::summary(run, stops::none(), path);
     Origin::Failed
 }
 

@@ -3,18 +3,24 @@ use crate::cutting;
 use crate::cutting::Cut;
 use crate::records::Progress;
 use codepage::Numbers;
+use convert::Outcome;
 use convert::Pending;
 use convert::Run;
 use fields::Held;
 use storage::files;
 use storage::messages;
 use till::blocks::is_taken;
+use till::blocks::stop_of_decoding;
 use till::report;
+use till::stops;
+use till::stops::Stop;
 
-// After some blocks: the run, what is held of a field, and how far the file is; whether a field has too many units, and then the
-// byte that its first unit over the limit is read from; and whether something failed, whose reason was said.
+// After some blocks: the run, the code that it was stopped at, what is held of a field, and how far the file is; whether a field
+// has too many units, and then the byte that its first unit over the limit is read from; and whether something failed, whose reason
+// was said.
 pub struct Turn {
     pub run: Run,
+    pub stop: Stop,
     pub state: Held,
     pub progress: Progress,
     pub refused: bool,
@@ -86,6 +92,7 @@ fn byte_at(
 fn broken(run: Run, state: Held, progress: Progress) -> Turn {
     Turn {
         run,
+        stop: stops::none(),
         state,
         progress,
         refused: false,
@@ -95,17 +102,64 @@ fn broken(run: Run, state: Held, progress: Progress) -> Turn {
 }
 
 // A block whose units were cut, as far as they could be.
-fn settled(run: Run, cut: Cut, place: u64) -> Turn {
+fn settled(run: Run, stop: Stop, cut: Cut, place: u64) -> Turn {
     let state = cut.state;
     let progress = cut.progress;
     Turn {
         run,
+        stop,
         state,
         progress,
         refused: cut.refused,
         place,
         failed: progress.failed,
     }
+}
+
+// A block whose units were cut, with the code that its call stopped the run at, or the place of a field that is too long: `before`
+// is the run before the call.
+fn told(
+    before: Run,
+    numbers: Numbers,
+    classes: &[u8],
+    singles: &[u16],
+    pairs: &[u16],
+    index: &[u8],
+    blocks: &[u16],
+    block: &[u8],
+    last: bool,
+    outcome: Outcome,
+    cut: Cut,
+) -> Turn {
+    let after = outcome.run;
+    if !cut.refused {
+        let stop = stop_of_decoding(
+            before,
+            numbers,
+            classes,
+            singles,
+            pairs,
+            index,
+            blocks,
+            block,
+            outcome,
+        );
+        return settled(after, stop, cut, 0);
+    }
+    let held = cut.state;
+    let place = byte_at(
+        before,
+        numbers,
+        classes,
+        singles,
+        pairs,
+        index,
+        blocks,
+        block,
+        last,
+        over_limit(cut.read, held.count),
+    );
+    settled(after, stops::none(), cut, place)
 }
 
 // Decodes a block and cuts its units.
@@ -159,12 +213,7 @@ fn cut_block(
         target,
         output,
     );
-    if !cut.refused {
-        return settled(after, cut, 0);
-    }
-    let held = cut.state;
-    let before = over_limit(cut.read, held.count);
-    let place = byte_at(
+    told(
         run,
         numbers,
         classes,
@@ -174,9 +223,9 @@ fn cut_block(
         blocks,
         block,
         last,
-        before,
-    );
-    settled(after, cut, place)
+        outcome,
+        cut,
+    )
 }
 
 // The next block.
@@ -297,6 +346,7 @@ pub fn all_blocks(
     }
     Turn {
         run,
+        stop: stops::none(),
         state,
         progress: so_far,
         refused: false,

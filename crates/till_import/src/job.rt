@@ -13,7 +13,7 @@ use storage::files;
 use storage::messages;
 use till::job::Ending;
 use till::job::named_twice;
-use till::report::is_stopped;
+use till::stops::is_stopped;
 use till::tables;
 
 // Whether the records file has a name of its own.
@@ -38,7 +38,7 @@ fn broken_off(turn: Turn, out: &[u16], target: i32, input: &[u8], output: &[u8])
         return Ending::Failed;
     }
     report::summary(run, progress);
-    report::stopped(run, progress);
+    report::stopped(turn);
     Ending::Stopped
 }
 

@@ -1,6 +1,7 @@
 // The records file: fields put into an output block as CSV, and the block written when it is nearly full. The file is UTF-16LE
 // with its mark first.
 use csv::Put;
+use layout::sum;
 use storage::files;
 use storage::messages;
 
@@ -21,14 +22,6 @@ pub struct Progress {
     pub whole: u64,
     // Whether something could not be written; the reason was said.
     pub failed: bool,
-}
-
-// The sum, or the greatest number where it is too large. No file has so many units.
-pub fn sum(a: u64, b: u64) -> u64 {
-    if 18446744073709551615 - a < b {
-        return 18446744073709551615;
-    }
-    a + b
 }
 
 fn failed(progress: Progress) -> Progress {

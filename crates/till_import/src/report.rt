@@ -1,8 +1,8 @@
 // What is said at the end of an import.
 use crate::blocks::Turn;
-use crate::records;
 use crate::records::Progress;
 use convert::Run;
+use layout::sum;
 use storage::messages::refuse;
 use storage::messages::say;
 use storage::messages::say_number;
@@ -11,9 +11,9 @@ use till::report;
 // The record and the field at hand, counted from 1.
 fn say_at_hand(progress: Progress) {
     say(b"record ");
-    say_number(records::sum(progress.records, 1));
+    say_number(sum(progress.records, 1));
     say(b", field ");
-    say_number(records::sum(progress.inside, 1));
+    say_number(sum(progress.inside, 1));
 }
 
 // A field that has too many units: which one, where, and what to do.
@@ -44,10 +44,16 @@ pub fn summary(run: Run, progress: Progress) {
 }
 
 // Where a run was stopped by its policy: the record at hand is not in the file.
-pub fn stopped(run: Run, progress: Progress) {
-    say(b"tillbox: stopped by policy in ");
+pub fn stopped(turn: Turn) {
+    let run = turn.run;
+    let policy = run.policy;
+    let progress = turn.progress;
+    let stop = turn.stop;
+    say(b"tillbox: stopped by policy ");
+    report::say_policy(policy);
+    say(b" in ");
     say_at_hand(progress);
-    say(b"; the next unread byte is at ");
-    say_number(run.read);
-    say(b"\n");
+    say(b",");
+    report::say_place(run, stop);
+    report::say_way_on();
 }

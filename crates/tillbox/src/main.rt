@@ -1,10 +1,13 @@
-// tillbox: converts whole files between a till's code page bytes and UTF-16LE, with checkpoints, and imports a journal's records.
+// tillbox: converts whole files between a till's code page bytes and UTF-16LE, with checkpoints, imports a journal's records, and
+// previews a receipt.
 // What is said goes to standard error; standard output has one last word: done, stopped or failed.
 mod files;
 mod options;
 mod usage;
 
+use crate::options::Options;
 use convert::Direction;
+use convert::Policy;
 use libc::STDERR_FILENO;
 use libc::STDOUT_FILENO;
 use till::job;
@@ -49,8 +52,41 @@ fn convert_files(direction: Direction) -> Ending {
         asked: chosen.asked,
         last: chosen.last || !saves,
         saves,
+        counts: false,
     };
     files::with_table(job, first)
+}
+
+// The receipt that the printer would get. It gets through, under 555 by name, and counts what it replaces (CR 4).
+fn preview_receipt() -> Ending {
+    let chosen = options::chosen();
+    if chosen.asked || chosen.last {
+        return misused(
+            b"preview has no words before the names: it encodes the whole ledger, under policy 555",
+        );
+    }
+    let first = chosen.next;
+    if options::names_from(first) != 3 {
+        return misused(b"three names of files are asked for");
+    }
+    let job = job::Job {
+        direction: Direction::Encoding,
+        policy: Policy::replacing(),
+        asked: false,
+        last: true,
+        saves: false,
+        counts: true,
+    };
+    files::with_table(job, first)
+}
+
+// The policy of an import: the one that was asked for, or 555 by name, so that it gets through a damaged night (CR 4).
+fn import_policy(chosen: Options) -> Policy {
+    if chosen.asked {
+        let policy = chosen.policy;
+        return policy;
+    }
+    Policy::replacing()
 }
 
 fn import_files() -> Ending {
@@ -65,8 +101,7 @@ fn import_files() -> Ending {
     if options::names_from(first) != 3 {
         return misused(b"three names of files are asked for");
     }
-    let policy = chosen.policy;
-    files::import_table(policy, first)
+    files::import_table(import_policy(chosen), first)
 }
 
 fn print_shape() -> Ending {
@@ -89,6 +124,9 @@ fn command() -> Ending {
     }
     if options::is_word(1, b"import") {
         return import_files();
+    }
+    if options::is_word(1, b"preview") {
+        return preview_receipt();
     }
     if options::is_word(1, b"shape") {
         return print_shape();

@@ -1,7 +1,7 @@
 // The words before the names of the files: `last` and `policy DDD`.
 use convert::Policy;
 
-// What was chosen, and which argument is the first name.
+// What was chosen, and which argument is the first name. The policy is the standard one if none was asked for.
 pub struct Options {
     pub last: bool,
     pub policy: Policy,

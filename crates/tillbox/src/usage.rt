@@ -2,11 +2,12 @@
 pub fn put(fd: i32) {
     io::write_all(
         fd,
-        b"tillbox converts a till's journal to UTF-16LE and back, and imports its records.\n\n",
+        b"tillbox converts a till's journal to UTF-16LE and back, imports its records and previews receipts.\n\n",
     );
     put_commands(fd);
     put_words(fd);
     put_import(fd);
+    put_preview(fd);
     put_checkpoints(fd);
     put_ending(fd);
 }
@@ -21,6 +22,7 @@ fn put_commands(fd: i32) {
         b"  tillbox encode [last] [policy DDD] TABLE LEDGER RECEIPT [CHECKPOINT]\n",
     );
     io::write_all(fd, b"  tillbox import [policy DDD] TABLE JOURNAL RECORDS\n");
+    io::write_all(fd, b"  tillbox preview TABLE LEDGER RECEIPT\n");
     io::write_all(fd, b"  tillbox shape TABLE\n");
     io::write_all(fd, b"  tillbox help\n\n");
 }
@@ -36,7 +38,11 @@ fn put_words(fd: i32) {
     );
     io::write_all(
         fd,
-        b"policy DDD: what is done with undefined singles, undefined pairs and invalid codes; standard 555.\n",
+        b"policy DDD: what is done with undefined singles, undefined pairs and invalid codes. The standard is 550:\n",
+    );
+    io::write_all(
+        fd,
+        b"it stops at an invalid code. 555 replaces it and gets through; import and preview use it.\n",
     );
     io::write_all(
         fd,
@@ -55,8 +61,17 @@ fn put_import(fd: i32) {
     );
     io::write_all(
         fd,
-        b"longer one, or a digit 0, ends the import, the records before it are whole in RECORDS.\n\n",
+        b"longer one, or a digit 0, ends the import, the records before it are whole in RECORDS. Its policy is 555\n",
     );
+    io::write_all(fd, b"if none is named.\n\n");
+}
+
+fn put_preview(fd: i32) {
+    io::write_all(
+        fd,
+        b"preview encodes the whole LEDGER under 555 into the bytes that the printer would get, and says how many\n",
+    );
+    io::write_all(fd, b"characters were replaced.\n\n");
 }
 
 fn put_checkpoints(fd: i32) {
@@ -86,6 +101,6 @@ fn put_ending(fd: i32) {
     );
     io::write_all(
         fd,
-        b"done (all is read), stopped (by a digit 0) or failed (the reason was said).\n",
+        b"done (all is read), stopped (by a digit 0: the place is said) or failed (the reason was said).\n",
     );
 }

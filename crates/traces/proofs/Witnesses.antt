@@ -10,12 +10,13 @@ use native.Mathlib.Omega.{arith}
 use lib.ListN.{length, replicate, length-replicate}
 use Rattle.codepage.specs.CodePage.{CodePage}
 use Rattle.engine.specs.declared.Direction.{Direction}
+use Rattle.engine.specs.Policies.{digits, replacing}
 use Rattle.engine.specs.declared.Direction.the-variants.{Decoding, Encoding}
 use Rattle.engine.specs.declared.Policy.{Policy}
 use Rattle.convert.specs.declared.Run.{Run}
 use Rattle.convert.specs.Runs.{readLimit, fresh, startOf}
 use Rattle.convert.specs.Calls.{Called, refusal, refusedCall}
-use Rattle.convert.specs.Sample.{samplePage, digits, room, Row, rows, AllHold as RowsHold}
+use Rattle.convert.specs.Sample.{samplePage, room, Row, rows, AllHold as RowsHold}
 use Rattle.convert.proofs.Computing.{callRules}
 use Rattle.convert.proofs.SampleRows.{sample-good, rows-hold}
 use Rattle.convert.proofs.RefusalLaws.{refusals-exact}
@@ -161,11 +162,11 @@ too-long : MeetsNumber (onSample tooMany) 11
 unfolding opened says play Allowed AllAllowed
 too-long =
     meets (onSample tooMany) long-proper 11 [] (feeding tooMany true (room 0)) (([], sym (append-nil tooMany), λ e. refl), tt)
-    (ap (λ (c : Called). c .number) (refused-same Decoding (fresh Decoding 7 (digits 5 5 5)) samplePage tooMany true 0 (λ z. omega (arith, z, refused)))
+    (ap (λ (c : Called). c .number) (refused-same Decoding (fresh Decoding 7 replacing) samplePage tooMany true 0 (λ z. omega (arith, z, refused)))
     ∙ unfold refusedCall in refused)
   where
-    refused : refusal Decoding (fresh Decoding 7 (digits 5 5 5)) samplePage (length tooMany) ≡ 11
-    refused = refusals-exact Decoding (fresh Decoding 7 (digits 5 5 5)) samplePage (length tooMany) .too-long .1 (sample-good, omega (arith, length-replicate {A = ℕ} 65537 0x41))
+    refused : refusal Decoding (fresh Decoding 7 replacing) samplePage (length tooMany) ≡ 11
+    refused = refusals-exact Decoding (fresh Decoding 7 replacing) samplePage (length tooMany) .too-long .1 (sample-good, omega (arith, length-replicate {A = ℕ} 65537 0x41))
 
 -- A TRACE FOR EACH NUMBER that a list can meet.
 pub numbers-met : MeetsNumber (onSample (0x41 ∷ [])) 0 × MeetsNumber (onSample (0x82 ∷ [])) 1 × MeetsNumber (onSample (0x41 ∷ [])) 2 × MeetsNumber (under (onSample (0x80 ∷ [])) (digits 0 5 5)) 3

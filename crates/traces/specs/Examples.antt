@@ -9,8 +9,9 @@ use lib.ListN.{length}
 use Rattle.codepage.specs.CodePage.{CodePage}
 use Rattle.engine.specs.declared.Direction.{Direction}
 use Rattle.engine.specs.declared.Direction.the-variants.{Decoding, Encoding}
+use Rattle.engine.specs.Policies.{replacing}
 use Rattle.convert.specs.declared.Run.{Run}
-use Rattle.convert.specs.Sample.{samplePage, digits, room, Row, RowHolds, rows}
+use Rattle.convert.specs.Sample.{samplePage, room, Row, RowHolds, rows}
 use Rattle.checkpoint.specs.Line.{writeOf, readOf}
 use Rattle.checkpoint.specs.Sample.{sampleRun, sampleLine}
 use Rattle.traces.specs.Model.{Setting, Call, feeding, saving, loading}
@@ -18,7 +19,7 @@ use Rattle.traces.specs.Traces.{Entry, observed, Proper, Trace}
 
 -- a decoding list on the sample page
 abbrev pub onSample : (text : List ℕ) → Setting
-onSample text = record { tables = samplePage; direction = Decoding; page = 7; policy = digits 5 5 5; text = text }
+onSample text = record { tables = samplePage; direction = Decoding; page = 7; policy = replacing; text = text }
 
 -- An interrupted run: a block ends on the lead 82 of the character 827C. The run is saved, and read back in the morning; 7C is next.
 abbrev pub interruptedText : List ℕ
@@ -33,7 +34,7 @@ interrupted = feeding (0x41 ∷ 0x82 ∷ []) false (room 9) ∷ saving (room 44)
 
 -- an encoding list on the sample page
 abbrev pub encodingOnSample : (text : List ℕ) → Setting
-encodingOnSample text = record { tables = samplePage; direction = Encoding; page = 7; policy = digits 5 5 5; text = text }
+encodingOnSample text = record { tables = samplePage; direction = Encoding; page = 7; policy = replacing; text = text }
 
 -- The same in encoding: a block ends on the high surrogate of the pair D83D DE00.
 abbrev pub cutPairText : List ℕ

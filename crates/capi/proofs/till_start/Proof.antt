@@ -1,5 +1,5 @@
 use Rattle.convert.specs.Runs.{startOf}
-use Rattle.capi.specs.Interface.{tillStart, handed, startOut, policyOf}
+use Rattle.capi.specs.Interface.{tillStart, handed, startOut}
 use borrow.Author.Tests.{le-leb, lt-leb}
 use mathlib.Core.Path.{_∙_, ap, sym}
 use borrow.Author.Needs.{needs}

@@ -49,11 +49,14 @@ loop-again c =
     let inv = c .before .before .before .before .before .before .before .before .before .before .before .before .before .before .loop .inv in
     (c .before .before .before .before .before .before .before .before .before .buffer .given ∙ inv .0, c .before .before .before .before .before .before .before .out .given ∙ inv .1)
 
+none-requires : tie.Need-none-requires Inv-loop μ-loop
+none-requires c κs = tt
+
 same-length-3 : tie.Need-same-length-3 Inv-loop μ-loop
-same-length-3 c = c .before .loop .inv .0
+same-length-3 c = c .before .before .loop .inv .0
 
 same-length-4 : tie.Need-same-length-4 Inv-loop μ-loop
-same-length-4 c = c .before .loop .inv .1
+same-length-4 c = c .before .before .loop .inv .1
 
 returns-2 : tie.Need-returns-2 Inv-loop μ-loop
 returns-2 c = tt
@@ -76,6 +79,7 @@ all-blocks-spec =
     on-the-way-requires
     loop-less
     loop-again
+    none-requires
     same-length-3
     same-length-4
     returns-2)
