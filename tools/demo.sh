@@ -1,6 +1,6 @@
 #!/usr/bin/env bash
 # The main job on the sample journal: a journal that is cut in the middle of a two-byte character is decoded, saved, and taken up
-# when the rest is there; then the ledger is encoded back.
+# when the rest is there; then the ledger is encoded back. An import, a damaged night and the preview of a receipt follow.
 #
 #     tools/demo.sh
 #
@@ -74,6 +74,27 @@ printf '\377\376' > wanted
 printf '0001,レポート,300\r\n0002,"tea, green",120\r\n' | iconv -f UTF-8 -t UTF-16LE >> wanted
 cmp records.csv wanted || fail "the records are others"
 iconv -f UTF-16 -t UTF-8 records.csv | sed 's/^/   /'
+
+echo
+echo "== 5. A damaged night: the first half of a character was broken off before a line feed. A ledger stops there:"
+printf '0001|tea \202\n0002|rice|120\n' > night
+expect stopped decode "$table" night ledger
+printf '0001|tea ' | iconv -f UTF-8 -t UTF-16LE > wanted
+cmp ledger wanted || fail "the ledger is not what comes before the broken byte"
+echo "   The import asks for policy 555, gets through, and says its flags:"
+expect done import "$table" night records.csv
+printf '\377\376' > wanted
+printf '0001,tea ・\r\n0002,rice,120\r\n' | iconv -f UTF-8 -t UTF-16LE >> wanted
+cmp records.csv wanted || fail "the records are others"
+iconv -f UTF-16 -t UTF-8 records.csv | sed 's/^/   /'
+
+echo
+echo "== 6. The preview of a receipt: the page has no emoji, and each is one replacement:"
+printf '喫茶🍵みどり🌿\n' | iconv -f UTF-8 -t UTF-16LE > shop
+expect done preview "$table" shop receipt
+printf '喫茶?みどり?\n' | iconv -f UTF-8 -t CP932 > wanted
+cmp receipt wanted || fail "the receipt is another"
+od -An -tx1 receipt
 
 echo
 echo "demo: success: cut in the middle of a character, saved, resumed: nothing lost, nothing doubled"

@@ -438,6 +438,7 @@ def initial_script():
     script.expect("convert D 555 0 0 0", "convert 10 kept")
     script.expect("convert D 755 0 0 0", "convert 17 kept")
     script.expect("convert E 555 0 0 5", "convert 10 kept")
+    script.expect("standard", "standard 5 5 0")
     script.note("no field buffer, and nothing held")
     script.expect("field 0 0 more", "field 20 0 -")
     script.expect("field 0 0 last", "field 20 0 -")
@@ -603,6 +604,8 @@ def grammar_script():
         "convert E 555 3 0 5", "convert D 555 1 01 5", "convert D 555 0 1 05", "convert D 555 0 1 -", "convert E 555 0 1 -1",
         # count is no command any more (CR 10)
         "count", "count D 555 0 0", "count D 555 0 1", "count E 555 0 2", "count D 555 0 1 1",
+        # standard
+        "standard 550", "standard 5 5 0", "standard x", "standard ", " standard", "Standard", "standards",
         # nothing else is a command
         "quit", "help", "decodes 0 1 last 5", "tables sample.tbl", "policy 555", "shape\tgood",
     )

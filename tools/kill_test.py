@@ -8,6 +8,7 @@ emoji, halves of them and random units (encode). The input grows in steps of ran
 a checkpoint and killed (SIGKILL) at a random moment, several times. After each kill the saved line must be a whole one, and the
 output up to its written total must be the beginning of the right one. The last step is marked `last` and repeated until it is not killed. Then output,
 saved line, and uncut runs with and without a checkpoint are compared with the second converter's answer (second_converter.py).
+Where a line is saved, about every other call names no policy: the run goes on under the digits of its line.
 Then, if strace can be used, a fresh and a resumed job that decode, and a resumed one that encodes, are killed at their system
 calls, one after the other: at each call that opens, syncs, cuts, renames or closes a file, and at those that read and write blocks
 around a checkpoint. A resumed job begins in the middle of a character: between the bytes of a pair, or between two surrogates.
@@ -102,7 +103,10 @@ class Job:
         self.last_line = "\t".join(fields) + "\n"
 
     def words(self, *names, last=False):
-        return [self.program, self.command] + (["last"] if last else []) + ["policy", self.policy, TABLE, *names]
+        """The words of a call. A run that is saved has its policy, which need not be named."""
+        saved = len(names) == 3 and os.path.exists(names[2])
+        policy = [] if saved and self.chance.random() < 0.5 else ["policy", self.policy]
+        return [self.program, self.command] + (["last"] if last else []) + policy + [TABLE, *names]
 
     def check_saved(self):
         """What holds at every moment: a whole line, and a right beginning of the output behind it."""

@@ -6,9 +6,9 @@
     make_scripts.py --seed N --lists M --out FOLDER       writes M further lists of each random kind, from seed N, into FOLDER
 
 NAME.out has the answers of second_converter.py. In the fixed scripts (fixed_scripts.py, bad_half_scripts.py,
-surrogate_scripts.py, one_call_scripts.py, field_scripts.py) an expected answer is written by hand, from the documents and the
-readings of them, for every command, and making the scripts fails where second_converter.py answers otherwise. The random scripts
-(random_scripts.py) are the same for the same seed. join_scripts.py joins all scripts for the console.
+surrogate_scripts.py, one_call_scripts.py, standard_scripts.py, field_scripts.py) an expected answer is written by hand, from the
+documents and the readings of them, for every command, and making the scripts fails where second_converter.py answers otherwise. The
+random scripts (random_scripts.py) are the same for the same seed. join_scripts.py joins all scripts for the console.
 """
 
 import argparse
@@ -22,6 +22,7 @@ import fixed_scripts
 import one_call_scripts
 import random_scripts
 import second_converter
+import standard_scripts
 import surrogate_scripts
 
 ROOT = os.path.dirname(os.path.dirname(os.path.abspath(__file__)))
@@ -55,6 +56,7 @@ def scripts_by_hand():
         "bad_halves": bad_half_scripts.bad_halves_script(),
         "surrogates": surrogate_scripts.surrogates_script(),
         "one_call": one_call_scripts.one_call_script(),
+        "standard": standard_scripts.standard_script(),
         "fields": field_scripts.fields_script(),
         "field_cuttings": field_scripts.cuttings_script(),
     }

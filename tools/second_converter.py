@@ -169,6 +169,11 @@ DECODING = "D"
 ENCODING = "E"
 
 
+# Document 02, CR 4: "The standard policy changes from 555 to 550". It is told by the command `standard` and used nowhere: each
+# start, each call in one go and each saved line has its own digits.
+STANDARD = (5, 5, 0)
+
+
 def digits_allowed(direction, digits):
     """ "6 is allowed only in the first digit of a decoding run"; the others are 0 to 5."""
     first_limit = 6 if direction == DECODING else 5
@@ -728,6 +733,7 @@ class Console:
             b"hold": (1, self.do_hold),
             b"held": (1, self.do_held),
             b"field": (3, self.do_field),
+            b"standard": (0, self.do_standard),
         }
 
     def answer(self, line):
@@ -890,6 +896,10 @@ class Console:
                 source = "hold" if outcome.from_hold else "block"
                 answer = f"{outcome.end} {outcome.read} {source} {hex_text(outcome.units, 4)}"
         return f"field {answer} {self.held} {hex_text(self.hold, 4)}"
+
+    def do_standard(self):
+        """CR 4: "the digits of the standard policy". """
+        return "standard " + " ".join(str(digit) for digit in STANDARD)
 
 
 def script_lines(script):

@@ -12,6 +12,7 @@ import csv
 import io
 import os
 import random
+import re
 import resource
 import shutil
 import struct
@@ -87,8 +88,39 @@ def flags_text(flags):
     return ", ".join(name for place, name in enumerate(FLAG_NAMES) if flags >> place & 1) or "none"
 
 
-def summary(read_total, written, flags="none", pending="nothing", state="the run has ended", units=("bytes", "units")):
-    return [f"read {read_total} {units[0]}, written {written} {units[1]}", f"flags: {flags}", f"pending: {pending}", state]
+def flags_line(names):
+    """The flags by name, and their number behind them."""
+    number = 0 if names == "none" else sum(1 << FLAG_NAMES.index(name) for name in names.split(", "))
+    return f"flags: {names} ({number})"
+
+
+def summary(
+    read_total, written, flags="none", pending="nothing", state="the run has ended", units=("bytes", "units"), stop=()
+):
+    totals = f"read {read_total} {units[0]}, written {written} {units[1]}"
+    return [totals, flags_line(flags), f"pending: {pending}", *stop, state]
+
+
+SINGLE, PAIR, INVALID = "an undefined single", "an undefined pair", "an invalid code"
+# The flags of a run that was stopped by such a code, the first one without a character.
+STOPPED_BY = {SINGLE: 9, PAIR: 10, INVALID: 12}
+
+
+def how_to_go_on(checkpoint=None):
+    lines = ["to go on, mend the input there, or call again with policy 555, which writes the table's default for such a code"]
+    if checkpoint is not None:
+        lines.append(f"the run of the checkpoint has ended: remove {checkpoint} before you call again")
+    return lines
+
+
+def stopped(policy, place, code, kind, where="byte", checkpoint=None):
+    """What is said of a run that stopped in this call: the place of its code's first byte or unit, the code and its kind."""
+    return [f"stopped by policy {policy} at {where} {place}, counted from 0: {code}, {kind}", *how_to_go_on(checkpoint)]
+
+
+def stopped_before(policy, place, where="byte", checkpoint="checkpoint"):
+    """The same where the run of the checkpoint had stopped in an earlier call."""
+    return [f"stopped by policy {policy}; the next unread {where} is at {place}, counted from 0", *how_to_go_on(checkpoint)]
 
 
 # ---------------------------------------------------------------------------------------------------------------
@@ -100,9 +132,22 @@ def test_help_goes_to_standard_output():
     got = subprocess.run([PROGRAM, "help"], capture_output=True)
     equal(got.stderr, b"", "standard error")
     text = got.stdout.decode()
-    for part in ("tillbox decode [last] [policy DDD] TABLE JOURNAL LEDGER [CHECKPOINT]\n", "tillbox import [policy DDD] TABLE JOURNAL RECORDS\n", "tillbox shape TABLE\n", "done (all is read)"):
+    for part in (
+        "tillbox decode [last] [policy DDD] TABLE JOURNAL LEDGER [CHECKPOINT]\n",
+        "tillbox encode [last] [policy DDD] TABLE LEDGER RECEIPT [CHECKPOINT]\n",
+        "tillbox import [policy DDD] TABLE JOURNAL RECORDS\n",
+        "  tillbox preview TABLE LEDGER RECEIPT\n",
+        "tillbox shape TABLE\n",
+        # the standard, and what gets through
+        "550",
+        "555",
+        "done (all is read)",
+    ):
         if part not in text:
             raise AssertionError(f"help without {part!r}")
+
+
+NO_WORDS = "preview has no words before the names: it encodes the whole ledger, under policy 555"
 
 
 def test_misuse_says_how_to_call():
@@ -119,10 +164,18 @@ def test_misuse_says_how_to_call():
         (["import", "a.tbl", "journal", "records", "checkpoint"], "three names of files are asked for"),
         (["import", "policy", "55", "a.tbl", "journal", "records"], "a policy is three digits"),
         (["import", "last", "a.tbl", "journal", "records"], "import has no word last: the journal is complete"),
+        (["preview"], "three names of files are asked for"),
+        (["preview", "a.tbl", "ledger"], "three names of files are asked for"),
+        (["preview", "a.tbl", "ledger", "receipt", "checkpoint"], "three names of files are asked for"),
+        (["preview", "last", "a.tbl", "ledger", "receipt"], NO_WORDS),
+        (["preview", "policy", "555", "a.tbl", "ledger", "receipt"], NO_WORDS),
+        (["preview", "policy", "550", "a.tbl", "ledger", "receipt"], NO_WORDS),
+        (["preview", "last", "policy", "555", "a.tbl", "ledger", "receipt"], NO_WORDS),
+        (["preview", "policy", "555", "last", "a.tbl", "ledger", "receipt"], NO_WORDS),
     ]:
         said = tillbox(*words, word="failed")
         equal(said.split("\n")[0], f"tillbox: error: {text}", f"first line of {words}")
-        if "tillbox encode [last] [policy DDD] TABLE LEDGER RECEIPT [CHECKPOINT]" not in said:
+        if "  tillbox preview TABLE LEDGER RECEIPT\n" not in said:
             raise AssertionError(f"{words} does not say how to call")
 
 
@@ -238,7 +291,7 @@ def test_carried_byte_that_is_no_lead():
 def test_ended_run():
     write("journal", b"total")
     tillbox("decode", "last", "cp932.tbl", "journal", "ledger", "checkpoint", says=summary(5, 5))
-    equal(read("checkpoint"), line("D 932 555 - 0 5 5 over"), "the line")
+    equal(read("checkpoint"), line("D 932 550 - 0 5 5 over"), "the line")
     nothing = "nothing to do: the run of the checkpoint has ended"
     tillbox("decode", "last", "cp932.tbl", "journal", "ledger", "checkpoint", says=[nothing] + summary(5, 5))
     equal(read("ledger"), "total".encode("utf-16le"), "the ledger")
@@ -305,42 +358,44 @@ def test_empty_journal():
     tillbox("decode", "cp932.tbl", "journal", "ledger", says=summary(0, 0))
     equal(read("ledger"), b"", "the ledger")
     tillbox("decode", "cp932.tbl", "journal", "ledger", "checkpoint", says=summary(0, 0, state="the run goes on"))
-    equal(read("checkpoint"), line("D 932 555 - 0 0 0 on"), "the line")
+    equal(read("checkpoint"), line("D 932 550 - 0 0 0 on"), "the line")
 
 
 def test_first_half_waits():
     half = "the byte 94, the first half of a character"
     write("journal", b"a\x94")
     tillbox("decode", "cp932.tbl", "journal", "ledger", "checkpoint", says=summary(2, 1, pending=half, state="the run goes on"))
-    equal(read("checkpoint"), line("D 932 555 94 0 2 1 on"), "the line")
+    equal(read("checkpoint"), line("D 932 550 94 0 2 1 on"), "the line")
     equal(read("ledger"), b"a\0", "the ledger")
     # a second call on the same journal changes nothing
     tillbox("decode", "cp932.tbl", "journal", "ledger", "checkpoint", says=summary(2, 1, pending=half, state="the run goes on"))
-    equal(read("checkpoint"), line("D 932 555 94 0 2 1 on"), "the line")
+    equal(read("checkpoint"), line("D 932 550 94 0 2 1 on"), "the line")
     shutil.copy("ledger", "ledger2")
     shutil.copy("checkpoint", "checkpoint2")
     # the second half comes
     write("journal", b"a\x94\x4e")
     tillbox("decode", "last", "cp932.tbl", "journal", "ledger", "checkpoint", says=summary(3, 2))
     equal(read("ledger"), "a年".encode("utf-16le"), "the ledger")
-    # or the text ends there: the default of page 932, 30FB
+    # or the text ends there, and the half is invalid
     write("journal", b"a\x94")
-    tillbox("decode", "last", "cp932.tbl", "journal", "ledger2", "checkpoint2", says=summary(2, 2, flags="invalid"))
-    equal(read("ledger2"), "a\u30fb".encode("utf-16le"), "the ledger")
-    equal(read("checkpoint2"), line("D 932 555 - 4 2 2 over"), "the line")
+    stop = stopped("550", 1, "94", INVALID, checkpoint="checkpoint2")
+    says = summary(2, 1, flags="invalid, stopped", stop=stop)
+    tillbox("decode", "last", "cp932.tbl", "journal", "ledger2", "checkpoint2", word="stopped", says=says)
+    equal(read("ledger2"), b"a\0", "the ledger")
+    equal(read("checkpoint2"), line("D 932 550 - 12 2 1 over"), "the line")
 
 
 def test_a_broken_half_before_a_line_feed():
     # two records stay two: the default of page 932, 30FB, for the half alone, then the line feed
     write("journal", b"tea\x94\n120\n")
-    tillbox("decode", "cp932.tbl", "journal", "ledger", says=summary(9, 9, flags="invalid"))
+    tillbox("decode", "policy", "555", "cp932.tbl", "journal", "ledger", says=summary(9, 9, flags="invalid"))
     equal(read("ledger"), "tea\u30fb\n120\n".encode("utf-16le"), "the ledger")
     # a byte of 80 or more that may not be second is taken with the half: FD, and A0 on page 7
     write("journal", b"tea\x94\xfd\n")
-    tillbox("decode", "cp932.tbl", "journal", "ledger", says=summary(6, 5, flags="invalid"))
+    tillbox("decode", "policy", "555", "cp932.tbl", "journal", "ledger", says=summary(6, 5, flags="invalid"))
     equal(read("ledger"), "tea\u30fb\n".encode("utf-16le"), "the ledger")
     write("journal", b"tea\x82\xa0\n")
-    tillbox("decode", "sample.tbl", "journal", "ledger", says=summary(6, 5, flags="invalid"))
+    tillbox("decode", "policy", "555", "sample.tbl", "journal", "ledger", says=summary(6, 5, flags="invalid"))
     equal(read("ledger"), "tea\u30fb\n".encode("utf-16le"), "the ledger")
 
 
@@ -359,30 +414,15 @@ def test_a_waiting_half_before_a_line_feed():
         equal(read("checkpoint"), line(f"D 932 {policy} - {flags} over"), "the line")
 
 
-def test_a_run_stops_at_a_broken_half():
-    # the line feed is the next unread byte, whether the half waited or not
-    write("journal", b"tea\x94\n120\n")
-    stop = "stopped by policy; the next unread byte is at 4"
-    says = summary(4, 3, flags="invalid, stopped", state=stop) + ["the run has ended"]
-    tillbox("decode", "policy", "550", "cp932.tbl", "journal", "ledger", word="stopped", says=says)
-    equal(read("ledger"), "tea".encode("utf-16le"), "the ledger")
-    write("journal", b"tea\x94")
-    tillbox("decode", "policy", "550", "cp932.tbl", "journal", "ledger", "checkpoint")
-    write("journal", b"tea\x94\n120\n")
-    tillbox("decode", "cp932.tbl", "journal", "ledger", "checkpoint", word="stopped", says=says)
-    equal(read("ledger"), "tea".encode("utf-16le"), "the ledger")
-    equal(read("checkpoint"), line("D 932 550 - 12 4 3 over"), "the line")
-
-
 def test_a_broken_half_at_the_end_of_a_block():
     # the half is the last of the first block's 512 bytes, and the second block gives a unit more than it has bytes
     text = b"a" * 511 + b"\x94" + b"\n" + b"b" * 511 + b"c"
     wanted = "a" * 511 + "\u30fb\n" + "b" * 511 + "c"
     write("journal", text)
-    tillbox("decode", "cp932.tbl", "journal", "ledger", says=summary(1025, 1025, flags="invalid"))
+    tillbox("decode", "policy", "555", "cp932.tbl", "journal", "ledger", says=summary(1025, 1025, flags="invalid"))
     equal(read("ledger"), wanted.encode("utf-16le"), "the ledger")
     write("journal", text[:512])
-    tillbox("decode", "cp932.tbl", "journal", "ledger", "checkpoint")
+    tillbox("decode", "policy", "555", "cp932.tbl", "journal", "ledger", "checkpoint")
     equal(read("checkpoint"), line("D 932 555 94 0 512 511 on"), "the line")
     write("journal", text)
     tillbox("decode", "last", "cp932.tbl", "journal", "ledger", "checkpoint", says=summary(1025, 1025, flags="invalid"))
@@ -393,25 +433,227 @@ def test_flags_by_name():
     # page 7: 80 is an undefined single, 81 5A an undefined pair, 83 invalid
     write("journal", b"\x80\x81\x5a\x83A")
     names = "undefined single, undefined pair, invalid"
-    tillbox("decode", "sample.tbl", "journal", "ledger", says=summary(5, 4, flags=names))
+    tillbox("decode", "policy", "555", "sample.tbl", "journal", "ledger", says=summary(5, 4, flags=names))
     equal(read("ledger"), "\u30fb\u30fb\u30fbA".encode("utf-16le"), "the ledger")
     tillbox("decode", "policy", "631", "sample.tbl", "journal", "ledger", says=summary(5, 3, flags=names))
     equal(read("ledger"), "\uf180?A".encode("utf-16le"), "the ledger")
 
 
-def test_a_run_stops():
-    write("journal", b"AB\x80CD")
-    stop = "stopped by policy; the next unread byte is at 3"
-    says = summary(3, 2, flags="undefined single, stopped", state=stop) + ["the run has ended"]
-    tillbox("decode", "policy", "055", "sample.tbl", "journal", "ledger", "checkpoint", word="stopped", says=says)
-    equal(read("ledger"), b"A\0B\0", "the ledger")
-    equal(read("checkpoint"), line("D 7 055 - 9 3 2 over"), "the line")
-    refused("decode", "sample.tbl", "journal", "ledger", "checkpoint", says=["error 15: the run has ended (checkpoint)"] + says)
-    write("units", units_text(0x41, 0x1234, 0x42))
-    stop = "stopped by policy; the next unread unit is at 2"
-    says = summary(2, 1, flags="undefined single, stopped", state=stop, units=("units", "bytes")) + ["the run has ended"]
-    tillbox("encode", "policy", "055", "sample.tbl", "units", "receipt", word="stopped", says=says)
-    equal(read("receipt"), b"A", "the receipt")
+# ---------------------------------------------------------------------------------------------------------------
+# Runs that stop
+# ---------------------------------------------------------------------------------------------------------------
+
+
+def test_the_standard_stops():
+    # document 02's row, on page 7
+    write("journal", b"\x82")
+    says = summary(1, 0, flags="invalid, stopped", stop=stopped("550", 0, "82", INVALID))
+    tillbox("decode", "sample.tbl", "journal", "ledger", word="stopped", says=says)
+    equal(read("ledger"), b"", "the ledger")
+    # a name of a till, by no policy, by the standard's digits, and by 555, which gets through
+    write("journal", b"tea \x82\n120\n")
+    says = summary(5, 4, flags="invalid, stopped", stop=stopped("550", 4, "82", INVALID))
+    for words in ((), ("policy", "550")):
+        tillbox("decode", *words, "cp932.tbl", "journal", "ledger", word="stopped", says=says)
+        equal(read("ledger"), "tea ".encode("utf-16le"), "the ledger")
+    tillbox("decode", "policy", "555", "cp932.tbl", "journal", "ledger", says=summary(10, 10, flags="invalid"))
+    equal(read("ledger"), "tea \u30fb\n120\n".encode("utf-16le"), "the ledger")
+    # undefined singles and pairs are replaced
+    write("journal", b"\x80\x81\x5aA")
+    tillbox("decode", "sample.tbl", "journal", "ledger", says=summary(4, 3, flags="undefined single, undefined pair"))
+    equal(read("ledger"), "\u30fb\u30fbA".encode("utf-16le"), "the ledger")
+
+
+def test_how_to_go_on_after_a_stop():
+    # the file of the line has another name than others
+    write("journal", b"tea \x82")
+    stop = stopped("550", 4, "82", INVALID, checkpoint="tea.line")
+    words = ("cp932.tbl", "journal", "ledger", "tea.line")
+    says = summary(5, 4, flags="invalid, stopped", stop=stop)
+    tillbox("decode", "last", *words, word="stopped", says=says)
+    equal(read("ledger"), "tea ".encode("utf-16le"), "the ledger")
+    equal(read("tea.line"), line("D 932 550 - 12 5 4 over"), "the line")
+    # the code that stopped the run is not known any more; nothing is changed, whatever policy is asked for
+    says = summary(5, 4, flags="invalid, stopped", stop=stopped_before("550", 5, checkpoint="tea.line"))
+    nothing = "nothing to do: the run of the checkpoint has ended"
+    for policy in ((), ("policy", "555")):
+        tillbox("decode", "last", *policy, *words, word="stopped", says=[nothing, *says])
+    write("journal", b"tea \x82\n120\n")
+    for policy in ((), ("policy", "555")):
+        refused("decode", "last", *policy, *words, says=["error 15: the run has ended (tea.line)", *says])
+    # what the program said: without the line, under 555
+    remove("tea.line")
+    tillbox("decode", "last", "policy", "555", *words, says=summary(10, 10, flags="invalid"))
+    equal(read("ledger"), "tea \u30fb\n120\n".encode("utf-16le"), "the ledger")
+    # or the input is mended
+    remove("tea.line")
+    write("journal", b"tea  \n120\n")
+    tillbox("decode", "last", *words, says=summary(10, 10))
+    # the same for a ledger text
+    write("units", units_text(0x41, 0xDE00))
+    words = ("encode", "last", "cp932.tbl", "units", "receipt", "checkpoint")
+    stop = stopped("550", 1, "DE00", INVALID, "unit", "checkpoint")
+    tillbox(*words, word="stopped", says=encoded(2, 1, flags="invalid, stopped", stop=stop))
+    says = encoded(2, 1, flags="invalid, stopped", stop=stopped_before("550", 2, "unit"))
+    tillbox(*words, word="stopped", says=[nothing, *says])
+    write("units", units_text(0x41, 0xDE00, 0x42))
+    refused(*words, says=["error 15: the run has ended (checkpoint)", *says])
+    remove("checkpoint")
+    tillbox("encode", "last", "policy", "555", *words[2:], says=encoded(3, 3, flags="invalid"))
+    equal(read("receipt"), b"A?B", "the receipt")
+
+
+# Numbers of bytes or units before a code: 512 are a block, and a line is saved after 128 blocks.
+FRONTS = (0, 1, 510, 511, 512, 1023, 65535)
+
+
+def every_front(command, policy, code, shown, kind, rest, waits=False):
+    """A run stops at a code of page 7 behind each number of characters: without a checkpoint, and with one, where the text is cut
+    before each byte or unit of the code, and behind it if that is a half that waits. What follows the code, rest, is not read."""
+    letter, where, width, says_of = ("D", "byte", 1, summary) if command == "decode" else ("E", "unit", 2, encoded)
+    size, flags = len(shown.split(" ")), STOPPED_BY[kind]
+    for front in FRONTS:
+        whole = units_text(*[0x61] * front) if width == 2 else b"a" * front
+        wanted = b"a" * front if width == 2 else b"a\0" * front
+        whole += code + rest
+        write("input", whole)
+        says = says_of(front + size, front, flags=flags_text(flags), stop=stopped(policy, front, shown, kind, where))
+        tillbox(command, "policy", policy, "sample.tbl", "input", "output", word="stopped", says=says)
+        equal(read("output"), wanted, f"the output of {front} and {shown}")
+        stop = stopped(policy, front, shown, kind, where, "checkpoint")
+        says = says_of(front + size, front, flags=flags_text(flags), stop=stop)
+        for cut in range(size + waits):
+            remove("output", "checkpoint")
+            write("input", whole[: (front + cut) * width])
+            tillbox(command, "policy", policy, "sample.tbl", "input", "output", "checkpoint")
+            write("input", whole)
+            tillbox(command, "last", "sample.tbl", "input", "output", "checkpoint", word="stopped", says=says)
+            equal(read("output"), wanted, f"the output of {front} and {shown}, cut at {cut}")
+            over = line(f"{letter} 7 {policy} - {flags} {front + size} {front} over")
+            equal(read("checkpoint"), over, f"the line of {front} and {shown}, cut at {cut}")
+
+
+def test_where_decoding_stops():
+    every_front("decode", "550", b"\x83", "83", INVALID, b"more")
+    every_front("decode", "550", b"\x82\x80", "82 80", INVALID, b"more")
+    every_front("decode", "550", b"\x81\x82", "81 82", INVALID, b"\x7cmore")
+    every_front("decode", "055", b"\x80", "80", SINGLE, b"more")
+    every_front("decode", "505", b"\x81\x5a", "81 5A", PAIR, b"more")
+    every_front("decode", "000", b"\x81\x5a", "81 5A", PAIR, b"\x80\x83")
+    # at the end of the text, where nothing follows
+    every_front("decode", "550", b"\x82", "82", INVALID, b"", waits=True)
+    every_front("decode", "505", b"\x81\x5a", "81 5A", PAIR, b"")
+    every_front("decode", "055", b"\x80", "80", SINGLE, b"")
+
+
+def test_where_encoding_stops():
+    every_front("encode", "550", units_text(0xDE00), "DE00", INVALID, units_text(0x62))
+    every_front("encode", "055", units_text(0xD83D, 0xDE00), "D83D DE00", SINGLE, units_text(0x62))
+    every_front("encode", "055", units_text(0x1234), "1234", SINGLE, units_text(0x62))
+    every_front("encode", "000", units_text(0xDBFF, 0xDFFF), "DBFF DFFF", SINGLE, units_text(0xD83D))
+    # at the end of the text, where nothing follows
+    every_front("encode", "550", units_text(0xD83D), "D83D", INVALID, b"", waits=True)
+    every_front("encode", "055", units_text(0xD83D, 0xDE00), "D83D DE00", SINGLE, b"")
+
+
+def test_a_stop_leaves_what_is_no_part_of_the_code():
+    # a first half alone: what follows it is unread, whether the half waited, was the last of a block, or did not
+    for front in FRONTS:
+        for command, half, shown, follows in (
+            ("decode", b"\x94", "94", (b"\n", b"0", b"\x7f")),
+            ("encode", units_text(0xD83D), "D83D", (units_text(0x0A), units_text(0xD83D), units_text(0x5E74))),
+        ):
+            letter, where, width, says_of = ("D", "byte", 1, summary) if command == "decode" else ("E", "unit", 2, encoded)
+            begin = (b"a" if width == 1 else b"a\0") * front
+            wanted = (b"a\0" if width == 1 else b"a") * front
+            for after in follows:
+                whole = begin + half + after + begin[:8]
+                write("input", whole)
+                says = says_of(front + 1, front, flags="invalid, stopped", stop=stopped("550", front, shown, INVALID, where))
+                tillbox(command, "cp932.tbl", "input", "output", word="stopped", says=says)
+                equal(read("output"), wanted, "the output")
+                remove("output", "checkpoint")
+                write("input", whole[: (front + 1) * width])
+                tillbox(command, "cp932.tbl", "input", "output", "checkpoint")
+                equal(read("checkpoint"), line(f"{letter} 932 550 {shown} 0 {front + 1} {front} on"), "the line of the half")
+                write("input", whole)
+                stop = stopped("550", front, shown, INVALID, where, "checkpoint")
+                says = says_of(front + 1, front, flags="invalid, stopped", stop=stop)
+                tillbox(command, "cp932.tbl", "input", "output", "checkpoint", word="stopped", says=says)
+                equal(read("output"), wanted, "the output")
+                equal(read("checkpoint"), line(f"{letter} 932 550 - 12 {front + 1} {front} over"), "the line")
+
+
+def test_a_stop_behind_other_codes():
+    # the flags are those of the whole run; the place and the kind are of the code that stopped it
+    write("journal", b"\x80\x81\x5aA\x83\x80")
+    names = "undefined single, undefined pair, invalid, stopped"
+    says = summary(5, 3, flags=names, stop=stopped("550", 4, "83", INVALID))
+    tillbox("decode", "sample.tbl", "journal", "ledger", word="stopped", says=says)
+    equal(read("ledger"), "\u30fb\u30fbA".encode("utf-16le"), "the ledger")
+    # skipped codes write nothing, and are counted in the place
+    names = "undefined single, undefined pair, stopped"
+    says = summary(3, 0, flags=names, stop=stopped("105", 1, "81 5A", PAIR))
+    tillbox("decode", "policy", "105", "sample.tbl", "journal", "ledger", word="stopped", says=says)
+    equal(read("ledger"), b"", "the ledger")
+    # page 932: FF may not be second, and FA FF is one invalid code of two bytes
+    write("journal", "緑茶".encode("cp932") + b"\xfa\xff\n")
+    says = summary(6, 2, flags="invalid, stopped", stop=stopped("550", 4, "FA FF", INVALID))
+    tillbox("decode", "cp932.tbl", "journal", "ledger", word="stopped", says=says)
+    equal(read("ledger"), "緑茶".encode("utf-16le"), "the ledger")
+    # units: a code of two bytes is one unit, an emoji is two
+    write("units", "緑茶\U0001f375a".encode("utf-16le") + units_text(0xD800, 0x62))
+    says = encoded(6, 6, flags="undefined single, invalid, stopped", stop=stopped("550", 5, "D800", INVALID, "unit"))
+    tillbox("encode", "cp932.tbl", "units", "receipt", word="stopped", says=says)
+    equal(read("receipt"), "緑茶?a".encode("cp932"), "the receipt")
+    says = encoded(4, 4, flags="undefined single, stopped", stop=stopped("055", 2, "D83C DF75", SINGLE, "unit"))
+    tillbox("encode", "policy", "055", "cp932.tbl", "units", "receipt", word="stopped", says=says)
+    equal(read("receipt"), "緑茶".encode("cp932"), "the receipt")
+
+
+def test_runs_saved_earlier_keep_their_digits():
+    # lines as an older tillbox left them under 555, its standard; no policy is named
+    for policy, ends in (("555", "replaced"), ("550", "stopped")):
+        for text, carried, read_before, place, shown, read_total in (
+            # 82 at the end; 94 that waits before a line feed; 94 FF cut between
+            (b"tea \x82", "-", 4, 4, "82", 5),
+            (b"tea \x94\n", "94", 5, 4, "94", 5),
+            (b"tea \x94\xff", "94", 5, 4, "94 FF", 6),
+        ):
+            write("journal", text)
+            write("ledger", "tea ".encode("utf-16le"))
+            write("checkpoint", line(f"D 932 {policy} {carried} 0 {read_before} 4 on"))
+            if ends == "replaced":
+                wanted = "tea \u30fb" + ("\n" if text.endswith(b"\n") else "")
+                says = summary(len(text), len(wanted), flags="invalid")
+                tillbox("decode", "last", "cp932.tbl", "journal", "ledger", "checkpoint", says=says)
+                over = f"D 932 555 - 4 {len(text)} {len(wanted)} over"
+            else:
+                wanted = "tea "
+                stop = stopped("550", place, shown, INVALID, checkpoint="checkpoint")
+                says = summary(read_total, 4, flags="invalid, stopped", stop=stop)
+                tillbox("decode", "last", "cp932.tbl", "journal", "ledger", "checkpoint", word="stopped", says=says)
+                over = f"D 932 550 - 12 {read_total} 4 over"
+            equal(read("ledger"), wanted.encode("utf-16le"), f"the ledger of {text!r} under {policy}")
+            equal(read("checkpoint"), line(over), f"the line of {text!r} under {policy}")
+        for units, carried, read_before, receipt in (
+            # DE00 alone; D83D that waits before B
+            ((0x41, 0xDE00, 0x42), "-", 1, b"A?B"),
+            ((0x41, 0xD83D, 0x42), "D83D", 2, b"A?B"),
+        ):
+            write("units", units_text(*units))
+            write("receipt", b"A")
+            write("checkpoint", line(f"E 932 {policy} {carried} 0 {read_before} 1 on"))
+            words = ("encode", "last", "cp932.tbl", "units", "receipt", "checkpoint")
+            if ends == "replaced":
+                tillbox(*words, says=encoded(3, 3, flags="invalid"))
+                equal(read("receipt"), receipt, f"the receipt of {units} under {policy}")
+                equal(read("checkpoint"), line("E 932 555 - 4 3 3 over"), f"the line of {units} under {policy}")
+            else:
+                stop = stopped("550", 1, f"{units[1]:04X}", INVALID, "unit", "checkpoint")
+                tillbox(*words, word="stopped", says=encoded(2, 1, flags="invalid, stopped", stop=stop))
+                equal(read("receipt"), b"A", f"the receipt of {units} under {policy}")
+                equal(read("checkpoint"), line("E 932 550 - 12 2 1 over"), f"the line of {units} under {policy}")
 
 
 def test_a_run_keeps_its_policy():
@@ -441,7 +683,7 @@ def test_a_line_after_every_128_blocks():
     write("journal", b"0123456789" * 20000)
     says = ["error: cannot write ledger: File too large"]
     tillbox("decode", "last", "cp932.tbl", "journal", "ledger", "checkpoint", word="failed", says=says, limit=300000)
-    equal(read("checkpoint"), line("D 932 555 - 0 131072 131072 on"), "the line")
+    equal(read("checkpoint"), line("D 932 550 - 0 131072 131072 on"), "the line")
     # what is behind the line in the ledger is written over
     write("ledger", read("ledger")[: 2 * 131072] + b"no part of it" * 30000)
     tillbox("decode", "last", "cp932.tbl", "journal", "ledger", "checkpoint", says=summary(200000, 200000))
@@ -459,7 +701,7 @@ def test_a_left_over_new_file():
     write("journal", b"ab")
     write("checkpoint.new", b"left by a job that was killed")
     tillbox("decode", "cp932.tbl", "journal", "ledger", "checkpoint")
-    equal(read("checkpoint"), line("D 932 555 - 0 2 2 on"), "the line")
+    equal(read("checkpoint"), line("D 932 550 - 0 2 2 on"), "the line")
     equal(os.path.exists("checkpoint.new"), False, "the new file is there")
 
 
@@ -468,7 +710,7 @@ def every_cut(text, units):
     for place in range(len(text) + 1):
         remove("ledger", "checkpoint")
         write("journal", text[:place])
-        tillbox("decode", "sample.tbl", "journal", "ledger", "checkpoint")
+        tillbox("decode", "policy", "555", "sample.tbl", "journal", "ledger", "checkpoint")
         write("journal", text)
         says = summary(len(text), len(units), flags="invalid")
         tillbox("decode", "last", "sample.tbl", "journal", "ledger", "checkpoint", says=says)
@@ -491,8 +733,8 @@ def test_every_cut_of_a_text_with_broken_halves():
 HALF = "the unit D83D, the first half of a character"
 
 
-def encoded(read_total, written, flags="none", pending="nothing", state="the run has ended"):
-    return summary(read_total, written, flags, pending, state, units=("units", "bytes"))
+def encoded(read_total, written, flags="none", pending="nothing", state="the run has ended", stop=()):
+    return summary(read_total, written, flags, pending, state, units=("units", "bytes"), stop=stop)
 
 
 def test_emoji_in_a_shop_name():
@@ -521,7 +763,8 @@ def test_surrogates_alone():
         ((0xDBFF, 0xE000), b"?\xf0\x40", "invalid"),
     ):
         write("ledger", units_text(*units))
-        tillbox("encode", "cp932.tbl", "ledger", "receipt", says=encoded(len(units), len(receipt), flags=flags))
+        says = encoded(len(units), len(receipt), flags=flags)
+        tillbox("encode", "policy", "555", "cp932.tbl", "ledger", "receipt", says=says)
         equal(read("receipt"), receipt, f"the receipt of {units}")
 
 
@@ -537,7 +780,7 @@ def test_the_first_half_of_a_pair_waits():
         write("ledger", units_text(0x41, 0xD83D))
         # a second call on the same ledger changes nothing
         for _ in range(2):
-            tillbox("encode", "cp932.tbl", "ledger", "receipt", "checkpoint", says=goes)
+            tillbox("encode", "policy", "555", "cp932.tbl", "ledger", "receipt", "checkpoint", says=goes)
             equal(read("checkpoint"), line("E 932 555 D83D 0 2 1 on"), "the line")
             equal(read("receipt"), b"A", "the receipt")
         write("ledger", units_text(*units))
@@ -558,28 +801,6 @@ def test_half_a_unit_after_the_first_half_of_a_pair():
     equal(read("receipt"), b"?", "the receipt")
 
 
-def test_a_run_stops_at_surrogates():
-    # the next unread unit is the one behind a pair, or behind a half alone, whether it waited or not
-    for policy, units, waits, place, flags in (
-        ("055", (0x41, 0xD83D, 0xDE00, 0x42), 2, 3, 9),
-        ("550", (0x41, 0xD83D, 0x42), 2, 2, 12),
-        ("550", (0x41, 0xD83D, 0xD83D), 2, 2, 12),
-        ("550", (0x41, 0xDE00, 0x42), 1, 2, 12),
-    ):
-        stop = f"stopped by policy; the next unread unit is at {place}"
-        says = encoded(place, 1, flags=flags_text(flags), state=stop) + ["the run has ended"]
-        write("ledger", units_text(*units))
-        tillbox("encode", "policy", policy, "cp932.tbl", "ledger", "receipt", word="stopped", says=says)
-        equal(read("receipt"), b"A", "the receipt")
-        remove("receipt", "checkpoint")
-        write("ledger", units_text(*units[:waits]))
-        tillbox("encode", "policy", policy, "cp932.tbl", "ledger", "receipt", "checkpoint")
-        write("ledger", units_text(*units))
-        tillbox("encode", "cp932.tbl", "ledger", "receipt", "checkpoint", word="stopped", says=says)
-        equal(read("receipt"), b"A", "the receipt")
-        equal(read("checkpoint"), line(f"E 932 {policy} - {flags} {place} 1 over"), "the line")
-
-
 def test_a_pair_at_the_end_of_a_block():
     # the first half is the last of the first block's 512 units, or stands around that place
     for before in (510, 511, 512, 1022, 1023):
@@ -594,11 +815,13 @@ def test_a_pair_at_the_end_of_a_block():
                 wanted = b"a" * before + receipt + b"b" * len(end)
                 count = before + len(middle) + len(end)
                 write("ledger", units_text(*a, *middle, *end))
-                tillbox("encode", "cp932.tbl", "ledger", "receipt", says=encoded(count, len(wanted), flags=flags))
+                says = encoded(count, len(wanted), flags=flags)
+                tillbox("encode", "policy", "555", "cp932.tbl", "ledger", "receipt", says=says)
                 equal(read("receipt"), wanted, f"the receipt of {before} units, then {middle}")
     # a half alone, then a block of two-byte codes: one byte more is written than two for each unit of the block
     write("ledger", units_text(*[0x61] * 511, 0xD83D, *[0x5E74] * 512, 0x62))
-    tillbox("encode", "cp932.tbl", "ledger", "receipt", says=encoded(1025, 511 + 1 + 1024 + 1, flags="invalid"))
+    says = encoded(1025, 511 + 1 + 1024 + 1, flags="invalid")
+    tillbox("encode", "policy", "555", "cp932.tbl", "ledger", "receipt", says=says)
     equal(read("receipt"), b"a" * 511 + b"?" + b"\x94\x4e" * 512 + b"b", "the receipt")
 
 
@@ -607,7 +830,7 @@ def test_a_pair_cut_by_a_saved_line():
     whole = units_text(*[0x61] * 511, 0xD83D, 0xDE00, *[0x62] * 511)
     write("ledger", whole[: 2 * 512])
     tillbox("encode", "cp932.tbl", "ledger", "receipt", "checkpoint", says=encoded(512, 511, pending=HALF, state="the run goes on"))
-    equal(read("checkpoint"), line("E 932 555 D83D 0 512 511 on"), "the line")
+    equal(read("checkpoint"), line("E 932 550 D83D 0 512 511 on"), "the line")
     write("ledger", whole)
     tillbox("encode", "last", "cp932.tbl", "ledger", "receipt", "checkpoint", says=encoded(1024, 1023, flags="undefined single"))
     equal(read("receipt"), b"a" * 511 + b"?" + b"b" * 511, "the receipt")
@@ -619,13 +842,13 @@ def test_a_pair_cut_by_the_line_of_128_blocks():
     write("ledger", units_text(*[0x61] * 65535, 0xD83D, 0xDE00, *[0x62] * 2000))
     says = ["error: cannot write receipt: File too large"]
     tillbox("encode", "last", "cp932.tbl", "ledger", "receipt", "checkpoint", word="failed", says=says, limit=65800)
-    equal(read("checkpoint"), line("E 932 555 D83D 0 65536 65535 on"), "the line")
+    equal(read("checkpoint"), line("E 932 550 D83D 0 65536 65535 on"), "the line")
     # what is behind the line in the receipt is written over
     write("receipt", read("receipt")[:65535] + b"no part of it" * 1000)
     says = encoded(67537, 67536, flags="undefined single")
     tillbox("encode", "last", "cp932.tbl", "ledger", "receipt", "checkpoint", says=says)
     equal(read("receipt"), wanted, "the receipt")
-    equal(read("checkpoint"), line("E 932 555 - 1 67537 67536 over"), "the line")
+    equal(read("checkpoint"), line("E 932 550 - 1 67537 67536 over"), "the line")
 
 
 def test_checkpoints_with_a_unit():
@@ -661,7 +884,7 @@ def test_every_cut_of_a_text_with_surrogates():
     for place in range(len(whole) + 1):
         remove("receipt", "checkpoint")
         write("ledger", whole[:place])
-        tillbox("encode", "sample.tbl", "ledger", "receipt", "checkpoint")
+        tillbox("encode", "policy", "555", "sample.tbl", "ledger", "receipt", "checkpoint")
         write("ledger", whole)
         says = encoded(len(units), 8, flags="undefined single, invalid")
         tillbox("encode", "last", "sample.tbl", "ledger", "receipt", "checkpoint", says=says)
@@ -714,8 +937,14 @@ def test_encoding_of_random_ledgers():
 # ---------------------------------------------------------------------------------------------------------------
 
 
-def imported(read_total, records, fields, flags="none"):
-    return [f"read {read_total} bytes, written {records} records with {fields} fields", f"flags: {flags}"]
+def imported(read_total, records, fields, flags="none", stop=()):
+    return [f"read {read_total} bytes, written {records} records with {fields} fields", flags_line(flags), *stop]
+
+
+def stopped_in(policy, record, field, place, code, kind):
+    """What is said of an import that stopped."""
+    where = f"in record {record}, field {field}, at byte {place}, counted from 0: {code}, {kind}"
+    return [f"stopped by policy {policy} {where}", *how_to_go_on()]
 
 
 def records_text():
@@ -833,31 +1062,56 @@ def test_import_under_skipped_codes():
 
 def test_import_of_a_damaged_night():
     # page 7: 80 is an undefined single, 81 5A an undefined pair, 83 invalid; a lead at the end is invalid too
-    write("journal", b"a|\x80\n\x81\x5a|b\x83\nc\x82")
     names = "undefined single, undefined pair, invalid"
-    tillbox("import", "sample.tbl", "journal", "records", says=imported(12, 3, 5, flags=names))
-    equal(records_text(), "a,\u30fb\r\n\u30fb,b\u30fb\r\nc\u30fb\r\n", "the records")
+    # import asks for 555 itself: it gets through
+    for policy in ((), ("policy", "555")):
+        write("journal", b"a|\x80\n\x81\x5a|b\x83\nc\x82")
+        tillbox("import", *policy, "sample.tbl", "journal", "records", says=imported(12, 3, 5, flags=names))
+        equal(records_text(), "a,\u30fb\r\n\u30fb,b\u30fb\r\nc\u30fb\r\n", "the records")
     # under 550 the run stops behind 83, in the second field of record 2
-    stop = ["stopped by policy in record 2, field 2; the next unread byte is at 9"]
-    tillbox("import", "policy", "550", "sample.tbl", "journal", "records", word="stopped", says=imported(9, 1, 2, flags=names + ", stopped") + stop)
+    says = imported(9, 1, 2, flags=names + ", stopped", stop=stopped_in("550", 2, 2, 8, "83", INVALID))
+    tillbox("import", "policy", "550", "sample.tbl", "journal", "records", word="stopped", says=says)
     equal(records_text(), "a,\u30fb\r\n", "the records")
+    # under 505 behind 81 5A, in its first field; under 055 in record 1
+    says = imported(6, 1, 2, flags="undefined single, undefined pair, stopped", stop=stopped_in("505", 2, 1, 4, "81 5A", PAIR))
+    tillbox("import", "policy", "505", "sample.tbl", "journal", "records", word="stopped", says=says)
+    says = imported(3, 0, 0, flags="undefined single, stopped", stop=stopped_in("055", 1, 2, 2, "80", SINGLE))
+    tillbox("import", "policy", "055", "sample.tbl", "journal", "records", word="stopped", says=says)
+    equal(records_text(), "", "the records")
     # and at the end of the text, behind a lead that stands alone
     write("journal", b"a|b\nc\x82")
-    stop = ["stopped by policy in record 2, field 1; the next unread byte is at 6"]
-    tillbox("import", "policy", "550", "sample.tbl", "journal", "records", word="stopped", says=imported(6, 1, 2, flags="invalid, stopped") + stop)
+    says = imported(6, 1, 2, flags="invalid, stopped", stop=stopped_in("550", 2, 1, 5, "82", INVALID))
+    tillbox("import", "policy", "550", "sample.tbl", "journal", "records", word="stopped", says=says)
     equal(records_text(), "a,b\r\n", "the records")
     # a stop where a record ends: it is whole
     write("journal", b"a|b\n\x83c\n")
-    stop = ["stopped by policy in record 2, field 1; the next unread byte is at 5"]
-    tillbox("import", "policy", "550", "sample.tbl", "journal", "records", word="stopped", says=imported(5, 1, 2, flags="invalid, stopped") + stop)
+    says = imported(5, 1, 2, flags="invalid, stopped", stop=stopped_in("550", 2, 1, 4, "83", INVALID))
+    tillbox("import", "policy", "550", "sample.tbl", "journal", "records", word="stopped", says=says)
     equal(records_text(), "a,b\r\n", "the records")
+
+
+def test_import_stops_at_a_block():
+    # byte 511, the last of the first block, begins the code
+    front = (b"x" * 63 + b"\n") * 7 + b"y" * 63
+    for policy, code, shown, kind, read_total in (
+        ("550", b"\x82\x80", "82 80", INVALID, 513),
+        ("550", b"\x82\n", "82", INVALID, 512),
+        ("550", b"\x82", "82", INVALID, 512),
+        ("550", b"\x83\n", "83", INVALID, 512),
+        ("505", b"\x81\x5a\n", "81 5A", PAIR, 513),
+        ("055", b"\x80\n", "80", SINGLE, 512),
+    ):
+        write("journal", front + code)
+        says = imported(read_total, 7, 7, flags=flags_text(STOPPED_BY[kind]), stop=stopped_in(policy, 8, 1, 511, shown, kind))
+        tillbox("import", "policy", policy, "sample.tbl", "journal", "records", word="stopped", says=says)
+        equal(records_text(), ("x" * 63 + "\r\n") * 7, f"the records before {shown}")
 
 
 def test_import_stops_late():
     # what was written of the record that is broken off is cut away again: it has more fields than the output block holds
     write("journal", b"kept|whole\n" + b"field|" * 5000 + b"\x83\n")
-    stop = ["stopped by policy in record 2, field 5001; the next unread byte is at 30012"]
-    tillbox("import", "policy", "550", "sample.tbl", "journal", "records", word="stopped", says=imported(30012, 1, 2, flags="invalid, stopped") + stop)
+    says = imported(30012, 1, 2, flags="invalid, stopped", stop=stopped_in("550", 2, 5001, 30011, "83", INVALID))
+    tillbox("import", "policy", "550", "sample.tbl", "journal", "records", word="stopped", says=says)
     equal(records_text(), "kept,whole\r\n", "the records")
 
 
@@ -951,6 +1205,136 @@ def test_import_of_random_bytes():
             text = struct.pack(f"<{answer.written}H", *out[: answer.written]).decode("utf-16le", "surrogatepass")
             write("journal", journal)
             compare_import(name, text, flags=flags_text(answer.flags), read_total=size)
+
+
+# ---------------------------------------------------------------------------------------------------------------
+# Preview
+# ---------------------------------------------------------------------------------------------------------------
+
+
+def previewed(read_total, written, replaced, flags="none"):
+    return [f"read {read_total} units, written {written} bytes", f"characters replaced: {replaced}", flags_line(flags)]
+
+
+def test_preview_of_a_receipt():
+    # an emoji is one character; a question mark of the ledger is none that was replaced
+    write("ledger", "日本 \U0001f600\n".encode("utf-16le"))
+    tillbox("preview", "cp932.tbl", "ledger", "receipt", says=previewed(6, 7, 1, flags="undefined single"))
+    equal(read("receipt"), "日本 ?\n".encode("cp932"), "the receipt")
+    write("ledger", "日本?\n".encode("utf-16le"))
+    tillbox("preview", "cp932.tbl", "ledger", "receipt", says=previewed(4, 6, 0))
+    equal(read("receipt"), "日本?\n".encode("cp932"), "the receipt")
+
+
+def test_preview_gets_through():
+    for units, receipt, replaced, flags in (
+        ((), b"", 0, "none"),
+        ((0x41,), b"A", 0, "none"),
+        ((0x1234,), b"?", 1, "undefined single"),
+        ((0xD83D, 0xDE00), b"?", 1, "undefined single"),
+        ((0xD83D,), b"?", 1, "invalid"),
+        ((0xDE00, 0xD83D), b"??", 2, "invalid"),
+        ((0xD83D, 0xD83D, 0xDE00, 0x41), b"??A", 2, "undefined single, invalid"),
+        ((0x41, 0xD83D, 0x42, 0x1234, 0x3000), b"A?B?\x81\x40", 2, "undefined single, invalid"),
+        ((0x3F, 0x3F, 0xFFFF), b"???", 1, "undefined single"),
+    ):
+        write("ledger", units_text(*units))
+        # an older receipt is made anew
+        write("receipt", b"an older and longer receipt")
+        says = previewed(len(units), len(receipt), replaced, flags)
+        tillbox("preview", "sample.tbl", "ledger", "receipt", says=says)
+        equal(read("receipt"), receipt, f"the receipt of {units}")
+
+
+def test_preview_over_blocks():
+    # a pair that is cut by the end of a block is one character, a half alone there is one, and so is each half behind another
+    for before in (510, 511, 512, 1023):
+        for middle, receipt, replaced, flags in (
+            ((0xD83D, 0xDE00), b"?", 1, "undefined single"),
+            ((0xD83D,), b"?", 1, "invalid"),
+            ((0xD83D, 0xD83D, 0xDE00, 0xDE00), b"???", 3, "undefined single, invalid"),
+        ):
+            for end in ((), (0x62,) * 600):
+                write("ledger", units_text(*[0x61] * before, *middle, *end))
+                wanted = b"a" * before + receipt + b"b" * len(end)
+                says = previewed(before + len(middle) + len(end), len(wanted), replaced, flags)
+                tillbox("preview", "sample.tbl", "ledger", "receipt", says=says)
+                equal(read("receipt"), wanted, f"the receipt of {before} units, then {middle}")
+    # every character is replaced: 70,000 units, half of them pairs
+    write("ledger", units_text(*(0xD83D, 0xDE00, 0x1234, 0xFFFF) * 17500))
+    tillbox("preview", "sample.tbl", "ledger", "receipt", says=previewed(70000, 52500, 52500, flags="undefined single"))
+    equal(read("receipt"), b"?" * 52500, "the receipt")
+
+
+def receipt_of(table, units):
+    """By Python, from documents 01 and 02: the receipt under 555, how many characters were replaced, the flags."""
+    receipt, replaced, flags = b"", 0, 0
+    for match in re.finditer("[\ud800-\udbff][\udc00-\udfff]|.", "".join(map(chr, units)), re.DOTALL):
+        unit = ord(match.group()[0])
+        code = table.blocks[256 * table.index[unit >> 8] + (unit & 0xFF)]
+        surrogate = 0xD800 <= unit <= 0xDFFF
+        if surrogate or code == 0xFFFF:
+            receipt += bytes([table.default_byte])
+            replaced += 1
+            flags |= 4 if surrogate and len(match.group()) == 1 else 1
+        else:
+            receipt += bytes([code]) if code < 0x100 else bytes([code >> 8, code & 0xFF])
+    return receipt, replaced, flags
+
+
+def test_preview_of_random_ledgers():
+    # beside what encode writes under 555; question marks of the ledger's own are spread over it, also between the halves of pairs
+    rng = random.Random(10)
+    for name in ("cp932.tbl", "cp1252.tbl", "sample.tbl"):
+        table = second_converter.read_image_file(name, ["."])
+        for size in (1, 2, 511, 512, 513, 1025, 5000, 70000):
+            units = [0x3F if rng.random() < 0.05 else unit for unit in random_ledger(rng, size)]
+            wanted, replaced, flags = receipt_of(table, units)
+            write("ledger", units_text(*units))
+            says = previewed(size, len(wanted), replaced, flags_text(flags))
+            tillbox("preview", name, "ledger", "receipt", says=says)
+            equal(read("receipt"), wanted, f"the receipt of {size} units on {name}")
+            says = encoded(size, len(wanted), flags_text(flags))
+            tillbox("encode", "policy", "555", name, "ledger", "encoded", says=says)
+            equal(read("encoded"), wanted, f"what encode makes of {size} units on {name}")
+
+
+def test_preview_refused():
+    write("ledger", units_text(0x41))
+    write("receipt", b"kept")
+    missing = "No such file or directory"
+    twice = "two of the files have this name"
+    os.mkdir("folder")
+    write("odd", b"A\0B")
+    write("bad.tbl", b"no table")
+    image = bytearray(read("cp932.tbl"))
+    image[28 + 0xFF] = 3
+    write("class.tbl", image)
+    for words, says in [
+        (["none.tbl", "ledger", "receipt"], [f"error: cannot open none.tbl: {missing}"]),
+        (["cp932.tbl", "none", "receipt"], [f"error: cannot open none: {missing}"]),
+        (["cp932.tbl", "ledger", "none/receipt"], [f"error: cannot make none/receipt: {missing}"]),
+        (["cp932.tbl", "folder", "receipt"], ["error: cannot read folder: Is a directory"]),
+        (["cp932.tbl", "odd", "receipt"], ["error: odd: an odd number of bytes is no text of UTF-16 units"]),
+        (["bad.tbl", "ledger", "receipt"], ["error: bad.tbl: it is not a table image"]),
+        (["cp932.tbl", "ledger", "ledger"], [f"error: ledger: {twice}"]),
+        (["cp932.tbl", "ledger", "cp932.tbl"], [f"error: cp932.tbl: {twice}"]),
+        (["cp932.tbl", "", "receipt"], ["error: the name of a file is empty or too long"]),
+        (
+            ["class.tbl", "ledger", "receipt"],
+            ["error 10: the shape of the tables is not good (class.tbl)", "  the first bad place: the class at FF is none of 0, 1, 2, 4, 5, 6"],
+        ),
+    ]:
+        refused("preview", *words, says=says)
+    with open("huge", "wb") as file:
+        file.truncate(2 * 4294967296)
+    refused("preview", "cp932.tbl", "huge", "receipt", says=["error 16: the input has over 4,294,967,295 units (huge)"])
+
+
+def test_preview_that_can_not_write():
+    write("ledger", units_text(*[0x61] * 30000))
+    says = ["error: cannot write receipt: File too large"]
+    tillbox("preview", "cp932.tbl", "ledger", "receipt", word="failed", says=says, limit=20000)
 
 
 def main():

@@ -140,6 +140,7 @@ def check_coverage(options):
         "save": (0, 12, 19),
         "load": (0, 18),
         "field": ("bar", "line", "end", "held", 11, 20, 21, 27),
+        "standard": (5,),
     }
     seen = {command: set() for command in wanted}
     shown = set()
@@ -974,6 +975,116 @@ def wrong_one_go_converters(directions):
     ))
 
 
+def wrong_standards():
+    """The same for the standard policy (document 02, CR 4)."""
+    right = {name: getattr(converter, name) for name in dir(converter)}
+    standard = right["STANDARD"]
+
+    def loaded(digits_of):
+        """A line is read as a run of other digits."""
+
+        def wrong(line):
+            run = right["load_call"](line)
+            return run if run == 18 else converter.replace(run, digits=digits_of(run.digits))
+
+        return wrong
+
+    def taken(digits_of):
+        """Codes are taken under other digits than the run's, which says its own."""
+
+        def wrong(direction, table, digits, carried, piece, last, room):
+            digits = digits_of(direction, digits, carried)
+            return right["take_codes"](direction, table, digits, carried, piece, last, room)
+
+        return wrong
+
+    def stopping(change):
+        """A stop is taken otherwise."""
+
+        def wrong(direction, table, digits, carried, piece, last, room):
+            taken = right["take_codes"](direction, table, digits, carried, piece, last, room)
+            return taken if taken.number != 3 else converter.replace(taken, **change(taken, direction, table, room))
+
+        return wrong
+
+    def replaced_and_stopped(taken, direction, table, room):
+        default = table.default_unit if direction == "D" else table.default_byte
+        return {"output": taken.output + [default] * (len(taken.output) < room)}
+
+    def started_by_standard(direction, page, digits):
+        return right["start_call"](direction, page, standard if digits == (5, 5, 5) else digits)
+
+    def one_go_by_standard(direction, digits, table, text, out):
+        return right["convert_call"](direction, standard if digits == (5, 5, 5) else digits, table, text, out)
+
+    def saved_by_standard(run):
+        return right["line_of"](converter.replace(run, digits=standard))
+
+    class TellsTheRun(converter.Console):
+        """The digits that are told are those of the run in hand."""
+
+        def do_standard(self):
+            return "standard " + " ".join(map(str, self.run.digits))
+
+    class SetsTheRun(converter.Console):
+        """Telling the standard gives it to the run in hand."""
+
+        def do_standard(self):
+            self.run = converter.replace(self.run, digits=standard)
+            return super().do_standard()
+
+    class TakesWords(converter.Console):
+        """Words behind the command are not looked at."""
+
+        def answer(self, line):
+            return super().answer(b"standard" if line.startswith(b"standard ") else line)
+
+    class GoesOnUnderTheFormer(converter.Console):
+        """A line that is read goes on under the digits of the run that was in hand."""
+
+        def do_load(self, line):
+            former, answer = self.run, super().do_load(line)
+            if answer != "load 18":
+                self.run = converter.replace(self.run, digits=former.digits)
+            return answer
+
+    return (
+        ("the standard is 505", "STANDARD", (5, 0, 5)),
+        ("the standard is 555, the old one", "STANDARD", (5, 5, 5)),
+        ("the standard is 055", "STANDARD", (0, 5, 5)),
+        ("the standard is 500", "STANDARD", (5, 0, 0)),
+        ("the standard is 551", "STANDARD", (5, 5, 1)),
+        ("a line goes on under the standard", "load_call", loaded(lambda digits: standard)),
+        ("a 555 line is an old standard one and goes on under the new", "load_call",
+         loaded(lambda digits: standard if digits == (5, 5, 5) else digits)),
+        ("a 550 line goes on under the old standard", "load_call",
+         loaded(lambda digits: (5, 5, 5) if digits == standard else digits)),
+        ("a line goes on under the digits of the run in hand", "Console", GoesOnUnderTheFormer),
+        ("a line is saved under the standard", "line_of", saved_by_standard),
+        ("every call is under the standard", "take_codes", taken(lambda direction, digits, carried: standard)),
+        ("what is carried is settled under the standard", "take_codes",
+         taken(lambda direction, digits, carried: digits if carried is None else standard)),
+        ("the old standard when something is carried", "take_codes",
+         taken(lambda direction, digits, carried: (5, 5, 5) if carried is not None and digits == standard else digits)),
+        ("the standard stops in decoding only", "take_codes",
+         taken(lambda direction, digits, carried: (5, 5, 5) if direction == "E" and digits == standard else digits)),
+        ("the standard stops in encoding only", "take_codes",
+         taken(lambda direction, digits, carried: (5, 5, 5) if direction == "D" and digits == standard else digits)),
+        ("the standard stops at every code without a character", "take_codes",
+         taken(lambda direction, digits, carried: (0, 0, 0) if digits == standard else digits)),
+        ("a stop writes the default", "take_codes", stopping(replaced_and_stopped)),
+        ("a stop is answered as a text that is read", "take_codes", stopping(lambda taken, direction, table, room: {"number": 0})),
+        ("a stop sets no flag but 8", "take_codes", stopping(lambda taken, direction, table, room: {"flags": 8})),
+        ("a stop does not set flag 8", "take_codes",
+         stopping(lambda taken, direction, table, room: {"flags": taken.flags & 7})),
+        ("555 is started as the standard", "start_call", started_by_standard),
+        ("555 in one go is the standard", "convert_call", one_go_by_standard),
+        ("the digits of the run in hand are told", "Console", TellsTheRun),
+        ("telling the standard changes the run in hand", "Console", SetsTheRun),
+        ("words behind the command are not looked at", "Console", TakesWords),
+    )
+
+
 class SeparatedByLowHalf(dict):
     """A unit parts fields by its low half alone."""
 
@@ -1118,7 +1229,23 @@ def check_wrong_converters(options):
     expect_found_out(carrying + settling + wrong_surrogate_converters(), ("surrogates",))
     for directions in ("D", "E"):
         expect_found_out(wrong_one_go_converters(directions), ("one_call",))
+    expect_found_out(wrong_standards(), ("standard",))
     expect_found_out(wrong_field_converters(), ("fields",))
+
+
+def check_standard_is_told(options):
+    """With another standard only the answers to `standard` are others: every run, call and line has its own digits."""
+    right, other = converter.STANDARD, (1, 2, 3)
+    told, answer = (b"standard " + b"%d %d %d" % digits + b"\n" for digits in (right, other))
+    for name in make_scripts.scripts_by_hand():
+        commands, answers = (read(os.path.join(SCRIPTS, name + ending)) for ending in (".in", ".out"))
+        converter.STANDARD = other
+        try:
+            got = converter.play(commands, FOLDERS)
+        finally:
+            converter.STANDARD = right
+        expect(got == answers.replace(told, answer), f"{name}: {page_scripts.first_difference(got, answers)}")
+        expect((got != answers) == (b"\nstandard\n" in commands), f"{name}: the standard is told or not")
 
 
 def check_wrong_pages(options):
@@ -1171,6 +1298,7 @@ CHECKS = (
     ("one line a run, one run a line", check_lines),
     ("lists of calls against the fields of the uncut text", check_fields),
     ("wrong converters are found out", check_wrong_converters),
+    ("the standard policy is told and not used", check_standard_is_told),
     ("wrong page tables are found out", check_wrong_pages),
 )
 
