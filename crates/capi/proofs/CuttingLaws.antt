@@ -10,6 +10,7 @@ use Rattle.capi.specs.declared.cutting.TillField.{TillField}
 use Rattle.capi.specs.Interface.{isLast}
 use Rattle.capi.specs.Cutting.{fieldOut, calledOut, TillCut}
 
+-- the promise of the exported call, from that of `fieldCall`'s
 pub called-so : (held : ℕ) (buffer block : List ℕ) (last : ℕ) (mark : Bool) (o : Outcome) (r : TillField) (after : List ℕ) → mark ≡ isLast last → Answered (fieldCall held buffer block mark) o after
     → r ≡ fieldOut (o .answer) (o .state .count) → TillCut held buffer block last r after
 unfolding calledOut

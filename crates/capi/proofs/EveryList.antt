@@ -114,7 +114,7 @@ pub record Traced (s : Setting) (hand : Run) (es : List TillEntry) : Type 0 wher
 
 module _ (s : Setting) (h : Proper s) where
   fits : (m : Model) → Kept s m → Representable (m .run)
-  fits m g = representable (m .run) (g .fair .valid) (omega (arith, h .page, g .fair .page)) (g .fair .carried)
+  fits m g = representable (m .run) (g .fair .valid) (omega (arith, h .page, g .fair .page)) (g .fair .pending)
 
   traced : (es : List TillEntry) (m : Model) (hand : TillRun) → hand ≡ runOut (m .run) → Kept s m → AllAllowed s m (tillCalls es) → AllTillMeet s hand es → Traced s (m .run) es
   unfolding AllAllowed AllMeet AllTillMeet

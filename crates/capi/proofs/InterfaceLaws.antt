@@ -12,7 +12,7 @@ use Rattle.engine.specs.declared.Direction.{Direction}
 use Rattle.engine.specs.declared.Direction.the-variants.{Decoding, Encoding}
 use Rattle.codepage.specs.Lent.{over}
 use Rattle.codepage.specs.Reading.{isHigh}
-use Rattle.engine.proofs.EffectLaws.{and-left, and-right}
+use Rattle.codepage.proofs.ShapeLaws.{and-left, and-right}
 use Rattle.convert.specs.declared.Pending.{Pending}
 use Rattle.convert.specs.declared.Pending.the-variants.{Nothing, Byte, High}
 use Rattle.convert.specs.declared.Run.{Run}
@@ -22,7 +22,7 @@ use Rattle.convert.specs.Calls.{numberOf, check, refusal, Called, refusedCall, 
 use Rattle.convert.proofs.CallLaws.{PendingIn, valid-in, valid-facts}
 use Rattle.convert.proofs.RunLaws.{refused-same}
 use Rattle.checkpoint.specs.declared.Written.{Written}
-use Rattle.checkpoint.specs.Line.{writeOf, writtenAs, Saved, CarriedFits, Representable}
+use Rattle.checkpoint.specs.Line.{writeOf, writtenAs, Saved, PendingFits, Representable}
 use Rattle.capi.specs.declared.TillRun.{TillRun}
 use Rattle.capi.specs.declared.TillOutcome.{TillOutcome}
 use Rattle.capi.specs.declared.TillSaved.{TillSaved}
@@ -77,7 +77,7 @@ high-large : (unit : ℕ) → isHigh unit ≡ true → 256 < unit
 unfolding isHigh
 high-large unit e = omega (arith, leb-true 0xD800 unit (and-left (leb 0xD800 unit) _ e))
 
-pending-named : (p : Pending) → CarriedFits p → HighPending p → pendingIn (pendingOut p) ≡ p
+pending-named : (p : Pending) → PendingFits p → HighPending p → pendingIn (pendingOut p) ≡ p
 pending-named Nothing h i = refl
 pending-named (Byte byte) h i = rw (lt-ltb byte 256 h)
 pending-named (High unit) h i =
@@ -92,7 +92,7 @@ direction-is : (d : Direction) → leb (directionOut d) 1 ≡ true
 direction-is Decoding = refl
 direction-is Encoding = refl
 
-pending-is : (p : Pending) → CarriedFits p → HighPending p → isPending (pendingOut p) ≡ true
+pending-is : (p : Pending) → PendingFits p → HighPending p → isPending (pendingOut p) ≡ true
 unfolding isPending
 pending-is Nothing h i = refl
 pending-is (Byte byte) h i = rw (le-leb byte 256 (omega (arith, h)))
@@ -102,6 +102,7 @@ ended-is : (t : Bool) → leb (flagOut t) 1 ≡ true
 ended-is true = refl
 ended-is false = refl
 
+-- a run that the program can hold comes back from its numbers, and they name a run
 pub run-returns : (run : Run) → Representable run → HighPending (run .pending) → (runIn (runOut run) ≡ run) × (isRun (runOut run) ≡ true)
 unfolding isRun runOn runOut
 run-returns run fits high = (
@@ -167,6 +168,7 @@ module _ (direction : Direction) (run : TillRun) (p : CodePage) (piece : List �
       never true false e = omega arith
       never false size e = omega arith
 
+  -- the promise of a run call, from that of the call behind it
   pub call-answered : (inner : Run) (mark : Bool) (o : Outcome) (r : TillOutcome) (after : List ℕ) → inner ≡ runOn (pageNamed run) run → mark ≡ isLast last
       → Answered (runCall direction inner p piece mark (length before)) o before after → r ≡ answerOut run o → TillAnswered (tillCall direction run p piece last (length before)) r before after
   unfolding answerOut refusedCall
@@ -187,10 +189,12 @@ module _ (direction : Direction) (run : TillRun) (p : CodePage) (piece : List �
 
 -- ---- line writing
 module _ (run : TillRun) (before : List ℕ) where
+  -- line writing refuses numbers that name no run, and changes nothing
   pub refused-saved : (r : TillSaved) → isRun run ≡ false → r .number ≡ 12 → r .size ≡ 0 → TillSavedAs (tillSave run (length before)) r before before
   unfolding tillSave over
   refused-saved r k n s = rw k (record { number = n; size = s; lent = refl })
 
+  -- line writing of numbers that name a run, from the promise of the call behind it
   pub line-saved : (inner : Run) (w : Written) (r : TillSaved) (after : List ℕ) → isRun run ≡ true → inner ≡ runIn run
       → Saved (writeOf inner (length before)) w before after → r .number ≡ writtenAs w .number → r .size ≡ writtenAs w .size
       → TillSavedAs (tillSave run (length before)) r before after

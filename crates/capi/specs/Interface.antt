@@ -34,20 +34,22 @@ use Rattle.capi.specs.declared.TillFault.{TillFault}
 abbrev pub directionIn : ℕ → Direction
 directionIn n = pick (eqb n 0) Decoding Encoding
 
+-- a direction's number
 abbrev pub directionOut : Direction → ℕ
 directionOut Decoding = 0
 directionOut Encoding = 1
 
--- pending: the carried byte, the carried high surrogate, or 256 for none
+-- pending: the pending byte, the pending high surrogate, or 256 for none
 abbrev pub pendingIn : ℕ → Pending
 pendingIn n = pick (ltb n 256) (Byte n) (pick (eqb n 256) Nothing (High n))
 
+-- the number of what is pending
 abbrev pub pendingOut : Pending → ℕ
 pendingOut Nothing = 256
 pendingOut (Byte byte) = byte
 pendingOut (High unit) = unit
 
--- the numbers that say what is pending: no other unit than a high surrogate is carried
+-- the numbers that say what is pending: no other unit than a high surrogate is pending
 unfoldable pub isPending : ℕ → Bool
 isPending n = leb n 256 || isHigh n
 
@@ -74,6 +76,7 @@ runOn page r =
       ended = eqb (r .ended) 1;
     }
 
+-- the run that the numbers name, on the page they name
 abbrev pub runIn : TillRun → Run
 runIn r = runOn (r .page) r
 
@@ -107,6 +110,7 @@ pub record TillCalled : Type 0 where
   pub output : List ℕ
   pub run : TillRun
 
+-- what the rules give for a run call, with the new run as numbers
 abbrev pub calledOut : Called → TillCalled
 calledOut c = record { number = c .number; read = c .read; output = c .output; run = runOut (c .run) }
 
@@ -126,6 +130,7 @@ tillRefused number run = record { number = number; read = 0; output = []; run = 
 abbrev pub isLast : ℕ → Bool
 isLast last = not (eqb last 0)
 
+-- What a run call through C gives: as the call of the run that the numbers name, or the refusal.
 unfoldable pub tillCall : Direction → TillRun → CodePage → (piece : List ℕ) → (last : ℕ) → (room : ℕ) → TillCalled
 tillCall direction run p piece last room =
     pick (eqb (tillRefusal direction run p (length piece)) 0) (calledOut (runCall direction (runIn run) p piece (isLast last) room))
@@ -169,19 +174,24 @@ abbrev pub runOr : Option Run → TillRun
 runOr none = noRun
 runOr (some run) = runOut run
 
+-- a number with the run it gives, or with the numbers of no run
 unfoldable pub handed : (number : ℕ) → Option Run → TillHanded
 handed number run = record { run = runOr run; number = number }
 
+-- what a start gives, as numbers
 abbrev pub startOut : Start → TillHanded
 startOut s = handed (s .number) (s .run)
 
+-- What `till_start` gives: a direction that is neither 0 nor 1 is refused with 17, as a digit that is not allowed.
 unfoldable pub tillStart : (direction page single pair invalid : ℕ) → TillHanded
 tillStart direction page single pair invalid =
     pick (leb direction 1) (startOut (startOf (directionIn direction) page (digits single pair invalid))) (handed 17 none)
 
+-- what line reading gives, as numbers
 abbrev pub loadOut : Loading → TillHanded
 loadOut l = handed (l .number) (l .run)
 
+-- What `till_save` gives: numbers that name no run break the rules of runs, and are refused with 12.
 unfoldable pub tillSave : TillRun → (room : ℕ) → Saving
 tillSave run room = pick (isRun run) (writeOf (runIn run) room) (unwritten 12)
 

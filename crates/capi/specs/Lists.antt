@@ -1,4 +1,5 @@
 -- Document 01, "The lists of demand 3", of calls through the C interface: what C was handed back for each call of a list.
+-- docs/RULES.md, "Lists of calls".
 use mathlib.Core.List.{List, [], _∷_}
 use mathlib.Core.Path.{_≡_}
 use Prim.Native.Nat.{ℕ}
@@ -45,10 +46,12 @@ tillHandAfter hand (fed r lent) = pick (isAccepted (r .number)) (r .run) hand
 tillHandAfter hand (saved r lent) = hand
 tillHandAfter hand (loaded r) = pick (isAccepted (r .number)) (r .run) hand
 
+-- each result of a list meets its contract, for the run that the results before it put in hand
 unfoldable pub AllTillMeet : Setting → (hand : TillRun) → List TillEntry → Type 0
 AllTillMeet s hand [] = Unit {0}
 AllTillMeet s hand (e ∷ es) = TillMeets s hand (e .call) (e .mark) (e .result) × AllTillMeet s (tillHandAfter hand (e .result)) es
 
+-- the calls of a list, without what C was handed back
 abbrev pub tillCalls : List TillEntry → List Call
 tillCalls [] = []
 tillCalls (e ∷ es) = e .call ∷ tillCalls es
@@ -75,6 +78,7 @@ InNumbers (loaded r) (answered o after) = ⊥
 InNumbers (loaded r) (written w after) = ⊥
 InNumbers (loaded r) (restored l) = r ≡ loadOut (restoredAs l)
 
+-- two lists of the same calls, the results of the first those of the second in numbers
 abbrev pub AllInNumbers : List TillEntry → List Entry → Type 0
 AllInNumbers [] [] = Unit {0}
 AllInNumbers [] (f ∷ fs) = ⊥

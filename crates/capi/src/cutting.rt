@@ -18,6 +18,7 @@ pub struct TillField {
     pub place: u8,
 }
 
+// The number of what ended a field; 0 is left for no field.
 fn end_out(end: End) -> u8
     ensures { λ r. ⌜ r ≡ endOut end ⌝ }
 {
@@ -28,6 +29,7 @@ fn end_out(end: End) -> u8
     }
 }
 
+// The number of the lent slice that a field lies in.
 fn place_out(place: Place) -> u8
     ensures { λ r. ⌜ r ≡ placeOut place ⌝ }
 {
@@ -37,6 +39,7 @@ fn place_out(place: Place) -> u8
     }
 }
 
+// A refusal: nothing is read, and as many units are held as before.
 fn refused_field(held: usize, number: u8) -> TillField
     ensures { λ r. ⌜ r ≡ refusedField held number ⌝ }
 {
@@ -50,6 +53,7 @@ fn refused_field(held: usize, number: u8) -> TillField
     }
 }
 
+// The answer of a call as numbers, with the units that are held after it.
 fn field_out(answer: Answer, held: usize) -> TillField
     ensures { λ r. ⌜ r ≡ fieldOut answer held ⌝ }
 {

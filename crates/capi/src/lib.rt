@@ -1,4 +1,5 @@
-// The C interface: exported calls over numbers, slices and structs of numbers. bench/till.h is its header.
+// The C interface: exported calls over numbers, slices and structs of numbers. include/till.h is its header and examples/example.c a
+// program that uses it; `rt staticlib capi` writes the archive.
 ghost use mathlib.Core.Path.{_≡_};
 ghost use mathlib.Core.Bool.{Bool};
 ghost use Prim.Native.Nat.{ℕ};
@@ -22,8 +23,8 @@ use convert::Started;
 use engine::Direction;
 use engine::Policy;
 
-// A run as C sees it. direction: 0 decoding, 1 encoding; pending: the carried byte, the
-// carried high surrogate, or 256 for none; ended: 0 or 1.
+// A run as C sees it. direction: 0 decoding, 1 encoding; pending: the pending byte, the
+// pending high surrogate, or 256 for none; ended: 0 or 1.
 #[repr(C)]
 pub struct TillRun {
     pub read: u64,
@@ -75,7 +76,7 @@ fn is_pending(number: u16) -> bool
     if number <= 256 {
         return true;
     }
-    lookup::is_high(number)
+    codepage_lookup::is_high(number)
 }
 
 // Whether numbers are those of a run.
@@ -98,6 +99,7 @@ fn is_last(mark: u8) -> bool
     mark != 0
 }
 
+// The direction that a number names: 0 decoding, any other encoding. The calls refuse numbers over 1.
 fn direction_in(number: u8) -> Direction
     ensures { λ r. ⌜ r ≡ directionIn number ⌝ }
 {
@@ -107,6 +109,7 @@ fn direction_in(number: u8) -> Direction
     Direction::Encoding
 }
 
+// A direction's number.
 fn direction_out(direction: Direction) -> u8
     ensures { λ r. ⌜ r ≡ directionOut direction ⌝ }
 {
@@ -116,6 +119,7 @@ fn direction_out(direction: Direction) -> u8
     }
 }
 
+// What a number says is pending: a byte, nothing (256), or a high surrogate.
 fn pending_in(number: u16) -> Pending
     ensures { λ r. ⌜ r ≡ pendingIn number ⌝ }
 {
@@ -128,6 +132,7 @@ fn pending_in(number: u16) -> Pending
     Pending::High(number)
 }
 
+// The number of what is pending: 256 for nothing.
 fn pending_out(pending: Pending) -> u16
     ensures { λ r. ⌜ r ≡ pendingOut pending ⌝ }
 {
@@ -138,6 +143,7 @@ fn pending_out(pending: Pending) -> u16
     }
 }
 
+// 1 for true, 0 for false.
 fn flag_out(flag: bool) -> u8
     ensures { λ r. ⌜ r ≡ flagOut flag ⌝ }
 {
@@ -170,6 +176,7 @@ fn run_on(page: u16, run: TillRun) -> Run
     }
 }
 
+// The numbers of a run.
 fn run_out(run: Run) -> TillRun
     ensures { λ r. ⌜ r ≡ runOut run ⌝ }
 {
@@ -323,6 +330,7 @@ fn no_run() -> TillRun
     }
 }
 
+// A start's answer as numbers: 0 and the run, or 17.
 fn started_out(started: Started) -> TillHanded
     ensures { λ r. ⌜ r ≡ startOut (startedAs started) ⌝ }
 {
@@ -363,6 +371,7 @@ pub extern "C" fn till_start(
     started_out(started)
 }
 
+// The answer of line reading as numbers: 0 and the run, or 18.
 fn restored_out(restored: Restored) -> TillHanded
     ensures { λ r. ⌜ r ≡ loadOut (restoredAs restored) ⌝ }
 {
@@ -387,6 +396,7 @@ pub extern "C" fn till_load(line: &[u8]) -> TillHanded
     restored_out(restored)
 }
 
+// The answer of line writing as numbers: 0 and the line's length, or 12 or 19.
 fn written_out(written: Written) -> TillSaved
     ensures { λ r. ⌜ (r .number ≡ writtenAs written .number) × (r .size ≡ writtenAs written .size) ⌝ }
 {
@@ -419,6 +429,7 @@ pub extern "C" fn till_save(run: TillRun, out: &mut [u8]) -> TillSaved
     written_out(written)
 }
 
+// The shape report as a number and a place.
 fn fault_out(fault: Fault) -> TillFault
     ensures { λ r. ⌜ r ≡ faultOut fault ⌝ }
 {

@@ -12,6 +12,7 @@ use Rattle.capi_text.specs.declared.TillText.{TillText}
 unfoldable pub textOut : (number : ℕ) → Totals → TillText
 textOut number t = record { need = t .need; read = t .read; written = t .written; number = number; flags = t .flags }
 
+-- what the call on a whole text returned, as C sees it
 abbrev pub convertedOut : Converted → TillText
 convertedOut r = textOut (convertedNumber r) (totalsOrNone (convertedTotals r))
 

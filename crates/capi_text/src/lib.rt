@@ -1,4 +1,4 @@
-// The C interface: the exported calls on a whole text. bench/till.h is its header. They are an archive of their own: with them in
+// The C interface: the exported calls on a whole text. include/till.h is its header. They are an archive of their own: with them in
 // that of `capi` the loops would have two callers, and the stack of a run call would be half as large again.
 ghost use mathlib.Core.Path.{_≡_};
 ghost use lib.ListN.{length};
@@ -22,6 +22,7 @@ pub struct TillText {
     pub flags: u8,
 }
 
+// The policy of three digits as C hands them over, allowed or not.
 fn policy_in(single: u8, pair: u8, invalid: u8) -> Policy
     ensures { λ r. ⌜ r ≡ digits single pair invalid ⌝ }
 {
@@ -32,6 +33,7 @@ fn policy_in(single: u8, pair: u8, invalid: u8) -> Policy
     }
 }
 
+// The answer of the call on a whole text as C sees it.
 fn converted_out(answer: Converted) -> TillText
     ensures { λ r. ⌜ r ≡ convertedOut answer ⌝ }
 {

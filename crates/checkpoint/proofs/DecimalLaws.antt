@@ -30,10 +30,12 @@ enough (suc f) (suc g) n h k = by-size (enough f g (n / 10) (omega arith) (omega
     by-size e true q = few (suc f) n (ltb-true _ _ q) ∙ sym (few (suc g) n (ltb-true _ _ q))
     by-size e false q = many f n (ltb-false _ _ q) ∙ ap (λ (l : List ℕ). l ++ (digitByte (n % 10) ∷ [])) e ∙ sym (many g n (ltb-false _ _ q))
 
+-- a number below 10 is one digit
 pub decimal-few : (n : ℕ) → n < 10 → decimal n ≡ digitByte n ∷ []
 unfolding decimal
 decimal-few n h = few n n h
 
+-- a larger number is the digits of its tenth and then its last digit
 pub decimal-many : (n : ℕ) → 10 ≤ n → decimal n ≡ decimal (n / 10) ++ (digitByte (n % 10) ∷ [])
 unfolding decimal
 decimal-many zero h = absurd (omega arith)
@@ -47,15 +49,9 @@ decimal-step n digit h k =
     decimal-many (10 * n + digit) (omega arith) ∙ rw (front, last)
 
 -- ---- how many they are
+-- from 10 on a number has one digit more than its tenth
 pub long : (n : ℕ) → 10 ≤ n → length (decimal n) ≡ suc (length (decimal (n / 10)))
 long n h = ap length (decimal-many n h) ∙ length-append (decimal (n / 10)) (digitByte (n % 10) ∷ []) ∙ omega arith
-
-pub decimal-some : (n : ℕ) → 1 ≤ length (decimal n)
-decimal-some n = by-size (ltb n 10) refl
-  where
-    by-size : (t : Bool) → ltb n 10 ≡ t → 1 ≤ length (decimal n)
-    by-size true q = omega (arith, ap length (decimal-few n (ltb-true _ _ q)))
-    by-size false q = omega (arith, long n (ltb-false _ _ q))
 
 -- a number below 10 to the k has at most k digits
 pub decimal-short : (k n : ℕ) → n < 10 ^ suc k → length (decimal n) ≤ suc k
@@ -67,15 +63,18 @@ decimal-short (suc k) n h = by-size (decimal-short k (n / 10) (omega (arith, pow
     by-size e false q = omega (arith, long n (ltb-false _ _ q))
 
 -- ---- the digits of a given number of places, from which the program writes a number
+-- the last `count` digits of a number, with zeros before it where it has fewer
 unfoldable pub places : (count n : ℕ) → List ℕ
 places zero n = []
 places (suc count) n = places count (n / 10) ++ (digitByte (n % 10) ∷ [])
 
+-- there are as many digits as places
 pub places-length : (count n : ℕ) → length (places count n) ≡ count
 unfolding places
 places-length zero n = refl
 places-length (suc count) n = length-append (places count (n / 10)) (digitByte (n % 10) ∷ []) ∙ omega (arith, places-length count (n / 10))
 
+-- one place more: the last digit stands behind those of the tenth
 pub places-suc : (count n : ℕ) → places (suc count) n ≡ places count (n / 10) ++ (digitByte (n % 10) ∷ [])
 unfolding places
 places-suc count n = refl
@@ -98,5 +97,6 @@ place-from (suc fuel) n h = by-size (place-from fuel (n / 10) (omega arith)) (lt
         ∙ ap (λ (l : List ℕ). l ++ (digitByte (n % 10) ∷ [])) e
         ∙ sym (decimal-many n (ltb-false _ _ q))
 
+-- in as many places as its decimal form has, the digits of a number are that form
 pub places-decimal : (n : ℕ) → places (length (decimal n)) n ≡ decimal n
 places-decimal n = place-from n n (omega arith)

@@ -18,23 +18,24 @@ use Rattle.engine.specs.declared.Policy.{Policy}
 use Rattle.convert.specs.declared.Pending.{Pending}
 use Rattle.convert.specs.declared.Pending.the-variants.{Nothing, Byte, High}
 use Rattle.convert.specs.declared.Run.{Run}
-use Rattle.convert.specs.Runs.{validRun, isDecoding, isEncoding, pendingAllowed}
+use Rattle.convert.specs.Runs.{validRun, isDecoding, isEncoding, pendingAllowed, readLimit, writtenLimit}
 use Rattle.engine.specs.Policies.{policyAllowed, highestSingle}
 use Rattle.codepage.specs.Lent.{over}
+use Rattle.codepage.proofs.ShapeLaws.{and-left, and-right}
 use Rattle.convert.proofs.CallLaws.{Valid, valid-facts, most-twice}
 use Rattle.checkpoint.specs.declared.Written.{Written}
-use Rattle.checkpoint.specs.Line.{tab, lineOf, fieldOf, closingOf, decimal, runOf, kept, fieldsBy, fields, field, letter, number, threeDigits, carried, closing, one, return, _>>=_, Parsed, Parser, Representable, Restores, CarriedFits, letterOf, digitsOf, carriedOf, Saving, unwritten, writeOf, writtenAs, Saved, Loading, loaded, readOf}
-use Rattle.checkpoint.specs.Sample.{sampleRun, sampleLine, carryingRun, carryingLine, longestRun, longestCarrying, notLines, AllAnswered}
+use Rattle.checkpoint.specs.Line.{tab, lineOf, fieldOf, closingOf, decimal, runOf, kept, fieldsBy, fields, field, letter, number, threeDigits, pendingField, closing, one, succeed, _>>=_, Parsed, Parser, Representable, Restores, PendingFits, letterOf, digitsOf, pendingOf, Saving, unwritten, writeOf, writtenAs, Saved, Loading, loaded, readOf}
+use Rattle.checkpoint.specs.Sample.{sampleRun, sampleLine, pendingRun, pendingLine, longestRun, longestPending, notLines, AllAnswered}
 use Rattle.checkpoint.proofs.Computing.{lineRules}
 use Rattle.checkpoint.proofs.DecimalLaws.{decimal-short}
-use Rattle.checkpoint.proofs.ParserLaws.{got, none-some, some-eq, and-left, and-right, Reads, CarriedIn, then-some, then-back, Digits, letter-reads, number-reads, digits-read, carried-reads, field-forth, field-back, closing-forth, closing-back}
+use Rattle.checkpoint.proofs.ParserLaws.{got, none-some, some-eq, Reads, PendingOfLine, then-some, then-back, Digits, letter-reads, number-reads, digits-read, pending-reads, field-forth, field-back, closing-forth, closing-back}
 
 -- ---- the fields of a line
 line-fields : (run : Run) → lineOf run ≡
     fieldOf (letterOf (run .direction))
     ++ (fieldOf (decimal (run .page))
     ++ (fieldOf (digitsOf (run .policy))
-    ++ (fieldOf (carriedOf (run .pending))
+    ++ (fieldOf (pendingOf (run .pending))
     ++ (fieldOf (decimal (run .flags))
     ++ (fieldOf (decimal (run .read))
     ++ (fieldOf (decimal (run .written))
@@ -42,20 +43,20 @@ line-fields : (run : Run) → lineOf run ≡
 unfolding lineOf
 line-fields run = simp append-assoc
 
-pub fields-forth : (run : Run) → Digits (run .policy) → CarriedIn (run .direction) (run .pending) → fields (lineOf run) ≡ got run []
-unfolding fields fieldsBy return
+pub fields-forth : (run : Run) → Digits (run .policy) → PendingOfLine (run .direction) (run .pending) → fields (lineOf run) ≡ got run []
+unfolding fields fieldsBy succeed
 fields-forth run d c =
     ap fields (line-fields run)
     ∙ then-some (field letter) _ _ _ _ (field-forth letter-reads (run .direction) _ tt)
     ∙ then-some (field number) _ _ _ _ (field-forth number-reads (run .page) _ tt)
     ∙ then-some (field threeDigits) _ _ _ _ (field-forth digits-read (run .policy) _ d)
-    ∙ then-some (field (carried (run .direction))) _ _ _ _ (field-forth (carried-reads (run .direction)) (run .pending) _ c)
+    ∙ then-some (field (pendingField (run .direction))) _ _ _ _ (field-forth (pending-reads (run .direction)) (run .pending) _ c)
     ∙ then-some (field number) _ _ _ _ (field-forth number-reads (run .flags) _ tt)
     ∙ then-some (field number) _ _ _ _ (field-forth number-reads (run .read) _ tt)
     ∙ then-some (field number) _ _ _ _ (field-forth number-reads (run .written) _ tt)
     ∙ then-some closing _ _ _ _ (closing-forth (run .ended))
 
--- what was read is the line of the run, whose digits and what is carried are such
+-- what was read is the line of the run, whose digits and what is pending are such
 pub record Spelled (Good : Direction → Pending → Type 0) (line : List ℕ) (run : Run) : Type 0 where
   pub line-is : line ≡ lineOf run
   pub digits : Digits (run .policy)
@@ -69,11 +70,11 @@ peel {p} w next bytes r e goal =
     let b = field-back w bytes (v .0) (v .1) in
     goal (v .0 .value) (v .0 .rest) (b .0) (b .1) (v .2)
 
--- over any parser of what is carried
-pub spelled-by : (carried : Direction → Parser Pending) (Good : Direction → Pending → Type 0) → ((direction : Direction) → Reads (carried direction) carriedOf (Good direction))
-    → (line : List ℕ) (r : Parsed Run) → fieldsBy carried line ≡ some r → Spelled Good line (r .value)
-unfolding fieldsBy return
-spelled-by carried Good reads line r e =
+-- over any parser of what is pending
+pub spelled-by : (pendingField : Direction → Parser Pending) (Good : Direction → Pending → Type 0) → ((direction : Direction) → Reads (pendingField direction) pendingOf (Good direction))
+    → (line : List ℕ) (r : Parsed Run) → fieldsBy pendingField line ≡ some r → Spelled Good line (r .value)
+unfolding fieldsBy succeed
+spelled-by pendingField Good reads line r e =
     peel letter-reads _ line r e λ direction l₁ s₁ g₁ e₁.
     peel number-reads _ l₁ r e₁ λ page l₂ s₂ g₂ e₂.
     peel digits-read _ l₂ r e₂ λ policy l₃ s₃ g₃ e₃.
@@ -89,31 +90,31 @@ spelled-by carried Good reads line r e =
     s₁ ∙ ap (λ (l : List ℕ). fieldOf (letterOf direction) ++ l)
     (s₂ ∙ ap (λ (l : List ℕ). fieldOf (decimal page) ++ l)
     (s₃ ∙ ap (λ (l : List ℕ). fieldOf (digitsOf policy) ++ l)
-    (s₄ ∙ ap (λ (l : List ℕ). fieldOf (carriedOf pending) ++ l)
+    (s₄ ∙ ap (λ (l : List ℕ). fieldOf (pendingOf pending) ++ l)
     (s₅ ∙ ap (λ (l : List ℕ). fieldOf (decimal flags) ++ l)
     (s₆ ∙ ap (λ (l : List ℕ). fieldOf (decimal read) ++ l)
     (s₇ ∙ ap (λ (l : List ℕ). fieldOf (decimal written) ++ l) s₈))))))
     ∙ sym (line-fields run) in
     subst (Spelled Good line) same (record { line-is = spelled; digits = g₃; pending = g₄ })
 
-pub fields-back : (line : List ℕ) (r : Parsed Run) → fields line ≡ some r → Spelled CarriedIn line (r .value)
+pub fields-back : (line : List ℕ) (r : Parsed Run) → fields line ≡ some r → Spelled PendingOfLine line (r .value)
 unfolding fields
-fields-back line r e = spelled-by carried CarriedIn carried-reads line r e
+fields-back line r e = spelled-by pendingField PendingOfLine pending-reads line r e
 
--- what is carried in a line of its direction fits, and what a run that keeps the rules carries is of its direction
-pub carried-fits : (direction : Direction) (pending : Pending) → CarriedIn direction pending → CarriedFits pending
-carried-fits direction Nothing c = tt
-carried-fits Decoding (Byte byte) c = c
-carried-fits Encoding (Byte byte) c = absurd c
-carried-fits Decoding (High unit) c = absurd c
-carried-fits Encoding (High unit) c = c
+-- what is pending in a line of its direction fits, and what a run that keeps the rules has pending is of its direction
+pub pending-of-line-fits : (direction : Direction) (pending : Pending) → PendingOfLine direction pending → PendingFits pending
+pending-of-line-fits direction Nothing c = tt
+pending-of-line-fits Decoding (Byte byte) c = c
+pending-of-line-fits Encoding (Byte byte) c = absurd c
+pending-of-line-fits Decoding (High unit) c = absurd c
+pending-of-line-fits Encoding (High unit) c = c
 
-carried-in : (direction : Direction) (pending : Pending) (ended : Bool) (written read : ℕ) → pendingAllowed pending direction ended written read ≡ true → CarriedFits pending → CarriedIn direction pending
-carried-in direction Nothing ended written read e c = tt
-carried-in Decoding (Byte byte) ended written read e c = c
-carried-in Encoding (Byte byte) ended written read e c = absurd (false≢true e)
-carried-in Decoding (High unit) ended written read e c = absurd (false≢true e)
-carried-in Encoding (High unit) ended written read e c = c
+pending-of-line : (direction : Direction) (pending : Pending) (ended : Bool) (written read : ℕ) → pendingAllowed pending direction ended written read ≡ true → PendingFits pending → PendingOfLine direction pending
+pending-of-line direction Nothing ended written read e c = tt
+pending-of-line Decoding (Byte byte) ended written read e c = c
+pending-of-line Encoding (Byte byte) ended written read e c = absurd (false≢true e)
+pending-of-line Decoding (High unit) ended written read e c = absurd (false≢true e)
+pending-of-line Encoding (High unit) ended written read e c = c
 
 -- ---- a run that keeps the rules
 allowed-digits : (direction : Direction) (policy : Policy) → policyAllowed direction policy ≡ true → Digits policy
@@ -134,9 +135,10 @@ allowed-digits direction policy e =
 pub record Bounded (run : Run) : Type 0 where
   pub digits : Digits (run .policy)
   pub flags : run .flags ≤ 15
-  pub read : run .read ≤ 4294967295
-  pub written : run .written ≤ 8589934590
+  pub read : run .read ≤ readLimit
+  pub written : run .written ≤ writtenLimit
 
+-- A run that keeps the rules has digits below 10, flags up to 15, and totals within their limits.
 pub bounded : (run : Run) → validRun run ≡ true → Bounded run
 bounded run e =
     let v : Valid run = valid-facts run e in
@@ -147,8 +149,8 @@ bounded run e =
       written = omega (arith, v .read, v .written, most-twice (run .direction) (run .read));
     }
 
--- of a valid run only the page and what is carried are still to be bounded
-pub representable : (run : Run) → validRun run ≡ true → run .page < 2 ^ 16 → CarriedFits (run .pending) → Representable run
+-- of a valid run only the page and what is pending are still to be bounded
+pub representable : (run : Run) → validRun run ≡ true → run .page < 2 ^ 16 → PendingFits (run .pending) → Representable run
 representable run e h c =
     let b : Bounded run = bounded run e in
     record {
@@ -162,15 +164,17 @@ representable run e h c =
       written = omega (arith, b .written);
     }
 
+-- a run with a page of at most 65,535 that keeps the rules is read
 pub kept-some : (run : Run) (rest : List ℕ) → run .page ≤ 65535 → validRun run ≡ true → kept (got run rest) ≡ some run
 unfolding kept
 kept-some run rest h e = rw (le-leb (run .page) 65535 h, e)
 
 -- ---- each run that keeps the rules has one line and each line one run
+-- The line of a run that the program can hold and that keeps the rules is read as that run.
 pub write-read : (run : Run) → Representable run → validRun run ≡ true → runOf (lineOf run) ≡ some run
 unfolding runOf
 write-read run w e =
-    let c : CarriedIn (run .direction) (run .pending) = carried-in (run .direction) (run .pending) (run .ended) (run .written) (run .read) (valid-facts run e .pending) (w .pending) in
+    let c : PendingOfLine (run .direction) (run .pending) = pending-of-line (run .direction) (run .pending) (run .ended) (run .written) (run .read) (valid-facts run e .pending) (w .pending) in
     ap kept (fields-forth run (bounded run e .digits) c) ∙ kept-some run [] (omega (arith, w .page)) e
 
 pub read-write : (line : List ℕ) (run : Run) → runOf line ≡ some run → Restores line run
@@ -182,12 +186,12 @@ read-write line run e = by-fields (fields line) refl
     by-test r q true u =
         let same : r .value ≡ run = some-eq (rw (q, u) at e) in
         let v : validRun (r .value) ≡ true = and-right (leb (r .value .page) 65535) _ u in
-        let w : Spelled CarriedIn line (r .value) = fields-back line r q in
+        let w : Spelled PendingOfLine line (r .value) = fields-back line r q in
         subst (Restores line) same
         (record {
           line-is = sym (w .line-is);
           valid = v;
-          fits = representable (r .value) v (omega (arith, leb-true (r .value .page) 65535 (and-left (leb (r .value .page) 65535) _ u))) (carried-fits (r .value .direction) (r .value .pending) (w .pending));
+          fits = representable (r .value) v (omega (arith, leb-true (r .value .page) 65535 (and-left (leb (r .value .page) 65535) _ u))) (pending-of-line-fits (r .value .direction) (r .value .pending) (w .pending));
         })
 
     by-fields : (o : Option (Parsed Run)) → fields line ≡ o → Restores line run
@@ -207,26 +211,30 @@ refused-exactly line = (
         let w : Restores line run = read-write line run q in
         absurd (never run (w .fits) (w .valid) (w .line-is))
 
+-- Two runs that the program can hold, that keep the rules and have the same line, are the same run.
 pub one-line-one-run : (a b : Run) → Representable a → validRun a ≡ true → Representable b → validRun b ≡ true → lineOf a ≡ lineOf b → a ≡ b
 one-line-one-run a b fa va fb vb e = some-eq (sym (write-read a fa va) ∙ ap runOf e ∙ write-read b fb vb)
 
 -- ---- a line has at most 44 bytes
+-- a field has one byte more than its value: the tab
 pub field-length : (bytes : List ℕ) → length (fieldOf bytes) ≡ length bytes + 1
 unfolding fieldOf
 field-length bytes = length-append bytes (tab ∷ [])
 
+-- the line's length: the lengths of the other fields, and 10 for the three digits and the seven tabs
 pub line-length : (run : Run) → length (lineOf run) ≡
-    length (letterOf (run .direction)) + length (decimal (run .page)) + length (carriedOf (run .pending)) + length (decimal (run .flags)) + length (decimal (run .read)) + length (decimal (run .written)) + length (closingOf (run .ended)) + 10
+    length (letterOf (run .direction)) + length (decimal (run .page)) + length (pendingOf (run .pending)) + length (decimal (run .flags)) + length (decimal (run .read)) + length (decimal (run .written)) + length (closingOf (run .ended)) + 10
 unfolding lineOf
 line-length run = simp (length-append, field-length) (omega arith)
 
+-- the letter is one byte
 pub letter-length : (direction : Direction) → length (letterOf direction) ≡ 1
 letter-length Decoding = refl
 letter-length Encoding = refl
 
--- what is carried only if not ended, and flag 8 only if ended
+-- what is pending only if not ended, and flag 8 only if ended
 ends-length : (pending : Pending) (direction : Direction) (ended : Bool) (written read flags : ℕ) → pendingAllowed pending direction ended written read ≡ true → (ltb flags 8 || ended) ≡ true → flags ≤ 15
-    → length (carriedOf pending) + length (closingOf ended) + length (decimal flags) ≤ 8
+    → length (pendingOf pending) + length (closingOf ended) + length (decimal flags) ≤ 8
 unfolding closingOf
 ends-length Nothing direction true written read flags e s h = omega (arith, decimal-short 1 flags (omega arith))
 ends-length Nothing direction false written read flags e s h = omega (arith, decimal-short 1 flags (omega arith))
@@ -266,14 +274,14 @@ pub longest-has-44 : length (lineOf longestRun) ≡ 44
 unfolding lineRules
 longest-has-44 = refl
 
--- as has one that carries a unit
-pub longest-carrying-valid : validRun longestCarrying ≡ true
+-- as has one with a unit pending
+pub longest-pending-valid : validRun longestPending ≡ true
 unfolding lineRules
-longest-carrying-valid = refl
+longest-pending-valid = refl
 
-pub longest-carrying-44 : length (lineOf longestCarrying) ≡ 44
+pub longest-pending-44 : length (lineOf longestPending) ≡ 44
 unfolding lineRules
-longest-carrying-44 = refl
+longest-pending-44 = refl
 
 -- ---- the answers, each exactly in its case
 saves : (valid full : Bool) → List ℕ → Saving
@@ -374,33 +382,26 @@ unfolding over
 saved-front s r before after w = rw (w .lent, w .size) (take-append-seam (s .line) (drop (length (s .line)) before))
 
 -- ---- the sample line of document 01
-pub sample-written : lineOf sampleRun ≡ sampleLine
-unfolding lineRules
-sample-written = refl
-
-pub sample-read : runOf sampleLine ≡ some sampleRun
-unfolding lineRules
-sample-read = refl
-
 -- ROW 16 by the two calls, with their answers: the line fits 26 places, and is read back.
 pub sample-saved : writeOf sampleRun 26 ≡ record { number = 0; line = sampleLine }
 unfolding lineRules
 sample-saved = refl
 
+-- reading: the sample line is read back as the sample run, with answer 0
 pub sample-restored : readOf sampleLine ≡ record { number = 0; run = some sampleRun }
 unfolding lineRules
 sample-restored = refl
 
--- ---- a line that carries a unit (document 02, CR 5), written and read back
-pub carrying-saved : writeOf carryingRun 22 ≡ record { number = 0; line = carryingLine }
+-- ---- a line with a unit pending (document 02, CR 5), written and read back
+pub pending-saved : writeOf pendingRun 22 ≡ record { number = 0; line = pendingLine }
 unfolding lineRules
-carrying-saved = refl
+pending-saved = refl
 
-pub carrying-restored : readOf carryingLine ≡ record { number = 0; run = some carryingRun }
+pub pending-restored : readOf pendingLine ≡ record { number = 0; run = some pendingRun }
 unfolding lineRules
-carrying-restored = refl
+pending-restored = refl
 
--- 18 for what a carried unit may not be
+-- 18 for what a pending unit may not be
 pub not-lines : AllAnswered 18 notLines
 unfolding lineRules
 not-lines = (refl, (refl, (refl, (refl, (refl, (refl, tt))))))

@@ -7,6 +7,7 @@ use Prim.Native.Nat.{ℕ}
 use native.Mathlib.Omega.{arith}
 use lib.Dec.{leb, ltb, eqb}
 use borrow.Author.Tests.{leb-true}
+use Rattle.codepage.proofs.ShapeLaws.{and-left, and-right}
 use Rattle.engine.specs.declared.Direction.{Direction}
 use Rattle.engine.specs.declared.Direction.the-variants.{Decoding}
 use Rattle.engine.specs.Policies.{policyAllowed}
@@ -14,12 +15,12 @@ use Rattle.convert.specs.declared.Pending.{Pending}
 use Rattle.convert.specs.declared.Pending.the-variants.{Nothing, Byte, High}
 use Rattle.convert.specs.declared.Run.{Run}
 use Rattle.convert.specs.Runs.{readLimit, isDecoding, mostWritten, pendingAllowed, every, validRun}
-use Rattle.checkpoint.specs.Line.{Parsed, Parser, carried, hexCarried, fieldsBy, runOf, Representable, loaded, readOf}
-use Rattle.checkpoint.specs.Base.{baseIfPending, baseValidRun, baseHex, baseCarried, baseFields, baseKept, baseRunOf}
+use Rattle.checkpoint.specs.Line.{Parsed, Parser, pendingField, hexPending, fieldsBy, runOf, Representable, loaded, readOf}
+use Rattle.checkpoint.specs.Base.{baseIfPending, baseValidRun, baseHex, basePending, baseFields, baseKept, baseRunOf}
 use Rattle.checkpoint.specs.Sample.{sampleRun, sampleLine}
 use Rattle.checkpoint.proofs.Computing.{lineRules}
-use Rattle.checkpoint.proofs.ParserLaws.{none-some, some-eq, and-left, and-right, CarriedIn, carried-reads}
-use Rattle.checkpoint.proofs.LineLaws.{Spelled, spelled-by, carried-fits, representable, write-read}
+use Rattle.checkpoint.proofs.ParserLaws.{none-some, some-eq, PendingOfLine, pending-reads}
+use Rattle.checkpoint.proofs.LineLaws.{Spelled, spelled-by, pending-of-line-fits, representable, write-read}
 
 -- ---- the run rules
 pending-still : (pending : Pending) (direction : Direction) (ended : Bool) (written read : ℕ) → baseIfPending pending (isDecoding direction && (not ended && ltb written read)) ≡ true
@@ -50,13 +51,13 @@ rules-still run e =
     (pending-still (run .pending) (run .direction) (run .ended) (run .written) (run .read)) e
 
 -- ---- the line
-base-fields-by : baseFields ≡ fieldsBy (λ direction. carried Decoding)
-unfolding baseFields baseCarried baseHex carried hexCarried fieldsBy
+base-fields-by : baseFields ≡ fieldsBy (λ direction. pendingField Decoding)
+unfolding baseFields basePending baseHex pendingField hexPending fieldsBy
 base-fields-by = refl
 
-base-spelled : (line : List ℕ) (r : Parsed Run) → baseFields line ≡ some r → Spelled (λ direction. CarriedIn Decoding) line (r .value)
+base-spelled : (line : List ℕ) (r : Parsed Run) → baseFields line ≡ some r → Spelled (λ direction. PendingOfLine Decoding) line (r .value)
 base-spelled line r e =
-    spelled-by (λ direction. carried Decoding) (λ direction. CarriedIn Decoding) (λ direction. carried-reads Decoding) line r (ap (λ (p : Parser Run). p line) (sym base-fields-by) ∙ e)
+    spelled-by (λ direction. pendingField Decoding) (λ direction. PendingOfLine Decoding) (λ direction. pending-reads Decoding) line r (ap (λ (p : Parser Run). p line) (sym base-fields-by) ∙ e)
 
 -- OLDER LINES ARE STILL READ, to the same run.
 pub older-lines : (line : List ℕ) (run : Run) → baseRunOf line ≡ some run → runOf line ≡ some run
@@ -70,7 +71,7 @@ older-lines line run e = by-fields (baseFields line) refl
         let valid : validRun (r .value) ≡ true = rules-still (r .value) (and-right (leb (r .value .page) 65535) _ u) in
         let w = base-spelled line r q in
         let fits : Representable (r .value) =
-        representable (r .value) valid (omega (arith, leb-true (r .value .page) 65535 (and-left (leb (r .value .page) 65535) _ u))) (carried-fits Decoding (r .value .pending) (w .pending)) in
+        representable (r .value) valid (omega (arith, leb-true (r .value .page) 65535 (and-left (leb (r .value .page) 65535) _ u))) (pending-of-line-fits Decoding (r .value .pending) (w .pending)) in
         ap runOf (w .line-is) ∙ write-read (r .value) fits valid ∙ ap some same
 
     by-fields : (o : Option (Parsed Run)) → baseFields line ≡ o → runOf line ≡ some run
@@ -83,5 +84,5 @@ older-lines-accepted line run e = ap loaded (older-lines line run e)
 
 -- the sample line of document 01 is one of them
 pub older-sample : baseRunOf sampleLine ≡ some sampleRun
-unfolding lineRules baseValidRun baseHex baseCarried baseFields baseKept baseRunOf
+unfolding lineRules baseValidRun baseHex basePending baseFields baseKept baseRunOf
 older-sample = refl

@@ -8,12 +8,13 @@ use native.Mathlib.Omega.{arith}
 use lib.Dec.{ltb, leb, eqb}
 use borrow.Author.Tests.{lt-ltb, le-ltb, le-leb, lt-leb, ne-eqb, ltb-true, ltb-false, leb-true, eqb-true}
 use Rattle.codepage.specs.CodePage.{pick}
+use Rattle.codepage.proofs.ShapeLaws.{and-left, and-right}
 use Rattle.engine.specs.declared.Direction.{Direction}
 use Rattle.engine.specs.declared.Direction.the-variants.{Decoding, Encoding}
 use Rattle.engine.specs.declared.Policy.{Policy}
 use Rattle.convert.specs.declared.Pending.{Pending}
 use Rattle.convert.specs.declared.Pending.the-variants.{Nothing, Byte, High}
-use Rattle.checkpoint.specs.Line.{tab, digitByte, hexByte, hexOf, decimal, letterOf, digitsOf, carriedOf, fieldOf, closingOf, Parsed, Parser, return, _>>=_, orElse, one, isByte, digitValue, hexValue, moreDigits, number, letterValue, letter, threeDigits, hexPair, hexCarried, carried, field, sameBytes, closing}
+use Rattle.checkpoint.specs.Line.{tab, digitByte, hexByte, hexOf, decimal, letterOf, digitsOf, pendingOf, fieldOf, closingOf, Parsed, Parser, succeed, _>>=_, orElse, one, isByte, digitValue, hexValue, moreDigits, number, letterValue, letter, threeDigits, hexPair, hexPending, pendingField, field, sameBytes, closing}
 use Rattle.checkpoint.proofs.DecimalLaws.{decimal-few, decimal-many, decimal-step}
 
 -- a value and the bytes behind it
@@ -21,22 +22,27 @@ abbrev pub got : {A : Type 0} → A → List ℕ → Option (Parsed A)
 got a rest = some (record { value = a; rest = rest })
 
 -- ---- Options
+-- none is no value
 pub none-some : {A : Type 0} {a : A} → _≡_ {A = Option A} none (some a) → ⊥
 none-some {A} {a} e = let z : _≡_ {A = ℕ} 0 1 = cc in omega arith
 
+-- two values that are given are equal if the answers are
 pub some-eq : {A : Type 0} {a b : A} → _≡_ {A = Option A} (some a) (some b) → a ≡ b
 some-eq e = cc
 
 -- ---- one parser, then another
 module _ {A B : Type 0} (p : Parser A) (next : A → Parser B) (bytes : List ℕ) where
+  -- the first parser gives a value: the next one goes on with it
   pub then-some : (a : A) (rest : List ℕ) → p bytes ≡ got a rest → (p >>= next) bytes ≡ next a rest
   unfolding _>>=_
   then-some a rest e = rw (e, _>>=_)
 
+  -- the first parser gives none: there is none
   pub then-none : p bytes ≡ none → (p >>= next) bytes ≡ none
   unfolding _>>=_
   then-none e = rw (e, _>>=_)
 
+  -- both parsers together gave a value: the first gave one, and the next one went on with it
   pub then-back : (r : Parsed B) → (p >>= next) bytes ≡ some r → (f : Parsed A) × (p bytes ≡ some f) × (next (f .value) (f .rest) ≡ some r)
   then-back r e = by-case (p bytes) refl
     where
@@ -55,18 +61,22 @@ module _ {A : Type 0} (p q : Parser A) (bytes : List ℕ) where
 
 -- ---- one byte
 module _ {A : Type 0} (means : ℕ → Option A) (byte : ℕ) (bytes : List ℕ) where
+  -- a first byte that means something is read
   pub one-some : (a : A) → means byte ≡ some a → one means (byte ∷ bytes) ≡ got a bytes
   unfolding one
   one-some a e = rw (e, one)
 
+  -- a first byte that means nothing: none
   pub one-none : means byte ≡ none → one means (byte ∷ bytes) ≡ none
   unfolding one
   one-none e = rw (e, one)
 
+-- no byte is there: none
 pub one-empty : {A : Type 0} (means : ℕ → Option A) → one means [] ≡ none
 unfolding one
 one-empty means = refl
 
+-- a byte that was read is the first, and means the value
 pub one-back : {A : Type 0} (means : ℕ → Option A) (bytes : List ℕ) (r : Parsed A) → one means bytes ≡ some r → (byte : ℕ) × (bytes ≡ byte ∷ r .rest) × (means byte ≡ some (r .value))
 one-back means [] r e = absurd (none-some (sym (one-empty means) ∙ e))
 one-back {A} means (byte ∷ bytes) r e = by-case (means byte) refl
@@ -82,20 +92,15 @@ pick-some : {A : Type 0} (t : Bool) (a b : A) → pick t (some a) none ≡ some 
 pick-some true a b e = (refl, some-eq e)
 pick-some false a b e = absurd (none-some e)
 
-pub and-left : (a b : Bool) → (a && b) ≡ true → a ≡ true
-and-left true b e = refl
-and-left false b e = absurd (false≢true e)
-
-pub and-right : (a b : Bool) → (a && b) ≡ true → b ≡ true
-and-right true b e = e
-and-right false b e = absurd (false≢true e)
-
+-- `0` to `9` have their value
 pub digit-value : (byte : ℕ) → 0x30 ≤ byte → byte ≤ 0x39 → digitValue byte ≡ some (byte - 0x30)
 digit-value byte l h = rw (le-leb 0x30 byte l, le-leb byte 0x39 h)
 
+-- a byte below `0` is no digit
 pub digit-low : (byte : ℕ) → byte < 0x30 → digitValue byte ≡ none
 digit-low byte h = rw (lt-leb 0x30 byte h)
 
+-- a byte above `9` is no digit
 pub digit-high : (byte : ℕ) → 0x39 < byte → digitValue byte ≡ none
 digit-high byte h = rw (lt-leb byte 0x39 h, le-leb 0x30 byte (omega arith))
 
@@ -104,6 +109,7 @@ digit-of d h =
     let e : 0x30 + d - 0x30 ≡ d = omega arith in
     digit-value (0x30 + d) (omega arith) (omega arith) ∙ ap some e
 
+-- a byte with a digit's value is that digit's byte, and the value is below 10
 pub digit-back : (byte d : ℕ) → digitValue byte ≡ some d → (byte ≡ digitByte d) × (d < 10)
 digit-back byte d e =
     let w = pick-some (leb 0x30 byte && leb byte 0x39) (byte - 0x30) d e in
@@ -112,12 +118,15 @@ digit-back byte d e =
     let v : byte - 0x30 ≡ d = w .1 in
     (omega arith, omega arith)
 
+-- `A` to `F` are 10 to 15
 pub hex-letter : (byte : ℕ) → 0x41 ≤ byte → byte ≤ 0x46 → hexValue byte ≡ some (byte - 0x41 + 10)
 hex-letter byte l h = rw (le-leb 0x41 byte l, le-leb byte 0x46 h)
 
+-- below `A` a hex digit is a decimal digit or none
 pub hex-low : (byte : ℕ) → byte < 0x41 → hexValue byte ≡ digitValue byte
 hex-low byte h = rw (lt-leb 0x41 byte h)
 
+-- a byte above `F` is no hex digit
 pub hex-high : (byte : ℕ) → 0x46 < byte → hexValue byte ≡ none
 hex-high byte h = rw (lt-leb byte 0x46 h, le-leb 0x41 byte (omega arith)) (digit-high byte (omega arith))
 
@@ -133,6 +142,7 @@ hex-of v h = by-size (ltb v 10) refl
         let e : 0x41 + (v - 10) - 0x41 + 10 ≡ v = omega arith in
         rw q (hex-letter (0x41 + (v - 10)) (omega arith) (omega arith) ∙ ap some e)
 
+-- a byte with a hex digit's value is that digit's byte, and the value is below 16
 pub hex-back : (byte v : ℕ) → hexValue byte ≡ some v → (byte ≡ hexByte v) × (v < 16)
 hex-back byte v e = by-letter (leb 0x41 byte && leb byte 0x46) refl
   where
@@ -151,14 +161,17 @@ hex-back byte v e = by-letter (leb 0x41 byte && leb byte 0x46) refl
 
 -- ---- numbers
 module _ (value byte : ℕ) (bytes : List ℕ) where
+  -- a digit more: ten times the value, and the digit
   pub more-digit : (digit : ℕ) → digitValue byte ≡ some digit → moreDigits value (byte ∷ bytes) ≡ moreDigits (10 * value + digit) bytes
   unfolding moreDigits
   more-digit digit e = rw (e, moreDigits)
 
+  -- a byte that is no digit ends the number and stays
   pub more-other : digitValue byte ≡ none → moreDigits value (byte ∷ bytes) ≡ got value (byte ∷ bytes)
   unfolding moreDigits
   more-other e = rw (e, moreDigits)
 
+-- the end of the bytes ends the number
 pub more-end : (value : ℕ) → moreDigits value [] ≡ got value []
 unfolding moreDigits
 more-end value = refl
@@ -205,6 +218,7 @@ pub number-empty : number [] ≡ none
 unfolding number
 number-empty = else-second (one (isByte 0x30 0)) (one digitValue >>= moreDigits) [] (one-empty (isByte 0x30 0)) ∙ then-none (one digitValue) moreDigits [] (one-empty digitValue)
 
+-- a number that begins with `0` is 0, and the next byte stays
 pub number-zero : (bytes : List ℕ) → number (0x30 ∷ bytes) ≡ got 0 bytes
 unfolding number
 number-zero bytes = else-first (one (isByte 0x30 0)) (one digitValue >>= moreDigits) (0x30 ∷ bytes) _ (one-some (isByte 0x30 0) 0x30 bytes 0 refl)
@@ -213,11 +227,13 @@ not-zero : (byte : ℕ) (bytes : List ℕ) → (byte ≡ 0x30 → ⊥) → numbe
 unfolding number
 not-zero byte bytes ne = else-second (one (isByte 0x30 0)) (one digitValue >>= moreDigits) (byte ∷ bytes) (one-none (isByte 0x30 0) byte bytes (rw (ne-eqb byte 0x30 ne)))
 
+-- a number that begins with `1` to `9` goes on with the digits behind it
 pub number-first : (byte : ℕ) (bytes : List ℕ) (digit : ℕ) → digitValue byte ≡ some digit → 1 ≤ digit → number (byte ∷ bytes) ≡ moreDigits digit bytes
 number-first byte bytes digit e h =
     not-zero byte bytes (λ z. omega (arith, digit-back byte digit e .0))
     ∙ then-some (one digitValue) moreDigits (byte ∷ bytes) digit bytes (one-some digitValue byte bytes digit e)
 
+-- bytes that begin with no digit have no number
 pub number-none : (byte : ℕ) (bytes : List ℕ) → digitValue byte ≡ none → number (byte ∷ bytes) ≡ none
 number-none byte bytes e =
     not-zero byte bytes (λ z. none-some (sym e ∙ ap digitValue z ∙ digit-of 0 (omega arith)))
@@ -281,6 +297,7 @@ pub record Reads {A : Type 0} (p : Parser A) (written : A → List ℕ) (Good : 
 abbrev pub Any : {A : Type 0} → A → Type 0
 Any a = Unit {0}
 
+-- every number is read back from its decimal digits, and only those are read
 pub number-reads : Reads number decimal Any
 number-reads =
     record {
@@ -300,6 +317,7 @@ letter-back byte d e = by-first (eqb byte 0x44) refl (eqb byte 0x45) refl
         ap (λ (b : ℕ). b ∷ []) (eqb-true byte 0x45 w) ∙ ap letterOf same
     by-first false q false w = absurd (none-some (rw (q, w) at e))
 
+-- both directions are read back from their letter, and only those letters are read
 pub letter-reads : Reads letter letterOf Any
 unfolding letter
 letter-reads = record { forth = letter-forth; back = letter-read }
@@ -328,19 +346,22 @@ module _ {A B : Type 0} (means : ℕ → Option A) (next : A → Parser B) where
 cons-eq : {a b : ℕ} {bytes rest : List ℕ} → a ≡ b → bytes ≡ a ∷ rest → bytes ≡ b ∷ rest
 cons-eq {rest} e q = q ∙ ap (λ (x : ℕ). x ∷ rest) e
 
-return-back : {A : Type 0} (a : A) (bytes : List ℕ) (r : Parsed A) → return a bytes ≡ some r → got a bytes ≡ some r
-unfolding return
+return-back : {A : Type 0} (a : A) (bytes : List ℕ) (r : Parsed A) → succeed a bytes ≡ some r → got a bytes ≡ some r
+unfolding succeed
 return-back a bytes r e = e
 
-pub return-some : {A : Type 0} (a : A) (bytes : List ℕ) → return a bytes ≡ got a bytes
-unfolding return
+-- a value that is given without reading leaves all bytes
+pub return-some : {A : Type 0} (a : A) (bytes : List ℕ) → succeed a bytes ≡ got a bytes
+unfolding succeed
 return-some a bytes = refl
 
+-- each digit of the policy is one decimal digit
 pub record Digits (policy : Policy) : Type 0 where
   pub single : policy .single < 10
   pub pair : policy .pair < 10
   pub invalid : policy .invalid < 10
 
+-- three digits below 10 are read back from their bytes, and only those are read
 pub digits-read : Reads threeDigits digitsOf Digits
 unfolding threeDigits
 digits-read = record { forth = digits-forth; back = digits-back }
@@ -366,13 +387,13 @@ digits-read = record { forth = digits-forth; back = digits-back }
         let good : Digits (read .value) = record { single = x .1; pair = y .1; invalid = z .1 } in
         subst (λ (f : Parsed Policy). (bytes ≡ digitsOf (f .value) ++ f .rest) × Digits (f .value)) same (spelled, good)
 
--- what is carried
+-- what is pending
 pair-empty : hexPair [] ≡ none
 unfolding hexPair
 pair-empty = then-none (one hexValue) _ [] (one-empty hexValue)
 
-hex-empty : (direction : Direction) → hexCarried direction [] ≡ none
-unfolding hexCarried
+hex-empty : (direction : Direction) → hexPending direction [] ≡ none
+unfolding hexPending
 hex-empty Decoding = then-none hexPair _ [] pair-empty
 hex-empty Encoding = then-none hexPair _ [] pair-empty
 
@@ -400,39 +421,42 @@ pair-back bytes r e =
     let spelled : bytes ≡ hexOf (read .value) ++ read .rest = cons-eq (x .0 ∙ ap hexByte high) (a .2) ∙ ap (λ (l : List ℕ). hexByte (byte / 16) ∷ l) (cons-eq (y .0 ∙ ap hexByte low) (b .2)) in
     subst (λ (f : Parsed ℕ). (bytes ≡ hexOf (f .value) ++ f .rest) × (f .value < 2 ^ 8)) same (spelled, omega (arith, x .1, y .1))
 
--- a byte is carried in a `D` line, a unit in an `E` line
-abbrev pub CarriedIn : Direction → Pending → Type 0
-CarriedIn direction Nothing = Unit {0}
-CarriedIn Decoding (Byte byte) = byte < 2 ^ 8
-CarriedIn Encoding (Byte byte) = ⊥
-CarriedIn Decoding (High unit) = ⊥
-CarriedIn Encoding (High unit) = unit < 2 ^ 16
+-- a byte is pending in a `D` line, a unit in an `E` line
+abbrev pub PendingOfLine : Direction → Pending → Type 0
+PendingOfLine direction Nothing = Unit {0}
+PendingOfLine Decoding (Byte byte) = byte < 2 ^ 8
+PendingOfLine Encoding (Byte byte) = ⊥
+PendingOfLine Decoding (High unit) = ⊥
+PendingOfLine Encoding (High unit) = unit < 2 ^ 16
 
-pub carried-empty : (direction : Direction) → carried direction [] ≡ none
-unfolding carried
-carried-empty direction = else-second (one (isByte 0x2D Nothing)) (hexCarried direction) [] (one-empty (isByte 0x2D Nothing)) ∙ hex-empty direction
+-- no byte is there: nothing is read as what is pending
+pub pending-empty : (direction : Direction) → pendingField direction [] ≡ none
+unfolding pendingField
+pending-empty direction = else-second (one (isByte 0x2D Nothing)) (hexPending direction) [] (one-empty (isByte 0x2D Nothing)) ∙ hex-empty direction
 
-pub dash-first : (direction : Direction) (bytes : List ℕ) → carried direction (0x2D ∷ bytes) ≡ got Nothing bytes
-unfolding carried
-dash-first direction bytes = else-first (one (isByte 0x2D Nothing)) (hexCarried direction) (0x2D ∷ bytes) _ (one-some (isByte 0x2D Nothing) 0x2D bytes Nothing refl)
+-- `-`: nothing is pending
+pub dash-first : (direction : Direction) (bytes : List ℕ) → pendingField direction (0x2D ∷ bytes) ≡ got Nothing bytes
+unfolding pendingField
+dash-first direction bytes = else-first (one (isByte 0x2D Nothing)) (hexPending direction) (0x2D ∷ bytes) _ (one-some (isByte 0x2D Nothing) 0x2D bytes Nothing refl)
 
-pub no-dash : (direction : Direction) (byte : ℕ) (bytes : List ℕ) → (byte ≡ 0x2D → ⊥) → carried direction (byte ∷ bytes) ≡ hexCarried direction (byte ∷ bytes)
-unfolding carried
-no-dash direction byte bytes ne = else-second (one (isByte 0x2D Nothing)) (hexCarried direction) (byte ∷ bytes) (one-none (isByte 0x2D Nothing) byte bytes (rw (ne-eqb byte 0x2D ne)))
+-- any other byte: hex digits have to follow
+pub no-dash : (direction : Direction) (byte : ℕ) (bytes : List ℕ) → (byte ≡ 0x2D → ⊥) → pendingField direction (byte ∷ bytes) ≡ hexPending direction (byte ∷ bytes)
+unfolding pendingField
+no-dash direction byte bytes ne = else-second (one (isByte 0x2D Nothing)) (hexPending direction) (byte ∷ bytes) (one-none (isByte 0x2D Nothing) byte bytes (rw (ne-eqb byte 0x2D ne)))
 
 -- a hex digit is no dash
 hex-no-dash : (value : ℕ) → value < 16 → hexByte value ≡ 0x2D → ⊥
 hex-no-dash value h z = none-some (ap hexValue (sym z) ∙ hex-of value h)
 
-hex-carried-back : (direction : Direction) (bytes : List ℕ) (r : Parsed Pending) → hexCarried direction bytes ≡ some r → (bytes ≡ carriedOf (r .value) ++ r .rest) × CarriedIn direction (r .value)
-unfolding hexCarried
-hex-carried-back Decoding bytes r e =
+hex-pending-back : (direction : Direction) (bytes : List ℕ) (r : Parsed Pending) → hexPending direction bytes ≡ some r → (bytes ≡ pendingOf (r .value) ++ r .rest) × PendingOfLine direction (r .value)
+unfolding hexPending
+hex-pending-back Decoding bytes r e =
     let v = then-back hexPair _ bytes r e in
     let x = pair-back bytes (v .0) (v .1) in
     let read : Parsed Pending = record { value = Byte (v .0 .value); rest = v .0 .rest } in
     let same : read ≡ r = some-eq (return-back (read .value) (read .rest) r (v .2)) in
-    subst (λ (f : Parsed Pending). (bytes ≡ carriedOf (f .value) ++ f .rest) × CarriedIn Decoding (f .value)) same x
-hex-carried-back Encoding bytes r e =
+    subst (λ (f : Parsed Pending). (bytes ≡ pendingOf (f .value) ++ f .rest) × PendingOfLine Decoding (f .value)) same x
+hex-pending-back Encoding bytes r e =
     let v = then-back hexPair _ bytes r e in
     let w = then-back hexPair _ (v .0 .rest) r (v .2) in
     let x = pair-back bytes (v .0) (v .1) in
@@ -444,35 +468,36 @@ hex-carried-back Encoding bytes r e =
     let low : w .0 .value ≡ unit % 256 = omega (arith, y .1) in
     let spelled : bytes ≡ hexOf (unit / 256) ++ (hexOf (unit % 256) ++ w .0 .rest) =
     x .0 ∙ ap (λ (l : List ℕ). hexOf (v .0 .value) ++ l) (y .0 ∙ ap (λ (n : ℕ). hexOf n ++ w .0 .rest) low) ∙ ap (λ (n : ℕ). hexOf n ++ (hexOf (unit % 256) ++ w .0 .rest)) high in
-    subst (λ (f : Parsed Pending). (bytes ≡ carriedOf (f .value) ++ f .rest) × CarriedIn Encoding (f .value)) same (spelled, omega (arith, x .1, y .1))
+    subst (λ (f : Parsed Pending). (bytes ≡ pendingOf (f .value) ++ f .rest) × PendingOfLine Encoding (f .value)) same (spelled, omega (arith, x .1, y .1))
 
+-- a byte that stands for a value is the given byte, and the value is the given one
 pub is-byte-back : {A : Type 0} (byte b : ℕ) (a v : A) → isByte byte a b ≡ some v → (b ≡ byte) × (a ≡ v)
 is-byte-back byte b a v e =
     let w = pick-some (eqb b byte) a v e in
     (eqb-true b byte (w .0), w .1)
 
-carried-back : (direction : Direction) (bytes : List ℕ) (r : Parsed Pending) → carried direction bytes ≡ some r → (bytes ≡ carriedOf (r .value) ++ r .rest) × CarriedIn direction (r .value)
-unfolding carried
-carried-back direction bytes r e = by-dash (one (isByte 0x2D Nothing) bytes) refl
+pending-back : (direction : Direction) (bytes : List ℕ) (r : Parsed Pending) → pendingField direction bytes ≡ some r → (bytes ≡ pendingOf (r .value) ++ r .rest) × PendingOfLine direction (r .value)
+unfolding pendingField
+pending-back direction bytes r e = by-dash (one (isByte 0x2D Nothing) bytes) refl
   where
-    by-dash : (o : Option (Parsed Pending)) → one (isByte 0x2D Nothing) bytes ≡ o → (bytes ≡ carriedOf (r .value) ++ r .rest) × CarriedIn direction (r .value)
-    by-dash none q = hex-carried-back direction bytes r (sym (else-second (one (isByte 0x2D Nothing)) (hexCarried direction) bytes q) ∙ e)
+    by-dash : (o : Option (Parsed Pending)) → one (isByte 0x2D Nothing) bytes ≡ o → (bytes ≡ pendingOf (r .value) ++ r .rest) × PendingOfLine direction (r .value)
+    by-dash none q = hex-pending-back direction bytes r (sym (else-second (one (isByte 0x2D Nothing)) (hexPending direction) bytes q) ∙ e)
     by-dash (some f) q =
-        let same : some f ≡ some r = sym (else-first (one (isByte 0x2D Nothing)) (hexCarried direction) bytes f q) ∙ e in
+        let same : some f ≡ some r = sym (else-first (one (isByte 0x2D Nothing)) (hexPending direction) bytes f q) ∙ e in
         let w = one-back (isByte 0x2D Nothing) bytes r (q ∙ same) in
         let z = is-byte-back 0x2D (w .0) Nothing (r .value) (w .2) in
-        subst (λ (v : Pending). (bytes ≡ carriedOf v ++ r .rest) × CarriedIn direction v) (z .1) (cons-eq (z .0) (w .1), tt)
+        subst (λ (v : Pending). (bytes ≡ pendingOf v ++ r .rest) × PendingOfLine direction v) (z .1) (cons-eq (z .0) (w .1), tt)
 
-carried-forth : (direction : Direction) (pending : Pending) (rest : List ℕ) → CarriedIn direction pending → carried direction (carriedOf pending ++ (tab ∷ rest)) ≡ got pending (tab ∷ rest)
-unfolding hexCarried
-carried-forth direction Nothing rest g = dash-first direction (tab ∷ rest)
-carried-forth Decoding (Byte byte) rest g =
+pending-forth : (direction : Direction) (pending : Pending) (rest : List ℕ) → PendingOfLine direction pending → pendingField direction (pendingOf pending ++ (tab ∷ rest)) ≡ got pending (tab ∷ rest)
+unfolding hexPending
+pending-forth direction Nothing rest g = dash-first direction (tab ∷ rest)
+pending-forth Decoding (Byte byte) rest g =
     no-dash Decoding (hexByte (byte / 16)) (hexByte (byte % 16) ∷ tab ∷ rest) (hex-no-dash (byte / 16) (omega arith))
     ∙ then-some hexPair _ (hexOf byte ++ (tab ∷ rest)) byte (tab ∷ rest) (pair-forth byte (tab ∷ rest) g)
     ∙ return-some (Byte byte) (tab ∷ rest)
-carried-forth Encoding (Byte byte) rest g = absurd g
-carried-forth Decoding (High unit) rest g = absurd g
-carried-forth Encoding (High unit) rest g =
+pending-forth Encoding (Byte byte) rest g = absurd g
+pending-forth Decoding (High unit) rest g = absurd g
+pending-forth Encoding (High unit) rest g =
     let e : 256 * (unit / 256) + unit % 256 ≡ unit = omega arith in
     let behind : List ℕ = hexOf (unit % 256) ++ (tab ∷ rest) in
     no-dash Encoding (hexByte (unit / 256 / 16)) (hexByte (unit / 256 % 16) ∷ behind) (hex-no-dash (unit / 256 / 16) (omega arith))
@@ -481,11 +506,13 @@ carried-forth Encoding (High unit) rest g =
     ∙ return-some (High (256 * (unit / 256) + unit % 256)) (tab ∷ rest)
     ∙ ap (λ (u : ℕ). got (High u) (tab ∷ rest)) e
 
-pub carried-reads : (direction : Direction) → Reads (carried direction) carriedOf (CarriedIn direction)
-carried-reads direction = record { forth = carried-forth direction; back = carried-back direction }
+-- what is pending in a line of its direction is read back, and only that form of it is read
+pub pending-reads : (direction : Direction) → Reads (pendingField direction) pendingOf (PendingOfLine direction)
+pending-reads direction = record { forth = pending-forth direction; back = pending-back direction }
 
 -- a field and its tab
 module _ {A : Type 0} {p : Parser A} {written : A → List ℕ} {Good : A → Type 0} (w : Reads p written Good) where
+  -- a value and its tab are read back
   pub field-forth : (a : A) (rest : List ℕ) → Good a → field p (fieldOf (written a) ++ rest) ≡ got a rest
   unfolding field fieldOf
   field-forth a rest g =
@@ -493,6 +520,7 @@ module _ {A : Type 0} {p : Parser A} {written : A → List ℕ} {Good : A → Ty
       ∙ then-some p _ (written a ++ (tab ∷ rest)) a (tab ∷ rest) (w .forth a rest g)
       ∙ one-some (isByte tab a) tab rest a refl
 
+  -- a field that was read is what is written for its value, with a tab
   pub field-back : (bytes : List ℕ) (r : Parsed A) → field p bytes ≡ some r → (bytes ≡ fieldOf (written (r .value)) ++ r .rest) × Good (r .value)
   unfolding field fieldOf
   field-back bytes r e =
@@ -513,13 +541,15 @@ same-true (x ∷ xs) (y ∷ ys) e =
     ap (λ (n : ℕ). n ∷ xs) (eqb-true x y (and-left (eqb x y) (sameBytes xs ys) e))
     ∙ ap (λ (l : List ℕ). y ∷ l) (same-true xs ys (and-right (eqb x y) (sameBytes xs ys) e))
 
+-- the word and the line feed are read back
 pub closing-forth : (ended : Bool) → closing (closingOf ended) ≡ got ended []
-unfolding closing closingOf return
+unfolding closing closingOf succeed
 closing-forth true = refl
 closing-forth false = refl
 
+-- an end that was read is that word and a line feed, with nothing behind it
 pub closing-back : (bytes : List ℕ) (r : Parsed Bool) → closing bytes ≡ some r → (bytes ≡ closingOf (r .value)) × (r .rest ≡ [])
-unfolding closing return
+unfolding closing succeed
 closing-back bytes r e = by-word (sameBytes bytes (closingOf false)) refl (sameBytes bytes (closingOf true)) refl
   where
     is-word : (ended : Bool) → bytes ≡ closingOf ended → got ended [] ≡ some r → (bytes ≡ closingOf (r .value)) × (r .rest ≡ [])

@@ -12,9 +12,9 @@ use lib.Seq.{drop-cons, drop-length}
 use borrow.Author.Tests.{le-leb, lt-leb, eq-eqb, ne-eqb, leb-true, leb-false}
 use Rattle.engine.specs.declared.Direction.{Direction}
 use Rattle.convert.specs.declared.Pending.the-variants.{Nothing}
-use Rattle.checkpoint.specs.Line.{tab, Parsed, Parser, return, _>>=_, one, isByte, digitValue, hexValue, moreDigits, number, carried, hexCarried, field, closingOf, sameBytes, closing}
+use Rattle.checkpoint.specs.Line.{tab, Parsed, Parser, succeed, _>>=_, one, isByte, digitValue, hexValue, moreDigits, number, pendingField, hexPending, field, closingOf, sameBytes, closing}
 use Rattle.checkpoint.specs.Places.{from, readAt, foundAt, behindTab, atMost, upTo}
-use Rattle.checkpoint.proofs.ParserLaws.{got, none-some, then-some, then-none, one-some, one-none, one-empty, digit-back, hex-back, return-some, carried-empty, dash-first, no-dash, more-digit, more-other, more-end, number-empty, number-zero, number-first, number-none}
+use Rattle.checkpoint.proofs.ParserLaws.{got, none-some, then-some, then-none, one-some, one-none, one-empty, digit-back, hex-back, return-some, pending-empty, dash-first, no-dash, more-digit, more-other, more-end, number-empty, number-zero, number-first, number-none}
 
 -- ---- places
 module _ (line : List ℕ) (place : ℕ) where
@@ -55,12 +55,13 @@ module _ (line : List ℕ) (place : ℕ) where
         by-end true q = read-in (leb-true _ _ q) ∙ ap p (drop-of-length-le line h) ∙ e
         by-end false q = read-out (leb-false _ _ q)
 
+  -- a value found up to a place in the line: the bytes from that place on are left
   pub found-in : {A : Type 0} (a : A) → place ≤ length line → foundAt a line place ≡ got a (drop place line)
-  found-in a h = read-in (return a) h ∙ return-some a (drop place line)
+  found-in a h = read-in (succeed a) h ∙ return-some a (drop place line)
 
 -- nothing is found
 pub found-none : {A : Type 0} (a : A) (p : Parser A) (line : List ℕ) (at next : ℕ) → readAt p line at ≡ none → next ≡ length line + 1 → foundAt a line next ≡ readAt p line at
-found-none a p line at next e q = read-out line next (return a) (omega arith) ∙ sym e
+found-none a p line at next e q = read-out line next (succeed a) (omega arith) ∙ sym e
 
 -- ---- one parser, then another
 module _ {A B : Type 0} (p : Parser A) (k : A → Parser B) (line : List ℕ) (at next : ℕ) (a : A) where
@@ -70,14 +71,14 @@ module _ {A B : Type 0} (p : Parser A) (k : A → Parser B) (line : List ℕ) (a
     where
       by-place : (o : Option (List ℕ)) → from line at ≡ o → (u : Option (List ℕ)) → from line next ≡ u → readAt (p >>= k) line at ≡ readAt (k a) line next
       by-place none q none v = read-nowhere line at (p >>= k) q ∙ sym (read-nowhere line next (k a) v)
-      by-place none q (some l) v = absurd (none-some (sym (read-nowhere line at p q) ∙ sym e ∙ read-from line next (return a) l v ∙ return-some a l))
+      by-place none q (some l) v = absurd (none-some (sym (read-nowhere line at p q) ∙ sym e ∙ read-from line next (succeed a) l v ∙ return-some a l))
       by-place (some r) q none v =
           read-from line at (p >>= k) r q
-          ∙ then-none p k r (sym (read-from line at p r q) ∙ sym e ∙ read-nowhere line next (return a) v)
+          ∙ then-none p k r (sym (read-from line at p r q) ∙ sym e ∙ read-nowhere line next (succeed a) v)
           ∙ sym (read-nowhere line next (k a) v)
       by-place (some r) q (some l) v =
           read-from line at (p >>= k) r q
-          ∙ then-some p k r a l (sym (read-from line at p r q) ∙ sym e ∙ read-from line next (return a) l v ∙ return-some a l)
+          ∙ then-some p k r a l (sym (read-from line at p r q) ∙ sym e ∙ read-from line next (succeed a) l v ∙ return-some a l)
           ∙ sym (read-from line next (k a) l v)
 
 pub read-then-none : {A B : Type 0} (p : Parser A) (k : A → Parser B) (line : List ℕ) (at : ℕ) → readAt p line at ≡ none → readAt (p >>= k) line at ≡ none
@@ -89,12 +90,15 @@ read-then-none p k line at e = by-place (from line at) refl
 
 -- ---- one byte
 module _ {A : Type 0} (means : ℕ → Option A) (line : List ℕ) (at : ℕ) where
+  -- no byte at the place, behind the end: none
   pub byte-end : length line ≤ at → readAt (one means) line at ≡ none
   byte-end h = read-end line at (one means) (one-empty means) h
 
+  -- the byte at the place means nothing: none
   pub byte-none : at < length line → means (getD line at 0) ≡ none → readAt (one means) line at ≡ none
   byte-none h e = read-cons line at (one means) h ∙ one-none means (getD line at 0) (drop (at + 1) line) e
 
+  -- the byte at the place means a value: it is found, and the place is one on
   pub byte-some : (a : A) → at < length line → means (getD line at 0) ≡ some a → foundAt a line (at + 1) ≡ readAt (one means) line at
   byte-some a h e =
       found-in line (at + 1) a (omega arith)
@@ -110,14 +114,17 @@ value-none : (o : Option ℕ) (bound n : ℕ) → ((v : ℕ) → o ≡ some v �
 value-none none bound n f e h = refl
 value-none (some v) bound n f e h = absurd (omega (arith, f v refl))
 
+-- a value of 10 or more stands for none: the byte is no digit
 pub digit-none : (byte n : ℕ) → n ≡ Option·getD (digitValue byte) 16 → 9 < n → digitValue byte ≡ none
 digit-none byte n e h = value-none (digitValue byte) 10 n (λ v q. digit-back byte v q .1) e (omega arith)
 
+-- a value of 16 or more stands for none: the byte is no hex digit
 pub hex-none : (byte n : ℕ) → n ≡ Option·getD (hexValue byte) 16 → 15 < n → hexValue byte ≡ none
 hex-none byte n e h = value-none (hexValue byte) 16 n (λ v q. hex-back byte v q .1) e (omega arith)
 
 -- ---- a field and its tab
 module _ (line : List ℕ) (at : ℕ) where
+  -- the line ends where a tab has to stand: the next place is behind the line, where nothing is read
   pub tab-end : (next : ℕ) → length line ≤ at → next ≡ length line + 1 → from line next ≡ behindTab (from line at)
   tab-end next h q = from-out line next (omega arith) ∙ sym (by-end (leb at (length line)) refl)
     where
@@ -125,9 +132,11 @@ module _ (line : List ℕ) (at : ℕ) where
       by-end true u = rw (from-in line at (leb-true _ _ u), drop-of-length-le line h)
       by-end false u = rw (from-out line at (leb-false _ _ u))
 
+  -- a tab: the next place is behind it
   pub tab-here : at < length line → getD line at 0 ≡ tab → from line (at + 1) ≡ behindTab (from line at)
   tab-here h e = from-in line (at + 1) (omega arith) ∙ sym (rw (from-cons line at h, eq-eqb (getD line at 0) tab e))
 
+  -- another byte where a tab has to stand: the next place is behind the line, where nothing is read
   pub tab-none : (next : ℕ) → at < length line → (getD line at 0 ≡ tab → ⊥) → next ≡ length line + 1 → from line next ≡ behindTab (from line at)
   tab-none next h e q = from-out line next (omega arith) ∙ sym (rw (from-cons line at h, ne-eqb (getD line at 0) tab e))
 
@@ -137,49 +146,55 @@ tab-found {A} a line at next e = by-place (from line at) refl
     by-byte : (byte : ℕ) (bytes : List ℕ) → from line at ≡ some (byte ∷ bytes) → (t : Bool) → eqb byte tab ≡ t → foundAt a line next ≡ readAt (one (isByte tab a)) line at
     by-byte byte bytes q true u =
         let tabbed : isByte tab a byte ≡ some a = rw u in
-        read-from line next (return a) bytes (e ∙ rw (q, u))
+        read-from line next (succeed a) bytes (e ∙ rw (q, u))
         ∙ return-some a bytes
         ∙ sym (one-some (isByte tab a) byte bytes a tabbed)
         ∙ sym (read-from line at (one (isByte tab a)) (byte ∷ bytes) q)
     by-byte byte bytes q false u =
         let tabless : isByte tab a byte ≡ none = rw u in
-        read-nowhere line next (return a) (e ∙ rw (q, u))
+        read-nowhere line next (succeed a) (e ∙ rw (q, u))
         ∙ sym (one-none (isByte tab a) byte bytes tabless)
         ∙ sym (read-from line at (one (isByte tab a)) (byte ∷ bytes) q)
 
     by-place : (o : Option (List ℕ)) → from line at ≡ o → foundAt a line next ≡ readAt (one (isByte tab a)) line at
-    by-place none q = read-nowhere line next (return a) (e ∙ rw q) ∙ sym (read-nowhere line at (one (isByte tab a)) q)
+    by-place none q = read-nowhere line next (succeed a) (e ∙ rw q) ∙ sym (read-nowhere line at (one (isByte tab a)) q)
     by-place (some []) q =
-        read-nowhere line next (return a) (e ∙ rw q)
+        read-nowhere line next (succeed a) (e ∙ rw q)
         ∙ sym (one-empty (isByte tab a))
         ∙ sym (read-from line at (one (isByte tab a)) [] q)
     by-place (some (byte ∷ bytes)) q = by-byte byte bytes q (eqb byte tab) refl
 
 module _ {A : Type 0} (p : Parser A) (line : List ℕ) (at : ℕ) where
+  -- a value was found, and the place behind its tab: that is the field
   pub field-found : (a : A) (mid next : ℕ) → foundAt a line mid ≡ readAt p line at → from line next ≡ behindTab (from line mid) → foundAt a line next ≡ readAt (field p) line at
   unfolding field
   field-found a mid next e q = tab-found a line mid next q ∙ sym (read-then p (λ x. one (isByte tab x)) line at mid a e)
 
+  -- no value is there: no field is
   pub field-none : readAt p line at ≡ none → readAt (field p) line at ≡ none
   unfolding field
   field-none e = read-then-none p (λ x. one (isByte tab x)) line at e
 
--- ---- what is carried
+-- ---- what is pending
 module _ (direction : Direction) (line : List ℕ) (at : ℕ) where
-  pub carried-end : length line ≤ at → readAt (carried direction) line at ≡ none
-  carried-end h = read-end line at (carried direction) (carried-empty direction) h
+  -- the line has ended: nothing is read as what is pending
+  pub pending-end : length line ≤ at → readAt (pendingField direction) line at ≡ none
+  pending-end h = read-end line at (pendingField direction) (pending-empty direction) h
 
-  pub carried-dash : at < length line → getD line at 0 ≡ 0x2D → foundAt Nothing line (at + 1) ≡ readAt (carried direction) line at
-  carried-dash h e =
+  -- `-` at the place: nothing is pending, and the place is one on
+  pub pending-dash : at < length line → getD line at 0 ≡ 0x2D → foundAt Nothing line (at + 1) ≡ readAt (pendingField direction) line at
+  pending-dash h e =
       found-in line (at + 1) Nothing (omega arith)
       ∙ sym (dash-first direction (drop (at + 1) line))
-      ∙ ap (λ (b : ℕ). carried direction (b ∷ drop (at + 1) line)) (sym e)
-      ∙ sym (read-cons line at (carried direction) h)
+      ∙ ap (λ (b : ℕ). pendingField direction (b ∷ drop (at + 1) line)) (sym e)
+      ∙ sym (read-cons line at (pendingField direction) h)
 
-  pub carried-hex : at < length line → (getD line at 0 ≡ 0x2D → ⊥) → readAt (carried direction) line at ≡ readAt (hexCarried direction) line at
-  carried-hex h e = read-cons line at (carried direction) h ∙ no-dash direction (getD line at 0) (drop (at + 1) line) e ∙ sym (read-cons line at (hexCarried direction) h)
+  -- another byte at the place: hex digits have to follow
+  pub pending-hex : at < length line → (getD line at 0 ≡ 0x2D → ⊥) → readAt (pendingField direction) line at ≡ readAt (hexPending direction) line at
+  pending-hex h e = read-cons line at (pendingField direction) h ∙ no-dash direction (getD line at 0) (drop (at + 1) line) e ∙ sym (read-cons line at (hexPending direction) h)
 
 -- ---- numbers up to a limit
+-- two parsers that give the same are followed by the next one alike
 pub same-then : {A B : Type 0} (p q : Parser A) (k : A → Parser B) (bytes rest : List ℕ) → p bytes ≡ q rest → (p >>= k) bytes ≡ (q >>= k) rest
 same-then {A} p q k bytes rest e = by-case (q rest) refl
   where
@@ -188,10 +203,12 @@ same-then {A} p q k bytes rest e = by-case (q rest) refl
     by-case (some r) u = then-some p k bytes (r .value) (r .rest) (e ∙ u) ∙ sym (then-some q k rest (r .value) (r .rest) u)
 
 module _ (limit : ℕ) where
+  -- a number within the limit is read
   pub at-most : (n : ℕ) (bytes : List ℕ) → n ≤ limit → atMost limit n bytes ≡ got n bytes
   unfolding atMost
   at-most n bytes h = rw (le-leb n limit h) (return-some n bytes)
 
+  -- a number over the limit is not
   pub over-most : (n : ℕ) (bytes : List ℕ) → limit < n → atMost limit n bytes ≡ none
   unfolding atMost
   over-most n bytes h = rw (lt-leb n limit h)
@@ -225,7 +242,7 @@ module _ (limit : ℕ) where
     pub digits-stop : (value i : ℕ) → i < length line → value ≤ limit → digitValue (getD line i 0) ≡ none
         → foundAt value line i ≡ readAt (upTo limit (moreDigits value)) line i
     digits-stop value i h k e =
-        read-cons line i (return value) h ∙ return-some value _
+        read-cons line i (succeed value) h ∙ return-some value _
         ∙ sym (up-to (moreDigits value) _ value _ (more-other value (getD line i 0) (drop (i + 1) line) e) k)
         ∙ sym (read-cons line i (upTo limit (moreDigits value)) h)
 
@@ -267,6 +284,7 @@ module _ (limit : ℕ) where
         ∙ sym (read-in line (at + 1) (upTo limit (moreDigits digit)) (omega arith))
 
 -- ---- the closing word
+-- lists of different lengths are not the same bytes
 pub same-false : (a b : List ℕ) → (length a ≡ length b → ⊥) → sameBytes a b ≡ false
 same-false [] [] e = absurd (e refl)
 same-false [] (y ∷ ys) e = refl
@@ -284,29 +302,36 @@ module _ (line word : List ℕ) (at : ℕ) where
       let e : at + (i + 1) ≡ suc (at + i) = omega arith in
       rw (drop-cons line (at + i) 0 h, drop-cons word i 0 k, e, add-one i)
 
+  -- a byte of the line is the word's: what is left of both is compared
   pub word-turn : (i : ℕ) (t : Bool) → t ≡ sameBytes (drop (at + i) line) (drop i word) → at + i < length line → i < length word → getD line (at + i) 0 ≡ getD word i 0
       → t ≡ sameBytes (drop (at + (i + 1)) line) (drop (i + 1) word)
   word-turn i t e h k q = e ∙ same-cons i h k ∙ rw (eq-eqb (getD line (at + i) 0) (getD word i 0) q)
 
+  -- a byte of the line is not the word's: they are not the same
   pub word-differs : (i : ℕ) (t : Bool) → t ≡ sameBytes (drop (at + i) line) (drop i word) → at + i < length line → i < length word → (getD line (at + i) 0 ≡ getD word i 0 → ⊥)
       → t ≡ false
   word-differs i t e h k q = e ∙ same-cons i h k ∙ rw (ne-eqb (getD line (at + i) 0) (getD word i 0) q)
 
+  -- line and word end together: they are the same
   pub word-end : (i : ℕ) (t : Bool) → t ≡ sameBytes (drop (at + i) line) (drop i word) → length line ≤ at + i → length word ≤ i → t ≡ true
   word-end i t e h k = e ∙ rw (drop-of-length-le line h, drop-of-length-le word k)
 
 module _ (line : List ℕ) (at : ℕ) where
+  -- the place is behind the line: no end is read
   pub closing-out : length line < at → readAt closing line at ≡ none
   closing-out h = read-out line at closing h
 
+  -- the rest of the line is `on` and a line feed: the run goes on
   pub closing-on : at ≤ length line → sameBytes (drop at line) (closingOf false) ≡ true → foundAt false line (length line) ≡ readAt closing line at
   unfolding closing
   closing-on h e = found-in line (length line) false (omega arith) ∙ ap (got false) (drop-length line) ∙ sym (read-in line at closing h ∙ rw e (return-some false []))
 
+  -- the rest of the line is `over` and a line feed: the run has ended
   pub closing-over : at ≤ length line → sameBytes (drop at line) (closingOf false) ≡ false → sameBytes (drop at line) (closingOf true) ≡ true → foundAt true line (length line) ≡ readAt closing line at
   unfolding closing
   closing-over h e f = found-in line (length line) true (omega arith) ∙ ap (got true) (drop-length line) ∙ sym (read-in line at closing h ∙ rw (e, f) (return-some true []))
 
+  -- the rest of the line is neither: no end is read
   pub closing-none : at ≤ length line → sameBytes (drop at line) (closingOf false) ≡ false → sameBytes (drop at line) (closingOf true) ≡ false → readAt closing line at ≡ none
   unfolding closing
   closing-none h e f = read-in line at closing h ∙ rw (e, f)

@@ -9,8 +9,8 @@ use lib.Dec.{leb}
 use lib.ListN.{length, drop}
 use borrow.Author.Tests.{leb-true, leb-false}
 use Rattle.convert.specs.declared.Run.{Run}
-use Rattle.convert.specs.Runs.{validRun}
-use Rattle.checkpoint.specs.Line.{Parsed, Parser, return, _>>=_, letter, number, threeDigits, carried, field, tab, isByte, one, closing, fieldsBy, fields, kept, runOf, loaded, readOf}
+use Rattle.convert.specs.Runs.{validRun, readLimit, writtenLimit}
+use Rattle.checkpoint.specs.Line.{Parsed, Parser, succeed, _>>=_, letter, number, threeDigits, pendingField, field, tab, isByte, one, closing, fieldsBy, fields, kept, runOf, loaded, readOf}
 use Rattle.checkpoint.specs.Places.{readAt, foundAt, atMost, upTo}
 use Rattle.checkpoint.proofs.ParserLaws.{got, then-some, then-none, one-back, is-byte-back, return-some}
 use Rattle.checkpoint.proofs.LineLaws.{bounded, kept-some}
@@ -22,12 +22,12 @@ limited = do
   direction ← field letter
   page ← field (upTo 65535 number)
   policy ← field threeDigits
-  pending ← field (carried direction)
+  pending ← field (pendingField direction)
   flags ← field (upTo 255 number)
-  read ← field (upTo 4294967295 number)
-  written ← field (upTo 8589934590 number)
+  read ← field (upTo readLimit number)
+  written ← field (upTo writtenLimit number)
   ended ← closing
-  return
+  succeed
       (record {
         direction = direction;
         page = page;
@@ -104,8 +104,8 @@ module _ (limit : ℕ) (bytes : List ℕ) where
 
 -- ---- the whole line
 -- a run over a limit is not kept
-broken : (run : Run) (rest : List ℕ) → (run .page ≤ 65535 → validRun run ≡ true → ⊥) → kept (return run rest) ≡ none
-unfolding kept return
+broken : (run : Run) (rest : List ℕ) → (run .page ≤ 65535 → validRun run ≡ true → ⊥) → kept (succeed run rest) ≡ none
+unfolding kept succeed
 broken run rest e = by-test (leb (run .page) 65535) refl (validRun run) refl
   where
     by-test : (t : Bool) → leb (run .page) 65535 ≡ t → (u : Bool) → validRun run ≡ u → kept (got run rest) ≡ none
@@ -120,12 +120,12 @@ kept-limited line =
     kept-limit 65535 l₁ _ _
     (λ page l₂.
     kept-then (field threeDigits) l₂ _ _ λ policy l₃.
-    kept-then (field (carried direction)) l₃ _ _ λ pending l₄.
+    kept-then (field (pendingField direction)) l₃ _ _ λ pending l₄.
     kept-limit 255 l₄ _ _
     (λ flags l₅.
-    kept-limit 4294967295 l₅ _ _
+    kept-limit readLimit l₅ _ _
     (λ read l₆.
-    kept-limit 8589934590 l₆ _ _ (λ written l₇. refl)
+    kept-limit writtenLimit l₆ _ _ (λ written l₇. refl)
     (λ written l₇ h. never-then closing l₇ _ λ ended l₈. broken _ l₈ λ p v. omega (arith, h, bounded _ v .written)))
     (λ read l₆ h.
     never-then (field number) l₆ _ λ written l₇.
@@ -136,7 +136,7 @@ kept-limited line =
     never-then closing l₇ _ λ ended l₈. broken _ l₈ λ p v. omega (arith, h, bounded _ v .flags)))
     (λ page l₂ h.
     never-then (field threeDigits) l₂ _ λ policy l₃.
-    never-then (field (carried direction)) l₃ _ λ pending l₄.
+    never-then (field (pendingField direction)) l₃ _ λ pending l₄.
     never-then (field number) l₄ _ λ flags l₅.
     never-then (field number) l₅ _ λ read l₆.
     never-then (field number) l₆ _ λ written l₇.
@@ -147,10 +147,10 @@ pub all-found : (line : List ℕ) (run : Run) (n₁ n₂ n₃ n₄ n₅ n₆ n�
     → foundAt (run .direction) line n₁ ≡ readAt (field letter) line 0
     → foundAt (run .page) line n₂ ≡ readAt (field (upTo 65535 number)) line n₁
     → foundAt (run .policy) line n₃ ≡ readAt (field threeDigits) line n₂
-    → foundAt (run .pending) line n₄ ≡ readAt (field (carried (run .direction))) line n₃
+    → foundAt (run .pending) line n₄ ≡ readAt (field (pendingField (run .direction))) line n₃
     → foundAt (run .flags) line n₅ ≡ readAt (field (upTo 255 number)) line n₄
-    → foundAt (run .read) line n₆ ≡ readAt (field (upTo 4294967295 number)) line n₅
-    → foundAt (run .written) line n₇ ≡ readAt (field (upTo 8589934590 number)) line n₆
+    → foundAt (run .read) line n₆ ≡ readAt (field (upTo readLimit number)) line n₅
+    → foundAt (run .written) line n₇ ≡ readAt (field (upTo writtenLimit number)) line n₆
     → foundAt (run .ended) line n₈ ≡ readAt closing line n₇
     → readAt limited line 0 ≡ foundAt run line n₈
 unfolding limited
@@ -158,10 +158,10 @@ all-found line run n₁ n₂ n₃ n₄ n₅ n₆ n₇ n₈ e₁ e₂ e₃ e₄ e
     read-then (field letter) _ line 0 n₁ (run .direction) e₁
     ∙ read-then (field (upTo 65535 number)) _ line n₁ n₂ (run .page) e₂
     ∙ read-then (field threeDigits) _ line n₂ n₃ (run .policy) e₃
-    ∙ read-then (field (carried (run .direction))) _ line n₃ n₄ (run .pending) e₄
+    ∙ read-then (field (pendingField (run .direction))) _ line n₃ n₄ (run .pending) e₄
     ∙ read-then (field (upTo 255 number)) _ line n₄ n₅ (run .flags) e₅
-    ∙ read-then (field (upTo 4294967295 number)) _ line n₅ n₆ (run .read) e₆
-    ∙ read-then (field (upTo 8589934590 number)) _ line n₆ n₇ (run .written) e₇
+    ∙ read-then (field (upTo readLimit number)) _ line n₅ n₆ (run .read) e₆
+    ∙ read-then (field (upTo writtenLimit number)) _ line n₆ n₇ (run .written) e₇
     ∙ read-then closing _ line n₇ n₈ (run .ended) e₈
 
 module _ (line : List ℕ) (run : Run) (next : ℕ) (e : readAt limited line 0 ≡ foundAt run line next) where
@@ -171,7 +171,7 @@ module _ (line : List ℕ) (run : Run) (next : ℕ) (e : readAt limited line 0 �
 
   pub not-a-line : length line < next → readOf line ≡ record { number = 18; run = none }
   unfolding readOf loaded
-  not-a-line h = ap loaded (whole ∙ ap kept (read-out line next (return run) h) ∙ kept-none)
+  not-a-line h = ap loaded (whole ∙ ap kept (read-out line next (succeed run) h) ∙ kept-none)
 
   kept-found : next ≤ length line → runOf line ≡ kept (got run (drop next line))
   kept-found h = whole ∙ ap kept (found-in line next run h)

@@ -13,7 +13,7 @@ use Rattle.engine.specs.declared.Direction.{Direction}
 use Rattle.convert.specs.declared.Run.{Run}
 use Rattle.convert.specs.Runs.{validRun}
 use Rattle.codepage.specs.Lent.{over}
-use Rattle.checkpoint.specs.Line.{tab, hexByte, decimal, letterOf, hexOf, carriedOf, fieldOf, closingOf, lineOf, writeOf, Saved}
+use Rattle.checkpoint.specs.Line.{tab, hexByte, decimal, letterOf, hexOf, pendingOf, fieldOf, closingOf, lineOf, writeOf, Saved}
 use Rattle.checkpoint.specs.declared.Written.the-variants.{Line, InvalidRun, NoRoom}
 use Rattle.checkpoint.specs.Places.{startFields, totalFields, Put}
 use Rattle.checkpoint.proofs.DecimalLaws.{places, places-length, places-suc, places-decimal}
@@ -33,6 +33,7 @@ sets-last (x ∷ xs) l at y =
     ap (λ (m : List ℕ). sets m (suc at) xs) (set-comm l (at + suc (length xs)) at y x (omega arith) ∙ ap (λ (n : ℕ). set (set l at x) n y) e)
     ∙ sets-last xs (set l at x) (suc at) y
 
+-- bytes are put, and more behind them: all of them are put
 pub put-then : {xs ys before mid after : List ℕ} {at next end : ℕ} → Put xs before at next mid → Put ys mid next end after → Put (xs ++ ys) before at end after
 put-then {xs} {ys} {before} {mid} {after} {at} {next} {end} p q =
     record {
@@ -40,6 +41,7 @@ put-then {xs} {ys} {before} {mid} {after} {at} {next} {end} p q =
       lent = q .lent ∙ ap (λ (m : List ℕ). sets m next ys) (p .lent) ∙ ap (λ (n : ℕ). sets (sets before at xs) n ys) (p .next-is) ∙ sets-append xs ys before at;
     }
 
+-- putting bytes keeps the length of the lent output
 pub put-same : {xs before after : List ℕ} {at next : ℕ} → Put xs before at next after → length after ≡ length before
 put-same {xs} {before} {after} {at} p = ap length (p .lent) ∙ length-sets before at xs
 
@@ -47,25 +49,31 @@ put-same {xs} {before} {after} {at} p = ap length (p .lent) ∙ length-sets befo
 pub put-room : {xs before mid : List ℕ} {at next : ℕ} (ys : List ℕ) → Put xs before at next mid → at + length (xs ++ ys) ≤ length before → next + length ys ≤ length mid
 put-room {xs} {before} {mid} {at} {next} ys p h = omega (arith, p .next-is, length-append xs ys, put-same p)
 
+-- room for two lists is room for the first
 pub front-room : (xs ys : List ℕ) (at n : ℕ) → at + length (xs ++ ys) ≤ n → at + length xs ≤ n
 front-room xs ys at n h = omega (arith, h, length-append xs ys)
 
 -- bytes that are written out
 module _ (bytes before : List ℕ) (at : ℕ) where
+  -- one byte that is stored
   pub put-one : (a : ℕ) → bytes ≡ a ∷ [] → Put bytes before at (at + 1) (set before at a)
   put-one a e = record { next-is = ap (λ (l : List ℕ). at + length l) (sym e); lent = rw e }
 
+  -- two bytes that are stored, one behind the other
   pub put-two : (a b : ℕ) → bytes ≡ a ∷ b ∷ [] → Put bytes before at (at + 2) (set (set before at a) (at + 1) b)
   put-two a b e = record { next-is = ap (λ (l : List ℕ). at + length l) (sym e); lent = rw (e, add-one at) }
 
+  -- four bytes that are stored, one behind the other
   pub put-four : (a b d f : ℕ) → bytes ≡ a ∷ b ∷ d ∷ f ∷ [] → Put bytes before at (at + 4) (set (set (set (set before at a) (at + 1) b) (at + 2) d) (at + 3) f)
   put-four a b d f e = record { next-is = ap (λ (l : List ℕ). at + length l) (sym e); lent = rw (e, add-one at, add-two at, add-three at) }
 
 -- ---- the short fields
+-- the letter's field is its byte and a tab
 pub letter-field : (direction : Direction) (byte : ℕ) → letterOf direction ≡ byte ∷ [] → fieldOf (letterOf direction) ≡ byte ∷ tab ∷ []
 unfolding fieldOf
 letter-field direction byte e = ap (λ (l : List ℕ). l ++ (tab ∷ [])) e
 
+-- a byte's hex digits, each by its half
 pub hex-digits : (byte high low : ℕ) → high ≡ hexByte (byte / 16) → low ≡ hexByte (byte % 16) → hexOf byte ≡ high ∷ low ∷ []
 hex-digits byte high low h l = rw (h, l)
 
@@ -74,10 +82,12 @@ pub put-tab : {bytes before mid : List ℕ} {at next : ℕ} → Put bytes before
 unfolding fieldOf
 put-tab {mid} {next} p = put-then p (put-one (tab ∷ []) mid next tab refl)
 
+-- the closing bytes that were put are those of the run's own end
 pub closing-is : (ended value : Bool) → ended ≡ value → {before after : List ℕ} {at next : ℕ} → Put (closingOf value) before at next after → Put (closingOf ended) before at next after
 closing-is ended value e p = rw e p
 
 -- ---- a loop that copies bytes
+-- one byte more is stored behind those copied so far
 pub copy-turn : (bytes l : List ℕ) (at i : ℕ) → i < length bytes → set (sets l at (take i bytes)) (at + i) (getD bytes i 0) ≡ sets l at (take (i + 1) bytes)
 copy-turn bytes l at i h =
     let e : length (take i bytes) ≡ i = length-take-le i bytes (omega arith) in
@@ -85,6 +95,7 @@ copy-turn bytes l at i h =
     ∙ sets-append (take i bytes) (getD bytes i 0 ∷ []) l at
     ∙ rw (add-one i) (ap (sets l at) (sym (take-suc bytes i 0 h)))
 
+-- all bytes are copied: they are put
 pub copy-end : (bytes l m : List ℕ) (at i : ℕ) → m ≡ sets l at (take i bytes) → length bytes ≤ i → i ≤ length bytes → Put bytes l at (at + i) m
 copy-end bytes l m at i e h k =
     let q : i ≡ length bytes = omega arith in
@@ -94,9 +105,11 @@ copy-end bytes l m at i e h k =
     }
 
 -- ---- a loop that writes the digits of a number, the last one first
+-- before the first turn: as many places as the number has digits are to be written, and they are its decimal form
 pub digits-start : (n : ℕ) (l : List ℕ) (at size : ℕ) → size ≡ length (decimal n) → sets l at (places size n) ≡ sets l at (decimal n)
 digits-start n l at size e = ap (λ (k : ℕ). sets l at (places k n)) e ∙ ap (sets l at) (places-decimal n)
 
+-- the last digit of what is left of the number is stored at its place; a tenth of it is left for the places before
 pub digits-turn : (whole m : List ℕ) (at i rest : ℕ) → 0 < i → sets m at (places i rest) ≡ whole → sets (set m (at + (i - 1)) (0x30 + rest % 10)) at (places (i - 1) (rest / 10)) ≡ whole
 digits-turn whole m at i rest h e =
     let one-less : i ≡ suc (i - 1) = omega arith in
@@ -106,6 +119,7 @@ digits-turn whole m at i rest h e =
     ∙ ap (λ (n : ℕ). sets m at (places n rest)) (sym one-less)
     ∙ e
 
+-- all digits are stored, and the tab behind them: the field is put
 pub digits-end : (n : ℕ) (l m : List ℕ) (at i rest size : ℕ) → i ≤ 0 → size ≡ length (decimal n) → sets m at (places i rest) ≡ sets l at (decimal n)
     → Put (fieldOf (decimal n)) l at (at + size + 1) (set m (at + size) tab)
 unfolding fieldOf places
@@ -121,26 +135,32 @@ digits-end n l m at i rest size h k e =
     }
 
 -- ---- the whole line
-pub line-parts : (run : Run) → startFields run ++ fieldOf (carriedOf (run .pending)) ++ totalFields run ++ closingOf (run .ended) ≡ lineOf run
+-- the line is its four parts: what the run was started with, what is pending, the totals, and the end
+pub line-parts : (run : Run) → startFields run ++ fieldOf (pendingOf (run .pending)) ++ totalFields run ++ closingOf (run .ended) ≡ lineOf run
 unfolding lineOf
 line-parts run = simp append-assoc
 
-pub line-room : (run : Run) (n : ℕ) → length (lineOf run) ≤ n → 0 + length (startFields run ++ fieldOf (carriedOf (run .pending)) ++ totalFields run ++ closingOf (run .ended)) ≤ n
+-- room for the line is room for its four parts
+pub line-room : (run : Run) (n : ℕ) → length (lineOf run) ≤ n → 0 + length (startFields run ++ fieldOf (pendingOf (run .pending)) ++ totalFields run ++ closingOf (run .ended)) ≤ n
 line-room run n h = omega (arith, ap length (line-parts run))
 
+-- bytes equal to those that were put are put
 pub put-is : {xs ys before after : List ℕ} {at next : ℕ} → xs ≡ ys → Put xs before at next after → Put ys before at next after
 put-is {before} {after} {at} {next} e p = subst (λ (l : List ℕ). Put l before at next after) e p
 
 -- ---- the answers of line writing
 module _ (run : Run) (before : List ℕ) where
+  -- a run that breaks the rules: 12, and the output is as before
   pub saved-invalid : validRun run ≡ false → Saved (writeOf run (length before)) InvalidRun before before
   unfolding writeOf over
   saved-invalid v = rw v (record { number = refl; size = refl; lent = refl })
 
+  -- the line is longer than the room: 19, and the output is as before
   pub saved-full : (size : ℕ) → validRun run ≡ true → size ≡ length (lineOf run) → length before < size → Saved (writeOf run (length before)) NoRoom before before
   unfolding writeOf over
   saved-full size v e h = rw (v, lt-ltb (length before) (length (lineOf run)) (omega arith)) (record { number = refl; size = refl; lent = refl })
 
+  -- the line is put at the front: its length is the answer
   pub saved-line : (size next : ℕ) (after : List ℕ) → validRun run ≡ true → size ≡ length (lineOf run) → size ≤ length before → Put (lineOf run) before 0 next after
       → Saved (writeOf run (length before)) (Line next) before after
   unfolding writeOf over

@@ -1,4 +1,5 @@
--- The saved line of document 01 before CR 5: what was read then, by the run rules of then. A run carried a byte or nothing.
+-- The saved line of document 01 before CR 5: what was read then, by the run rules of then. A run has a byte pending, or nothing.
+-- docs/RULES.md, "The run, and its saved line", has the line and the rules of now.
 use mathlib.Core.Bool.{Bool, true, false, not, _&&_, _||_}
 use mathlib.Core.List.{List, [], _∷_}
 use mathlib.Core.Option.{Option, none, some}
@@ -10,16 +11,16 @@ use Rattle.convert.specs.declared.Pending.{Pending}
 use Rattle.convert.specs.declared.Pending.the-variants.{Nothing, Byte, High}
 use Rattle.convert.specs.declared.Run.{Run}
 use Rattle.convert.specs.Runs.{readLimit, isDecoding, mostWritten, every}
-use Rattle.checkpoint.specs.Line.{Parsed, Parser, return, _>>=_, orElse, one, isByte, letter, number, threeDigits, hexPair, field, closing}
+use Rattle.checkpoint.specs.Line.{Parsed, Parser, succeed, _>>=_, orElse, one, isByte, letter, number, threeDigits, hexPair, field, closing}
 
--- what has to hold if a byte is carried; a unit never was
+-- what has to hold if a byte is pending; a unit never was
 abbrev pub baseIfPending : Pending → Bool → Bool
 baseIfPending Nothing holds = true
 baseIfPending (Byte byte) holds = holds
 baseIfPending (High unit) holds = false
 
 -- The run rules: page not 0; digits allowed; flags at most 15; read within the limit; written at most read or twice read;
--- flag 8 only if ended; a carried byte only if decoding, not ended, written below read.
+-- flag 8 only if ended; a pending byte only if decoding, not ended, written below read.
 unfoldable pub baseValidRun : Run → Bool
 baseValidRun run =
     every
@@ -32,14 +33,15 @@ baseValidRun run =
     ∷ baseIfPending (run .pending) (isDecoding (run .direction) && (not (run .ended) && ltb (run .written) (run .read)))
     ∷ [])
 
--- the carried byte as two capital hex digits, or `-`, in a `D` line and in an `E` line
+-- the pending byte as two capital hex digits, or `-`, in a `D` line and in an `E` line
 unfoldable pub baseHex : Parser Pending
 baseHex = do
   byte ← hexPair
-  return (Byte byte)
+  succeed (Byte byte)
 
-unfoldable pub baseCarried : Parser Pending
-baseCarried = orElse (one (isByte 0x2D Nothing)) baseHex
+-- `-`, or two hex digits: a pending byte, whatever the line's letter
+unfoldable pub basePending : Parser Pending
+basePending = orElse (one (isByte 0x2D Nothing)) baseHex
 
 -- The fields in their order, with numbers of any size.
 unfoldable pub baseFields : Parser Run
@@ -47,12 +49,12 @@ baseFields = do
   direction ← field letter
   page ← field number
   policy ← field threeDigits
-  pending ← field baseCarried
+  pending ← field basePending
   flags ← field number
   read ← field number
   written ← field number
   ended ← closing
-  return
+  succeed
       (record {
         direction = direction;
         page = page;
@@ -64,9 +66,11 @@ baseFields = do
         ended = ended;
       })
 
+-- the fields' run, if the page is at most 65,535 and the run keeps the rules of then
 unfoldable pub baseKept : Option (Parsed Run) → Option Run
 baseKept none = none
 baseKept (some r) = pick (leb (r .value .page) 65535 && baseValidRun (r .value)) (some (r .value)) none
 
+-- The run of a line as it was read before CR 5, or none.
 unfoldable pub baseRunOf : List ℕ → Option Run
 baseRunOf line = baseKept (baseFields line)

@@ -1,4 +1,5 @@
 -- Document 01, "The run and its saved line", as amended by CR 5: the saved line, its writing and its reading.
+-- docs/RULES.md, "The run, and its saved line".
 use mathlib.Core.Bool.{Bool, true, false, not, _&&_}
 use mathlib.Core.List.{List, [], _∷_, _++_}
 use mathlib.Core.Option.{Option, none, some}
@@ -21,6 +22,7 @@ use Rattle.checkpoint.specs.declared.Restored.{Restored}
 use Rattle.checkpoint.specs.declared.Restored.the-variants.{Accepted, Refused}
 
 -- ---- The line of a run
+-- what parts the fields
 abbrev pub tab : ℕ
 tab = 0x09
 
@@ -44,6 +46,7 @@ decimalFrom (suc fuel) number =
       | false ↦ decimalFrom fuel (number / 10) ++ (digitByte (number % 10) ∷ [])
     ]
 
+-- the decimal digits of a number, as bytes
 unfoldable pub decimal : ℕ → List ℕ
 decimal number = decimalFrom number number
 
@@ -60,16 +63,16 @@ digitsOf policy = digitByte (policy .single) ∷ digitByte (policy .pair) ∷ di
 abbrev pub hexOf : ℕ → List ℕ
 hexOf byte = hexByte (byte / 16) ∷ hexByte (byte % 16) ∷ []
 
--- the carried byte as two capital hex digits, the carried unit as four, or `-`
-abbrev pub carriedOf : Pending → List ℕ
-carriedOf Nothing = 0x2D ∷ []
-carriedOf (Byte byte) = hexOf byte
-carriedOf (High unit) = hexOf (unit / 256) ++ hexOf (unit % 256)
+-- the pending byte as two capital hex digits, the pending unit as four, or `-`
+abbrev pub pendingOf : Pending → List ℕ
+pendingOf Nothing = 0x2D ∷ []
+pendingOf (Byte byte) = hexOf byte
+pendingOf (High unit) = hexOf (unit / 256) ++ hexOf (unit % 256)
 
 -- the word `on` or `over`
-abbrev pub wordOf : (ended : Bool) → List ℕ
-wordOf false = 0x6F ∷ 0x6E ∷ []
-wordOf true = 0x6F ∷ 0x76 ∷ 0x65 ∷ 0x72 ∷ []
+abbrev pub endWord : (ended : Bool) → List ℕ
+endWord false = 0x6F ∷ 0x6E ∷ []
+endWord true = 0x6F ∷ 0x76 ∷ 0x65 ∷ 0x72 ∷ []
 
 -- a field and the tab behind it
 unfoldable pub fieldOf : List ℕ → List ℕ
@@ -77,16 +80,16 @@ fieldOf bytes = bytes ++ (tab ∷ [])
 
 -- the last field and the line feed
 unfoldable pub closingOf : (ended : Bool) → List ℕ
-closingOf ended = wordOf ended ++ (lineFeed ∷ [])
+closingOf ended = endWord ended ++ (lineFeed ∷ [])
 
--- Fields parted by one tab, closed by a line feed: `D` or `E`, page, three digits, what is carried as two (`D`) or four (`E`)
+-- Fields parted by one tab, closed by a line feed: `D` or `E`, page, three digits, what is pending as two (`D`) or four (`E`)
 -- capital hex digits or `-`, flags, read, written, then the word `on` or `over`.
 unfoldable pub lineOf : Run → List ℕ
 lineOf run =
     fieldOf (letterOf (run .direction))
     ++ fieldOf (decimal (run .page))
     ++ fieldOf (digitsOf (run .policy))
-    ++ fieldOf (carriedOf (run .pending))
+    ++ fieldOf (pendingOf (run .pending))
     ++ fieldOf (decimal (run .flags))
     ++ fieldOf (decimal (run .read))
     ++ fieldOf (decimal (run .written))
@@ -99,13 +102,16 @@ pub record Parsed (A : Type 0) : Type 0 where
   pub value : A
   pub rest : List ℕ
 
+-- A reader of a value at the front of some bytes; none: they do not begin with one.
 abbrev pub Parser : Type 0 → Type 0
 Parser A = List ℕ → Option (Parsed A)
 
-unfoldable pub return : {A : Type 0} → A → Parser A
-return a bytes = some (record { value = a; rest = bytes })
+-- reads no byte and gives a value
+unfoldable pub succeed : {A : Type 0} → A → Parser A
+succeed a bytes = some (record { value = a; rest = bytes })
 
 infixl 10 _>>=_
+-- one parser and, with its value, the next one on the bytes behind it; none if either has none
 unfoldable pub _>>=_ : {A B : Type 0} → Parser A → (A → Parser B) → Parser B
 _>>=_ p next bytes = elim (p bytes) [ none ↦ none | some r ↦ next (r .value) (r .rest) ]
 
@@ -122,9 +128,11 @@ one means (byte ∷ bytes) = elim (means byte) [ none ↦ none | some a ↦ some
 abbrev pub isByte : {A : Type 0} → (byte : ℕ) → A → ℕ → Option A
 isByte byte a b = pick (eqb b byte) (some a) none
 
+-- the value of `0` to `9`; any other byte has none
 abbrev pub digitValue : ℕ → Option ℕ
 digitValue byte = pick (leb 0x30 byte && leb byte 0x39) (some (byte - 0x30)) none
 
+-- the value of `0` to `9` and `A` to `F`; any other byte, small letters too, has none
 abbrev pub hexValue : ℕ → Option ℕ
 hexValue byte = pick (leb 0x41 byte && leb byte 0x46) (some (byte - 0x41 + 10)) (digitValue byte)
 
@@ -145,41 +153,44 @@ number = orElse (one (isByte 0x30 0)) (one digitValue >>= moreDigits)
 abbrev pub letterValue : ℕ → Option Direction
 letterValue byte = pick (eqb byte 0x44) (some Decoding) (isByte 0x45 Encoding byte)
 
+-- the direction, by its letter
 unfoldable pub letter : Parser Direction
 letter = one letterValue
 
+-- the policy: for undefined singles, undefined pairs and invalid codes
 unfoldable pub threeDigits : Parser Policy
 threeDigits = do
   single ← one digitValue
   pair ← one digitValue
   invalid ← one digitValue
-  return (record { single = single; pair = pair; invalid = invalid })
+  succeed (record { single = single; pair = pair; invalid = invalid })
 
 -- two capital hex digits
 unfoldable pub hexPair : Parser ℕ
 hexPair = do
   high ← one hexValue
   low ← one hexValue
-  return (16 * high + low)
+  succeed (16 * high + low)
 
 -- a byte in a `D` line, a unit in an `E` line, its high half first
-unfoldable pub hexCarried : Direction → Parser Pending
-hexCarried Decoding = do
+unfoldable pub hexPending : Direction → Parser Pending
+hexPending Decoding = do
   byte ← hexPair
-  return (Byte byte)
-hexCarried Encoding = do
+  succeed (Byte byte)
+hexPending Encoding = do
   high ← hexPair
   low ← hexPair
-  return (High (256 * high + low))
+  succeed (High (256 * high + low))
 
--- what is carried, as two (`D`) or four (`E`) capital hex digits, or `-`
-unfoldable pub carried : Direction → Parser Pending
-carried direction = orElse (one (isByte 0x2D Nothing)) (hexCarried direction)
+-- what is pending, as two (`D`) or four (`E`) capital hex digits, or `-`
+unfoldable pub pendingField : Direction → Parser Pending
+pendingField direction = orElse (one (isByte 0x2D Nothing)) (hexPending direction)
 
 -- a field and the tab behind it
 unfoldable pub field : {A : Type 0} → Parser A → Parser A
 field p = p >>= λ a. one (isByte tab a)
 
+-- whether two lists have the same bytes
 abbrev pub sameBytes : List ℕ → List ℕ → Bool
 sameBytes [] [] = true
 sameBytes [] (b ∷ bs) = false
@@ -188,20 +199,20 @@ sameBytes (a ∷ rest) (b ∷ bs) = eqb a b && sameBytes rest bs
 
 -- the word `on` or `over` and the line feed, with nothing behind it
 unfoldable pub closing : Parser Bool
-closing bytes = pick (sameBytes bytes (closingOf false)) (return false []) (pick (sameBytes bytes (closingOf true)) (return true []) none)
+closing bytes = pick (sameBytes bytes (closingOf false)) (succeed false []) (pick (sameBytes bytes (closingOf true)) (succeed true []) none)
 
--- The fields in their order, with numbers of any size; what is carried is read as a line of its direction has it.
-unfoldable pub fieldsBy : (carried : Direction → Parser Pending) → Parser Run
-fieldsBy carried = do
+-- The fields in their order, with numbers of any size; what is pending is read as a line of its direction has it.
+unfoldable pub fieldsBy : (pendingField : Direction → Parser Pending) → Parser Run
+fieldsBy pendingField = do
   direction ← field letter
   page ← field number
   policy ← field threeDigits
-  pending ← field (carried direction)
+  pending ← field (pendingField direction)
   flags ← field number
   read ← field number
   written ← field number
   ended ← closing
-  return
+  succeed
       (record {
         direction = direction;
         page = page;
@@ -213,30 +224,33 @@ fieldsBy carried = do
         ended = ended;
       })
 
+-- the fields of a line as they are now (CR 5)
 unfoldable pub fields : Parser Run
-fields = fieldsBy carried
+fields = fieldsBy pendingField
 
 -- A line is read as the run of its fields, if the page is at most 65,535 and the run keeps the run rules. Nothing else is read.
 unfoldable pub kept : Option (Parsed Run) → Option Run
 kept none = none
 kept (some r) = pick (leb (r .value .page) 65535 && validRun (r .value)) (some (r .value)) none
 
+-- The run of a line, or none if the bytes are not a saved line.
 unfoldable pub runOf : List ℕ → Option Run
 runOf line = kept (fields line)
 
--- A run that the program can hold: a page and a carried unit are two bytes wide, a digit, a carried byte and the flags one, a
+-- A run that the program can hold: a page and a pending unit are two bytes wide, a digit, a pending byte and the flags one, a
 -- total eight.
-abbrev pub CarriedFits : Pending → Type 0
-CarriedFits Nothing = Unit {0}
-CarriedFits (Byte byte) = byte < 2 ^ 8
-CarriedFits (High unit) = unit < 2 ^ 16
+abbrev pub PendingFits : Pending → Type 0
+PendingFits Nothing = Unit {0}
+PendingFits (Byte byte) = byte < 2 ^ 8
+PendingFits (High unit) = unit < 2 ^ 16
 
+-- Every number of the run is within its width.
 pub record Representable (run : Run) : Type 0 where
   pub page : run .page < 2 ^ 16
   pub single : run .policy .single < 2 ^ 8
   pub pair : run .policy .pair < 2 ^ 8
   pub invalid : run .policy .invalid < 2 ^ 8
-  pub pending : CarriedFits (run .pending)
+  pub pending : PendingFits (run .pending)
   pub flags : run .flags < 2 ^ 8
   pub read : run .read < 2 ^ 64
   pub written : run .written < 2 ^ 64
@@ -254,9 +268,11 @@ pub record Saving : Type 0 where
   pub number : ℕ
   pub line : List ℕ
 
+-- a refusal: its number, and no line
 abbrev pub unwritten : ℕ → Saving
 unwritten number = record { number = number; line = [] }
 
+-- Writing: first 12, the run breaks the rules; then 19, its line is longer than the room; else the line.
 unfoldable pub writeOf : Run → (room : ℕ) → Saving
 writeOf run room =
     pick (not (validRun run)) (unwritten 12)
@@ -268,6 +284,7 @@ pub record Reply : Type 0 where
   pub number : ℕ
   pub size : ℕ
 
+-- the number of each case of the answer, and the line's length; 0 for a refusal
 abbrev pub writtenAs : Written → Reply
 writtenAs (Line size) = record { number = 0; size = size }
 writtenAs InvalidRun = record { number = 12; size = 0 }
@@ -284,10 +301,12 @@ pub record Loading : Type 0 where
   pub number : ℕ
   pub run : Option Run
 
+-- a run that was read, or the refusal 18
 unfoldable pub loaded : Option Run → Loading
 loaded none = record { number = 18; run = none }
 loaded (some run) = record { number = 0; run = some run }
 
+-- Reading: 0 and the run that the line is of, or 18.
 unfoldable pub readOf : List ℕ → Loading
 readOf line = loaded (runOf line)
 

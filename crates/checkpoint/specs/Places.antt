@@ -9,7 +9,7 @@ use lib.ListN.{length, drop}
 use lib.Seq.{sets}
 use Rattle.codepage.specs.CodePage.{pick}
 use Rattle.convert.specs.declared.Run.{Run}
-use Rattle.checkpoint.specs.Line.{tab, decimal, letterOf, digitsOf, fieldOf, Parsed, Parser, return, _>>=_}
+use Rattle.checkpoint.specs.Line.{tab, decimal, letterOf, digitsOf, fieldOf, Parsed, Parser, succeed, _>>=_}
 
 -- the bytes of a line from a place on; a place behind its end has none
 unfoldable pub from : (line : List ℕ) → (place : ℕ) → Option (List ℕ)
@@ -21,7 +21,7 @@ readAt p line place = elim (from line place) [ none ↦ none | some rest ↦ p r
 
 -- a value that was found, and the place behind it
 abbrev pub foundAt : {A : Type 0} → A → (line : List ℕ) → (place : ℕ) → Option (Parsed A)
-foundAt a line place = readAt (return a) line place
+foundAt a line place = readAt (succeed a) line place
 
 -- the bytes behind a tab
 abbrev pub behindTab : Option (List ℕ) → Option (List ℕ)
@@ -31,15 +31,17 @@ behindTab (some (byte ∷ bytes)) = pick (eqb byte tab) (some bytes) none
 
 -- a number that is read only if it is at most a limit
 unfoldable pub atMost : (limit number : ℕ) → Parser ℕ
-atMost limit number bytes = pick (leb number limit) (return number bytes) none
+atMost limit number bytes = pick (leb number limit) (succeed number bytes) none
 
+-- a parser whose number is read only if it is at most a limit
 unfoldable pub upTo : (limit : ℕ) → Parser ℕ → Parser ℕ
 upTo limit p = p >>= atMost limit
 
--- the fields of what a run was started with, and of what it gathered
+-- the fields of what a run was started with: letter, page and digits
 abbrev pub startFields : Run → List ℕ
 startFields run = fieldOf (letterOf (run .direction)) ++ fieldOf (decimal (run .page)) ++ fieldOf (digitsOf (run .policy))
 
+-- the fields of what a run gathered: flags, read and written
 abbrev pub totalFields : Run → List ℕ
 totalFields run = fieldOf (decimal (run .flags)) ++ fieldOf (decimal (run .read)) ++ fieldOf (decimal (run .written))
 

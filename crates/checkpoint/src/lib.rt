@@ -1,4 +1,11 @@
-// The saved line of a run: writing and reading. (Document 01, "The run and its saved line", as amended by CR 5.)
+// The saved line of a run, at most 44 bytes of text. (Document 01, "The run and its saved line", as amended by CR 5; docs/RULES.md, "The
+// run, and its saved line".)
+//
+// `write` puts a run's line at the front of lent room; `read` gives the run of a line, or refuses (18). Every run that keeps the rules
+// has one line, and a line is one run's.
+//
+//     let saved = checkpoint::write(run, line);        // line: &mut [u8], room for 44
+//     let restored = checkpoint::read(&line[..length]);
 mod reader;
 mod words;
 mod writer;
@@ -51,8 +58,8 @@ pub fn read(line: &[u8]) -> Restored
     let page = reader::number_at(line, letter.next, 65535);
     let digits = reader::digits_at(line, page.next);
     let direction = letter.value;
-    let carried = reader::carried_at(line, digits.next, direction);
-    let flags = reader::number_at(line, carried.next, 255);
+    let found = reader::pending_at(line, digits.next, direction);
+    let flags = reader::number_at(line, found.next, 255);
     let read = reader::number_at(line, flags.next, Run::READ_LIMIT);
     let written = reader::number_at(line, read.next, 2 * Run::READ_LIMIT);
     let ending = reader::closing_at(line, written.next);
@@ -60,7 +67,7 @@ pub fn read(line: &[u8]) -> Restored
         return Restored::Refused;
     }
     let policy = digits.value;
-    let pending = carried.value;
+    let pending = found.value;
     let run = Run {
         direction,
         page: page.value as u16,

@@ -4,7 +4,7 @@ ghost use mathlib.Core.Path.{_≡_};
 ghost use mathlib.Core.Option.{Option·getD};
 ghost use Prim.Native.Nat.{ℕ, _+_, _≤_, _<_, _^_};
 ghost use lib.ListN.{length, drop};
-ghost use Rattle.checkpoint.specs.Line.{digitValue, hexValue, one, letter, number, moreDigits, threeDigits, hexPair, hexCarried, carried, field, sameBytes, closing};
+ghost use Rattle.checkpoint.specs.Line.{digitValue, hexValue, one, letter, number, moreDigits, threeDigits, hexPair, hexPending, pendingField, field, sameBytes, closing};
 ghost use Rattle.checkpoint.specs.Places.{from, readAt, foundAt, behindTab, upTo};
 use crate::words;
 use convert::Direction;
@@ -32,7 +32,7 @@ pub struct Digits {
     pub next: usize,
 }
 
-pub struct Carried {
+pub struct FoundPending {
     pub value: Pending,
     pub next: usize,
 }
@@ -253,33 +253,33 @@ fn pair_at(line: &[u8], at: usize) -> Digit
     }
 }
 
-// The carried byte of a `D` line.
-fn byte_at(line: &[u8], at: usize) -> Carried
-    ensures { λ r. ⌜ foundAt (r .value) (now (line .entry)) (r .next) ≡ readAt (hexCarried Direction.Decoding) (now (line .entry)) at ⌝ }
+// The pending byte of a `D` line.
+fn byte_at(line: &[u8], at: usize) -> FoundPending
+    ensures { λ r. ⌜ foundAt (r .value) (now (line .entry)) (r .next) ≡ readAt (hexPending Direction.Decoding) (now (line .entry)) at ⌝ }
 {
     let byte = pair_at(line, at);
-    Carried {
+    FoundPending {
         value: Pending::Byte(byte.value),
         next: byte.next,
     }
 }
 
-// The carried unit of an `E` line, its high half first.
-fn unit_at(line: &[u8], at: usize) -> Carried
-    ensures { λ r. ⌜ foundAt (r .value) (now (line .entry)) (r .next) ≡ readAt (hexCarried Direction.Encoding) (now (line .entry)) at ⌝ }
+// The pending unit of an `E` line, its high half first.
+fn unit_at(line: &[u8], at: usize) -> FoundPending
+    ensures { λ r. ⌜ foundAt (r .value) (now (line .entry)) (r .next) ≡ readAt (hexPending Direction.Encoding) (now (line .entry)) at ⌝ }
 {
     let high = pair_at(line, at);
     let low = pair_at(line, high.next);
     let unit = 256 * (high.value as u16) + (low.value as u16);
-    Carried {
+    FoundPending {
         value: Pending::High(unit),
         next: low.next,
     }
 }
 
-// The carried byte or unit, as a line of its direction has it.
-fn hex_carried_at(line: &[u8], at: usize, direction: Direction) -> Carried
-    ensures { λ r. ⌜ foundAt (r .value) (now (line .entry)) (r .next) ≡ readAt (hexCarried direction) (now (line .entry)) at ⌝ }
+// The pending byte or unit, as a line of its direction has it.
+fn hex_pending_at(line: &[u8], at: usize, direction: Direction) -> FoundPending
+    ensures { λ r. ⌜ foundAt (r .value) (now (line .entry)) (r .next) ≡ readAt (hexPending direction) (now (line .entry)) at ⌝ }
 {
     match direction {
         Direction::Decoding => byte_at(line, at),
@@ -287,25 +287,25 @@ fn hex_carried_at(line: &[u8], at: usize, direction: Direction) -> Carried
     }
 }
 
-// What is carried, or none, and its tab.
-pub fn carried_at(line: &[u8], at: usize, direction: Direction) -> Carried
-    ensures { λ r. ⌜ foundAt (r .value) (now (line .entry)) (r .next) ≡ readAt (field (carried direction)) (now (line .entry)) at ⌝ }
+// What is pending, or none, and its tab.
+pub fn pending_at(line: &[u8], at: usize, direction: Direction) -> FoundPending
+    ensures { λ r. ⌜ foundAt (r .value) (now (line .entry)) (r .next) ≡ readAt (field (pendingField direction)) (now (line .entry)) at ⌝ }
 {
     if line.len() <= at {
-        return Carried {
+        return FoundPending {
             value: Pending::Nothing,
             next: nowhere(line),
         };
     }
     if line[at] == b'-' {
-        return Carried {
+        return FoundPending {
             value: Pending::Nothing,
             next: tab_at(line, at + 1),
         };
     }
-    let found = hex_carried_at(line, at, direction);
+    let found = hex_pending_at(line, at, direction);
     let value = found.value;
-    Carried {
+    FoundPending {
         value,
         next: tab_at(line, found.next),
     }

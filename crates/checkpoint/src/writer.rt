@@ -5,7 +5,7 @@ ghost use mathlib.Core.List.{[], _∷_, _++_};
 ghost use Prim.Native.Nat.{ℕ, _+_, _/_, _%_, _≤_, _<_};
 ghost use lib.ListN.{length};
 ghost use Rattle.convert.specs.Runs.{validRun};
-ghost use Rattle.checkpoint.specs.Line.{hexByte, decimal, letterOf, digitsOf, hexOf, carriedOf, fieldOf, closingOf, lineOf};
+ghost use Rattle.checkpoint.specs.Line.{hexByte, decimal, letterOf, digitsOf, hexOf, pendingOf, fieldOf, closingOf, lineOf};
 ghost use Rattle.checkpoint.specs.Places.{startFields, totalFields, Put};
 use crate::words;
 use convert::Direction;
@@ -27,8 +27,9 @@ fn decimal_len(number: u64) -> usize
     size
 }
 
-fn carried_len(pending: Pending) -> usize
-    ensures { λ r. ⌜ r ≡ length (carriedOf pending) ⌝ }
+// How many bytes what is pending has in the line: `-`, two hex digits, or four.
+fn pending_len(pending: Pending) -> usize
+    ensures { λ r. ⌜ r ≡ length (pendingOf pending) ⌝ }
     ensures { λ r. ⌜ r ≤ 4 ⌝ }
 {
     match pending {
@@ -38,6 +39,7 @@ fn carried_len(pending: Pending) -> usize
     }
 }
 
+// How many bytes the word `on` or `over` and the line feed have.
 fn closing_len(ended: bool) -> usize
     ensures { λ r. ⌜ r ≡ length (closingOf ended) ⌝ }
     ensures { λ r. ⌜ r ≤ 5 ⌝ }
@@ -54,13 +56,13 @@ pub fn line_len(run: Run) -> usize
 {
     let pending = run.pending;
     let page = decimal_len(run.page as u64);
-    let carried = carried_len(pending);
+    let pending_size = pending_len(pending);
     let flags = decimal_len(run.flags as u64);
     let read = decimal_len(run.read);
     let written = decimal_len(run.written);
     let closing = closing_len(run.ended);
     // `D` or `E`, three digits and seven tabs
-    page + carried + flags + read + written + closing + 11
+    page + pending_size + flags + read + written + closing + 11
 }
 
 // Some bytes.
@@ -76,6 +78,7 @@ fn put_bytes(bytes: &[u8], at: usize, out: &mut [u8]) -> usize
     at + i
 }
 
+// `D` for a decoding run, `E` for an encoding one.
 fn letter_byte(direction: Direction) -> u8
     ensures { λ r. ⌜ letterOf direction ≡ r ∷ [] ⌝ }
 {
@@ -157,10 +160,10 @@ fn put_unit(unit: u16, at: usize, out: &mut [u8]) -> usize
     put_hex(low, low_at, out)
 }
 
-// What is carried, or `-`.
+// What is pending, or `-`.
 fn put_pending(pending: Pending, at: usize, out: &mut [u8]) -> usize
-    requires { ⌜ at + length (carriedOf pending) ≤ length (now out) ⌝ }
-    ensures { λ r. ⌜ Put (carriedOf pending) (now (out .entry)) at r (now (out .exit)) ⌝ }
+    requires { ⌜ at + length (pendingOf pending) ≤ length (now out) ⌝ }
+    ensures { λ r. ⌜ Put (pendingOf pending) (now (out .entry)) at r (now (out .exit)) ⌝ }
 {
     match pending {
         Pending::Nothing => {
@@ -172,10 +175,10 @@ fn put_pending(pending: Pending, at: usize, out: &mut [u8]) -> usize
     }
 }
 
-// What is carried and its tab.
-fn put_carried(pending: Pending, at: usize, out: &mut [u8]) -> usize
-    requires { ⌜ at + length (fieldOf (carriedOf pending)) ≤ length (now out) ⌝ }
-    ensures { λ r. ⌜ Put (fieldOf (carriedOf pending)) (now (out .entry)) at r (now (out .exit)) ⌝ }
+// What is pending and its tab.
+fn put_pending_field(pending: Pending, at: usize, out: &mut [u8]) -> usize
+    requires { ⌜ at + length (fieldOf (pendingOf pending)) ≤ length (now out) ⌝ }
+    ensures { λ r. ⌜ Put (fieldOf (pendingOf pending)) (now (out .entry)) at r (now (out .exit)) ⌝ }
 {
     let end = put_pending(pending, at, out);
     out[end] = b'\t';
@@ -223,8 +226,8 @@ pub fn put_line(run: Run, out: &mut [u8]) -> usize
     ensures { λ r. ⌜ Put (lineOf run) (now (out .entry)) 0 r (now (out .exit)) ⌝ }
 {
     let pending = run.pending;
-    let carried_at = put_start(run, 0, out);
-    let flags_at = put_carried(pending, carried_at, out);
+    let pending_at = put_start(run, 0, out);
+    let flags_at = put_pending_field(pending, pending_at, out);
     let closing_at = put_totals(run, flags_at, out);
     put_closing(run.ended, closing_at, out)
 }

@@ -9,15 +9,15 @@ use lib.Bits.{bitAnd, bitOr, and-le-l, and-le-r, or-add-and}
 use lib.Dec.{leb, ltb, eqb}
 use lib.ListN.{length, take}
 use borrow.Author.Tests.{ltb-true, ltb-false, lt-ltb, le-ltb, leb-true, le-leb, eq-eqb, ne-eqb, eqb-true, eqb-false, not-true, not-false}
-use Rattle.codepage.specs.CodePage.{CodePage, GoodShape, pick, entry, isKnown, isLead, leads, leadsBelow, badClass, firstFault, isGood}
+use Rattle.codepage.specs.CodePage.{CodePage, GoodShape, pick, entryAt, isKnown, isLead, leads, leadsBelow, badClass, firstFault, isGood}
 use Rattle.codepage.specs.Marks.{markOf, Marked, Largest, goodSizes, NoLowLead}
 use Rattle.codepage.proofs.ShapeLaws.{and-left, and-right, or-left-false, or-right-false, count-lead, count-other, below-all, shape-exact}
 
 -- ---- counting
-pub count-mark : (cs : List ℕ) (i n m : ℕ) → n ≡ leads (take i cs) → i < length cs → m ≡ markOf (isLead (entry cs i)) → n + m ≡ leads (take (i + 1) cs)
-count-mark cs i n m e h q = by-lead (isLead (entry cs i)) refl
+pub count-mark : (cs : List ℕ) (i n m : ℕ) → n ≡ leads (take i cs) → i < length cs → m ≡ markOf (isLead (entryAt cs i)) → n + m ≡ leads (take (i + 1) cs)
+count-mark cs i n m e h q = by-lead (isLead (entryAt cs i)) refl
   where
-    by-lead : (t : Bool) → isLead (entry cs i) ≡ t → n + m ≡ leads (take (i + 1) cs)
+    by-lead : (t : Bool) → isLead (entryAt cs i) ≡ t → n + m ≡ leads (take (i + 1) cs)
     by-lead true w =
         let one : m ≡ 1 = q ∙ ap markOf w in
         ap (λ (k : ℕ). n + k) one ∙ count-lead cs i n e w h
@@ -26,6 +26,7 @@ count-mark cs i n m e h q = by-lead (isLead (entry cs i)) refl
         let z : n + m ≡ n = omega arith in
         z ∙ count-other cs i n e w h
 
+-- a mark is at most 1
 pub mark-le : (t : Bool) (m : ℕ) → m ≡ markOf t → m ≤ 1
 mark-le true m e = omega arith
 mark-le false m e = omega arith
@@ -33,12 +34,12 @@ mark-le false m e = omega arith
 -- ---- the leads below a byte
 module _ (cs : List ℕ) where
   -- one byte more
-  pub below-next : (x : ℕ) → x < length cs → leadsBelow cs (x + 1) ≡ leadsBelow cs x + markOf (isLead (entry cs x))
+  pub below-next : (x : ℕ) → x < length cs → leadsBelow cs (x + 1) ≡ leadsBelow cs x + markOf (isLead (entryAt cs x))
   unfolding leadsBelow
   below-next x h = sym (count-mark cs x (leads (take x cs)) _ refl h refl)
 
   -- one byte more, counted from somewhere
-  pub count-more : (x y base n m : ℕ) → y ≡ x + 1 → x < length cs → leadsBelow cs x ≡ base + n → m ≡ markOf (isLead (entry cs x)) → leadsBelow cs y ≡ base + (n + m)
+  pub count-more : (x y base n m : ℕ) → y ≡ x + 1 → x < length cs → leadsBelow cs x ≡ base + n → m ≡ markOf (isLead (entryAt cs x)) → leadsBelow cs y ≡ base + (n + m)
   count-more x y base n m s h e q = ap (leadsBelow cs) s ∙ omega (arith, below-next x h)
 
   -- some bytes more: each counts at most once
@@ -50,11 +51,11 @@ module _ (cs : List ℕ) where
       let z : x + suc n ≡ x + n + 1 = omega arith in
       let s = below-steps x n (omega arith) in
       let m = below-next (x + n) (omega arith) in
-      let o = mark-le (isLead (entry cs (x + n))) _ refl in
+      let o = mark-le (isLead (entryAt cs (x + n))) _ refl in
       rw z (omega (arith, s, m, o))
 
   -- some bytes more, of which none is a lead
-  pub below-same : (x n : ℕ) → x + n ≤ length cs → ((k : ℕ) → k < n → isLead (entry cs (x + k)) ≡ false) → leadsBelow cs (x + n) ≡ leadsBelow cs x
+  pub below-same : (x n : ℕ) → x + n ≤ length cs → ((k : ℕ) → k < n → isLead (entryAt cs (x + k)) ≡ false) → leadsBelow cs (x + n) ≡ leadsBelow cs x
   below-same x zero h f =
       let z : x + 0 ≡ x = omega arith in
       rw z
@@ -64,6 +65,7 @@ module _ (cs : List ℕ) where
       let s = below-same x n (omega arith) (λ k l. f k (omega arith)) in
       rw z (omega (arith, m, s))
 
+  -- where no lead is below 80, none is counted below 80
   pub none-low : length cs ≡ 256 → NoLowLead cs → leadsBelow cs 0x80 ≡ 0
   unfolding leadsBelow leads
   none-low h low = below-same 0 0x80 (omega arith) (λ k l. rw (zero-add k) (low k l))
@@ -79,6 +81,7 @@ last-or-below f n k h e b false q =
     let d : k ≡ n → ⊥ = eqb-false k n q in
     b (omega arith)
 
+-- a test that was computed to hold of all numbers below n holds of each of them
 pub all-below : (f : ℕ → Bool) (n : ℕ) → allBelow f n ≡ true → (k : ℕ) → k < n → f k ≡ true
 all-below f zero e k h = absurd (omega arith)
 all-below f (suc n) e k h = last-or-below f n k h (and-left (f n) (allBelow f n) e) (all-below f n (and-right (f n) (allBelow f n) e) k) (eqb k n) refl
@@ -91,6 +94,7 @@ same-eq : (a b : Bool) → same a b ≡ true → a ≡ b
 same-eq true b e = sym e
 same-eq false b e = sym (not-true b e)
 
+-- where one of two holds, and the first does not, the second does
 pub or-else : (a b : Bool) → a ≡ false → (a || b) ≡ true → b ≡ true
 or-else true b n e = absurd (true≢false n)
 or-else false b n e = e
@@ -102,6 +106,7 @@ low-right : allBelow lowRight 256 ≡ true
 unfolding lowRight isKnown isLead
 low-right = refl
 
+-- the test of a byte below 80, by bits: its class is bad if it is none of 0, 1, 4, 5
 pub low-class : (byte class : ℕ) → class < 256 → byte < 0x80 → badClass byte class ≡ ltb 0 (bitAnd class 0xFA)
 unfolding badClass lowRight
 low-class byte class c h = rw (lt-ltb byte 0x80 h) (same-eq (not (isKnown class) || isLead class) (ltb 0 (bitAnd class 0xFA)) (all-below lowRight 256 low-right class c))
@@ -117,6 +122,7 @@ or-false : (a : Bool) → (a || false) ≡ a
 or-false true = refl
 or-false false = refl
 
+-- the test of a byte from 80 on, by bits: its class is bad if it is none of 0, 1, 2, 4, 5, 6
 pub high-class : (byte class : ℕ) → class < 256 → 0x80 ≤ byte → badClass byte class ≡ ltb 0 (bitAnd (bitAnd class 0xFB + 1) 0xFC)
 unfolding badClass highRight
 high-class byte class c h =
@@ -130,6 +136,7 @@ lead-right : allBelow leadRight 256 ≡ true
 unfolding leadRight isLead
 lead-right = refl
 
+-- the test of a lead, by bits: the class without its 4 is 2
 pub lead-class : (class : ℕ) → class < 256 → isLead class ≡ eqb (bitAnd class 0xFB) 2
 unfolding leadRight
 lead-class class c = same-eq (isLead class) (eqb (bitAnd class 0xFB) 2) (all-below leadRight 256 lead-right class c)
@@ -152,10 +159,12 @@ fine-lead byte class h e = sym (rw (lt-ltb byte 0x80 h)) ∙ or-right-false (not
 
 -- ---- marks
 module _ (bad : ℕ → ℕ → Bool) (xs : List ℕ) (from : ℕ) where
+  -- over no entries the mark is 0
   pub marked-start : Marked bad xs from from 0
   marked-start = record { none-bad = λ e k l h. absurd (omega arith); one-bad = λ e. absurd (omega arith) }
 
-  pub marked-more : (i mark m : ℕ) → from ≤ i → Marked bad xs from i mark → bad i (entry xs i) ≡ ltb 0 m → Marked bad xs from (i + 1) (bitOr mark m)
+  -- one entry more: its own mark, over 0 exactly if it is bad, is put to the others by `or`
+  pub marked-more : (i mark m : ℕ) → from ≤ i → Marked bad xs from i mark → bad i (entryAt xs i) ≡ ltb 0 m → Marked bad xs from (i + 1) (bitOr mark m)
   marked-more i mark m f g e = by-bad (ltb 0 m) refl
     where
       by-bad : (t : Bool) → ltb 0 m ≡ t → Marked bad xs from (i + 1) (bitOr mark m)
@@ -168,7 +177,7 @@ module _ (bad : ℕ → ℕ → Bool) (xs : List ℕ) (from : ℕ) where
             one-bad = λ z. let b = g .one-bad (subst (λ (n : ℕ). 0 < n) same-mark z) in (b .0, b .1, omega (arith, b .2), b .3);
           }
         where
-          at-or-below : (k : ℕ) → from ≤ k → k < i + 1 → (t : Bool) → ltb k i ≡ t → mark ≡ 0 → bad i (entry xs i) ≡ false → bad k (entry xs k) ≡ false
+          at-or-below : (k : ℕ) → from ≤ k → k < i + 1 → (t : Bool) → ltb k i ≡ t → mark ≡ 0 → bad i (entryAt xs i) ≡ false → bad k (entryAt xs k) ≡ false
           at-or-below k l h true e z w = g .none-bad z k l (ltb-true k i e)
           at-or-below k l h false e z w =
               let f : i ≤ k = ltb-false k i e in
@@ -179,35 +188,39 @@ module _ (bad : ℕ → ℕ → Bool) (xs : List ℕ) (from : ℕ) where
 pub largest-start : (xs : List ℕ) → Largest xs 0 0
 largest-start xs = record { bound = λ k h. absurd (omega arith); reached = λ e. absurd (e refl) }
 
-pub largest-more : (xs : List ℕ) (i most r : ℕ) → Largest xs i most → most ≤ r → entry xs i ≤ r → r ≡ pick (ltb most (entry xs i)) (entry xs i) most → Largest xs (i + 1) r
-largest-more xs i most r g h₁ h₂ q = record { bound = λ k h. at-or-below k h (ltb k i) refl; reached = λ z. from-last z (ltb most (entry xs i)) refl }
+-- one entry more: the larger of it and the largest before
+pub largest-more : (xs : List ℕ) (i most r : ℕ) → Largest xs i most → most ≤ r → entryAt xs i ≤ r → r ≡ pick (ltb most (entryAt xs i)) (entryAt xs i) most → Largest xs (i + 1) r
+largest-more xs i most r g h₁ h₂ q = record { bound = λ k h. at-or-below k h (ltb k i) refl; reached = λ z. from-last z (ltb most (entryAt xs i)) refl }
   where
-    at-or-below : (k : ℕ) → k < i + 1 → (t : Bool) → ltb k i ≡ t → entry xs k ≤ r
+    at-or-below : (k : ℕ) → k < i + 1 → (t : Bool) → ltb k i ≡ t → entryAt xs k ≤ r
     at-or-below k h true e = let b = g .bound k (ltb-true k i e) in omega (arith, b)
     at-or-below k h false e =
         let f : i ≤ k = ltb-false k i e in
         let s : k ≡ i = omega arith in
         rw s h₂
 
-    from-last : (r ≡ 0 → ⊥) → (t : Bool) → ltb most (entry xs i) ≡ t → (k : ℕ) × (k < i + 1) × (entry xs k ≡ r)
-    from-last z true e = (i, omega arith, sym (q ∙ ap (λ (t : Bool). pick t (entry xs i) most) e))
+    from-last : (r ≡ 0 → ⊥) → (t : Bool) → ltb most (entryAt xs i) ≡ t → (k : ℕ) × (k < i + 1) × (entryAt xs k ≡ r)
+    from-last z true e = (i, omega arith, sym (q ∙ ap (λ (t : Bool). pick t (entryAt xs i) most) e))
     from-last z false e =
-        let same : r ≡ most = q ∙ ap (λ (t : Bool). pick t (entry xs i) most) e in
+        let same : r ≡ most = q ∙ ap (λ (t : Bool). pick t (entryAt xs i) most) e in
         let b = g .reached (λ y. z (same ∙ y)) in
         (b .0, omega (arith, b .1), b .2 ∙ sym same)
 
 -- ---- where no class is marked, no lead is low, and the leads are those from 80 on
 pub low-leads : (cs : List ℕ) (low : ℕ) → Marked badClass cs 0 0x80 low → low ≡ 0 → NoLowLead cs
-low-leads cs low l z byte h = fine-lead byte (entry cs byte) h (l .none-bad z byte (omega arith) h)
+low-leads cs low l z byte h = fine-lead byte (entryAt cs byte) h (l .none-bad z byte (omega arith) h)
 
+-- where no lead is below 80, the leads from 80 on are all leads
 pub leads-high : (cs : List ℕ) (n : ℕ) → length cs ≡ 256 → NoLowLead cs → leadsBelow cs 256 ≡ leadsBelow cs 0x80 + n → n ≡ leads cs
 leads-high cs n h low e = omega (arith, below-all cs h, none-low cs h low)
 
 -- ---- the test is exact
 module _ (p : CodePage) where
+  -- true is the right answer of a good shape
   pub good-if : GoodShape p → true ≡ isGood (firstFault p)
   good-if g = sym (shape-exact p .1 g)
 
+  -- false is the right answer of any other shape
   pub bad-if : (GoodShape p → ⊥) → false ≡ isGood (firstFault p)
   bad-if n = by-good (isGood (firstFault p)) refl
     where
@@ -215,6 +228,7 @@ module _ (p : CodePage) where
       by-good true e = absurd (n (shape-exact p .0 e))
       by-good false e = refl
 
+  -- a good shape has the sizes that the test asks for
   pub sizes-needed : GoodShape p → goodSizes (length (p .classes)) (length (p .singles)) (length (p .index)) (length (p .blocks)) ≡ true
   unfolding goodSizes
   sizes-needed g =
@@ -224,18 +238,20 @@ module _ (p : CodePage) where
       let high : length (p .blocks) / 256 ≤ 256 = omega (arith, size, g .blocks .2) in
       rw (eq-eqb _ _ (g .classes), eq-eqb _ _ (g .singles), eq-eqb _ _ (g .index), eq-eqb _ _ even, le-leb _ _ low, le-leb _ _ high)
 
-  pub class-needed : GoodShape p → (k : ℕ) → k < 256 → badClass k (entry (p .classes) k) ≡ false
+  pub class-needed : GoodShape p → (k : ℕ) → k < 256 → badClass k (entryAt (p .classes) k) ≡ false
   class-needed g k h = by-low (ltb k 0x80) refl
     where
-      by-low : (t : Bool) → ltb k 0x80 ≡ t → badClass k (entry (p .classes) k) ≡ false
-      by-low true e = known-fine k (entry (p .classes) k) (g .class k h) (g .low k (ltb-true k 0x80 e))
-      by-low false e = high-fine k (entry (p .classes) k) (ltb-false k 0x80 e) (g .class k h)
+      by-low : (t : Bool) → ltb k 0x80 ≡ t → badClass k (entryAt (p .classes) k) ≡ false
+      by-low true e = known-fine k (entryAt (p .classes) k) (g .class k h) (g .low k (ltb-true k 0x80 e))
+      by-low false e = high-fine k (entryAt (p .classes) k) (ltb-false k 0x80 e) (g .class k h)
 
+  -- a good shape has no class that is marked
   pub marks-needed : GoodShape p → (from to mark : ℕ) → to ≤ 256 → Marked badClass (p .classes) from to mark → 0 < mark → ⊥
   marks-needed g from to mark h m n =
       let b = m .one-bad n in
       true≢false (sym (b .3) ∙ class-needed g (b .0) (omega (arith, b .2)))
 
+  -- of a good shape the largest index number names a block
   pub number-needed : GoodShape p → (most : ℕ) → Largest (p .index) 256 most → most < length (p .blocks) / 256
   number-needed g most m = by-zero (eqb most 0) refl
     where
@@ -245,6 +261,7 @@ module _ (p : CodePage) where
           let b = m .reached (eqb-false most 0 e) in
           omega (arith, g .number (b .0) (b .1), b .2)
 
+  -- all that the test asks for, found good, is a good shape
   pub good-by-marks : (p .page ≡ 0 → ⊥) → goodSizes (length (p .classes)) (length (p .singles)) (length (p .index)) (length (p .blocks)) ≡ true → (low high most : ℕ) → Marked badClass (p .classes) 0 0x80 low → low ≡ 0 → Marked badClass (p .classes) 0x80 256 high → high ≡ 0 → Largest (p .index) 256 most → most < length (p .blocks) / 256 → length (p .pairs) ≡ 256 * leads (p .classes) → GoodShape p
   unfolding goodSizes badClass
   good-by-marks page sizes low high most l l0 h h0 m lt pairs =
@@ -268,7 +285,7 @@ module _ (p : CodePage) where
         number = λ k b. omega (arith, m .bound k b);
       }
     where
-      known-if : (k : ℕ) (t : Bool) → ltb k 0x80 ≡ t → k < 256 → isKnown (entry (p .classes) k) ≡ true
+      known-if : (k : ℕ) (t : Bool) → ltb k 0x80 ≡ t → k < 256 → isKnown (entryAt (p .classes) k) ≡ true
       known-if k true e b = not-false _ (or-left-false _ _ (l .none-bad l0 k (omega arith) (ltb-true k 0x80 e)))
       known-if k false e b = not-false _ (or-left-false _ _ (h .none-bad h0 k (ltb-false k 0x80 e) b))
 
@@ -278,6 +295,7 @@ unfolding goodSizes
 classes-size classes singles index blocks e =
     eqb-true _ _ (and-left (eqb classes 256) (eqb singles 256) (and-left _ (eqb index 256) (and-left _ (eqb (blocks % 256) 0) (and-left _ (leb 1 (blocks / 256)) (and-left _ (leb (blocks / 256) 256) e)))))
 
+-- index has 256 numbers
 pub index-size : (classes singles index blocks : ℕ) → goodSizes classes singles index blocks ≡ true → index ≡ 256
 unfolding goodSizes
 index-size classes singles index blocks e =

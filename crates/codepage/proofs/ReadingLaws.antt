@@ -8,26 +8,30 @@ use native.Mathlib.Omega.{arith}
 use lib.Dec.{leb}
 use lib.ListN.{length, drop, length-append}
 use borrow.Author.Tests.{le-leb, lt-leb, leb-true, leb-false}
-use Rattle.codepage.specs.CodePage.{pick, entry, isTrail}
+use Rattle.codepage.specs.CodePage.{pick, entryAt, isTrail}
 use Rattle.codepage.specs.declared.Kind.the-variants.{Invalid}
 use Rattle.codepage.specs.declared.Lookup.the-variants.{Found, Lacking}
-use Rattle.codepage.specs.Reading.{byteJoins, bytePair, isHigh, isLow, isSurrogate, unitCode, unitAlone, Reader, Code, unitsOf, sizeOf, alone, together, settled, completed, waitsThen, codesAtEnd, callCodes, waitingUnit, waitingUnits}
+use Rattle.codepage.specs.Reading.{byteJoins, bytePair, isHigh, isLow, isSurrogate, unitCode, unitAlone, Reader, Code, unitsOf, sizeOf, alone, together, settled, completed, waitsThen, codesAtEnd, callCodes, leftPending, asUnits}
 
 -- ---- one unit more: it waits, it is a code alone, or it settles the one that waits: they are one code, or that one is a code
 -- alone and it is read afresh
 module _ (r : Reader) (last : Bool) where
+  -- a unit that waits is no code yet
   pub codes-wait : (a : ℕ) (l : List ℕ) → r .waits a ≡ true → callCodes r last none (a ∷ l) ≡ callCodes r last (some a) l
   unfolding callCodes completed waitsThen
   codes-wait a l e = rw e
 
+  -- a unit that does not wait is a code alone
   pub codes-one : (a : ℕ) (l : List ℕ) → r .waits a ≡ false → callCodes r last none (a ∷ l) ≡ alone r a ∷ callCodes r last none l
   unfolding callCodes completed waitsThen
   codes-one a l e = rw e
 
+  -- a waiting unit and the one after it that are one code
   pub codes-two : (c b : ℕ) (l : List ℕ) → r .joins c b ≡ true → callCodes r last (some c) (b ∷ l) ≡ together r c b ∷ callCodes r last none l
   unfolding callCodes settled completed waitsThen
   codes-two c b l e = rw e
 
+  -- a waiting unit that is a code alone; the next is read afresh
   pub codes-alone : (c b : ℕ) (l : List ℕ) → r .joins c b ≡ false → callCodes r last (some c) (b ∷ l) ≡ alone r c ∷ callCodes r last none (b ∷ l)
   unfolding callCodes settled completed waitsThen
   codes-alone c b l e = rw e
@@ -42,27 +46,28 @@ module _ (r : Reader) (last : Bool) where
       by-next true e = codes-two c b l e
       by-next false e = codes-alone c b l e
 
-  pub waiting-wait : (a : ℕ) (l : List ℕ) → r .waits a ≡ true → waitingUnit r last none (a ∷ l) ≡ waitingUnit r last (some a) l
-  unfolding waitingUnit waitsThen
+  pub waiting-wait : (a : ℕ) (l : List ℕ) → r .waits a ≡ true → leftPending r last none (a ∷ l) ≡ leftPending r last (some a) l
+  unfolding leftPending waitsThen
   waiting-wait a l e = rw e
 
-  pub waiting-one : (a : ℕ) (l : List ℕ) → r .waits a ≡ false → waitingUnit r last none (a ∷ l) ≡ waitingUnit r last none l
-  unfolding waitingUnit waitsThen
+  pub waiting-one : (a : ℕ) (l : List ℕ) → r .waits a ≡ false → leftPending r last none (a ∷ l) ≡ leftPending r last none l
+  unfolding leftPending waitsThen
   waiting-one a l e = rw e
 
-  pub waiting-two : (c b : ℕ) (l : List ℕ) → r .joins c b ≡ true → waitingUnit r last (some c) (b ∷ l) ≡ waitingUnit r last none l
-  unfolding waitingUnit waitsThen
+  pub waiting-two : (c b : ℕ) (l : List ℕ) → r .joins c b ≡ true → leftPending r last (some c) (b ∷ l) ≡ leftPending r last none l
+  unfolding leftPending waitsThen
   waiting-two c b l e = rw e
 
-  pub waiting-alone : (c b : ℕ) (l : List ℕ) → r .joins c b ≡ false → waitingUnit r last (some c) (b ∷ l) ≡ waitingUnit r last none (b ∷ l)
-  unfolding waitingUnit waitsThen
+  pub waiting-alone : (c b : ℕ) (l : List ℕ) → r .joins c b ≡ false → leftPending r last (some c) (b ∷ l) ≡ leftPending r last none (b ∷ l)
+  unfolding leftPending waitsThen
   waiting-alone c b l e = rw e
 
-  pub waiting-settled : (c b : ℕ) (l : List ℕ) → waitingUnit r last (some c) (b ∷ l) ≡ waitingUnit r last none (drop (sizeOf (settled r c b)) (c ∷ b ∷ l))
+  -- what is pending at the end is what is pending behind the code that the next unit settles
+  pub waiting-settled : (c b : ℕ) (l : List ℕ) → leftPending r last (some c) (b ∷ l) ≡ leftPending r last none (drop (sizeOf (settled r c b)) (c ∷ b ∷ l))
   unfolding settled
   waiting-settled c b l = by-next (r .joins c b) refl
     where
-      by-next : (t : Bool) → r .joins c b ≡ t → waitingUnit r last (some c) (b ∷ l) ≡ waitingUnit r last none (drop (sizeOf (pick t (together r c b) (alone r c))) (c ∷ b ∷ l))
+      by-next : (t : Bool) → r .joins c b ≡ t → leftPending r last (some c) (b ∷ l) ≡ leftPending r last none (drop (sizeOf (pick t (together r c b) (alone r c))) (c ∷ b ∷ l))
       by-next true e = waiting-two c b l e
       by-next false e = waiting-alone c b l e
 
@@ -84,6 +89,7 @@ module _ (r : Reader) (P : Option ℕ → List ℕ → Type 0) (s : EachUnit r P
   by-next c b l true e h = s .two c b l e (h none)
   by-next c b l false e h = s .alone c b l e (by-fresh b l (r .waits b) refl h)
 
+  -- what holds with each unit more holds of every text (docs/ARCHITECTURE.md, "How a proof goes")
   pub by-units : (p : Option ℕ) (l : List ℕ) → P p l
   by-units none [] = s .end-none
   by-units (some c) [] = s .end-some c
@@ -95,17 +101,17 @@ abbrev pub joined : List Code → List ℕ
 joined [] = []
 joined (k ∷ ks) = unitsOf k ++ joined ks
 
-covers-end : (r : Reader) (last : Bool) (p : Option ℕ) → joined (callCodes r last p []) ++ waitingUnits (waitingUnit r last p []) ≡ waitingUnits p ++ []
-unfolding callCodes codesAtEnd waitingUnit
+covers-end : (r : Reader) (last : Bool) (p : Option ℕ) → joined (callCodes r last p []) ++ asUnits (leftPending r last p []) ≡ asUnits p ++ []
+unfolding callCodes codesAtEnd leftPending
 covers-end r true none = refl
 covers-end r false none = refl
 covers-end r true (some c) = refl
 covers-end r false (some c) = refl
 
 -- THE CODES, and the unit that waits behind them, are the units.
-pub covers : (r : Reader) (last : Bool) (p : Option ℕ) (l : List ℕ) → joined (callCodes r last p l) ++ waitingUnits (waitingUnit r last p l) ≡ waitingUnits p ++ l
+pub covers : (r : Reader) (last : Bool) (p : Option ℕ) (l : List ℕ) → joined (callCodes r last p l) ++ asUnits (leftPending r last p l) ≡ asUnits p ++ l
 covers r last =
-    by-units r (λ (p : Option ℕ) (l : List ℕ). joined (callCodes r last p l) ++ waitingUnits (waitingUnit r last p l) ≡ waitingUnits p ++ l)
+    by-units r (λ (p : Option ℕ) (l : List ℕ). joined (callCodes r last p l) ++ asUnits (leftPending r last p l) ≡ asUnits p ++ l)
     (record {
       end-none = covers-end r last none;
       end-some = λ c. covers-end r last (some c);
@@ -115,6 +121,7 @@ covers r last =
       alone = λ c b l e h. rw (codes-alone r last c b l e, waiting-alone r last c b l e) (ap (λ (xs : List ℕ). c ∷ xs) h);
     })
 
+-- how many units some codes have
 abbrev pub sizesOf : List Code → ℕ
 sizesOf [] = 0
 sizesOf (k ∷ ks) = sizeOf k + sizesOf ks
@@ -123,15 +130,16 @@ pub length-joined : (ks : List Code) → length (joined ks) ≡ sizesOf ks
 length-joined [] = refl
 length-joined (k ∷ ks) = length-append (unitsOf k) (joined ks) ∙ ap (λ (n : ℕ). sizeOf k + n) (length-joined ks)
 
-pub sizes-cover : (r : Reader) (last : Bool) (p : Option ℕ) (l : List ℕ) → sizesOf (callCodes r last p l) + length (waitingUnits (waitingUnit r last p l)) ≡ length (waitingUnits p) + length l
+-- the codes, and the unit that waits behind them, have as many units as there were
+pub sizes-cover : (r : Reader) (last : Bool) (p : Option ℕ) (l : List ℕ) → sizesOf (callCodes r last p l) + length (asUnits (leftPending r last p l)) ≡ length (asUnits p) + length l
 sizes-cover r last p l =
-    ap (λ (n : ℕ). n + length (waitingUnits (waitingUnit r last p l))) (sym (length-joined (callCodes r last p l)))
-    ∙ sym (length-append (joined (callCodes r last p l)) (waitingUnits (waitingUnit r last p l)))
-    ∙ ap length (covers r last p l) ∙ length-append (waitingUnits p) l
+    ap (λ (n : ℕ). n + length (asUnits (leftPending r last p l))) (sym (length-joined (callCodes r last p l)))
+    ∙ sym (length-append (joined (callCodes r last p l)) (asUnits (leftPending r last p l)))
+    ∙ ap length (covers r last p l) ∙ length-append (asUnits p) l
 
 -- at the end of the whole text no unit waits
-pub none-waits : (r : Reader) (p : Option ℕ) (l : List ℕ) → waitingUnit r true p l ≡ none
-unfolding waitingUnit
+pub none-waits : (r : Reader) (p : Option ℕ) (l : List ℕ) → leftPending r true p l ≡ none
+unfolding leftPending
 none-waits r p [] = refl
 none-waits r p (a ∷ l) = none-waits r (waitsThen r p a) l
 
@@ -144,6 +152,7 @@ settled-first r c b = by-next (r .joins c b)
     by-next true = refl
     by-next false = refl
 
+-- the code of a waiting unit has at most one unit after the first
 pub more-le : (r : Reader) (c b : ℕ) → length (settled r c b .more) ≤ 1
 unfolding settled
 more-le r c b = by-next (r .joins c b)
@@ -155,9 +164,9 @@ more-le r c b = by-next (r .joins c b)
 -- a pair that has a character is one code
 pub pair-joins : (classes pairs : List ℕ) (lead byte unit : ℕ) → bytePair classes pairs lead byte ≡ Found unit → byteJoins classes byte ≡ true
 unfolding bytePair byteJoins
-pair-joins classes pairs lead byte unit e = by-trail (isTrail (entry classes byte)) refl
+pair-joins classes pairs lead byte unit e = by-trail (isTrail (entryAt classes byte)) refl
   where
-    by-trail : (t : Bool) → isTrail (entry classes byte) ≡ t → (isTrail (entry classes byte) || leb 0x80 byte) ≡ true
+    by-trail : (t : Bool) → isTrail (entryAt classes byte) ≡ t → (isTrail (entryAt classes byte) || leb 0x80 byte) ≡ true
     by-trail true q = rw q
     by-trail false q =
         let lacks : Lacking Invalid ≡ Found unit = rw q at e in
@@ -168,6 +177,7 @@ pub below-surrogates : (unit : ℕ) → unit < 0xD800 → isSurrogate unit ≡ f
 unfolding isSurrogate isHigh isLow
 below-surrogates unit h = rw (lt-leb 0xD800 unit h, lt-leb 0xDC00 unit (omega arith))
 
+-- a unit of D800 or more is a surrogate exactly if it is at most DFFF
 pub from-surrogates : (unit : ℕ) → 0xD800 ≤ unit → isSurrogate unit ≡ leb unit 0xDFFF
 unfolding isSurrogate isHigh isLow
 from-surrogates unit h = by-high (leb unit 0xDBFF) refl
@@ -189,6 +199,7 @@ pub high-alone : (index blocks : List ℕ) (unit : ℕ) → isHigh unit ≡ true
 unfolding unitAlone isSurrogate
 high-alone index blocks unit e = rw e
 
+-- a unit that is no surrogate means what its entry says
 pub alone-looked-up : (index blocks : List ℕ) (unit : ℕ) → isSurrogate unit ≡ false → unitAlone index blocks unit ≡ unitCode index blocks unit
 unfolding unitAlone
 alone-looked-up index blocks unit e = rw e
@@ -202,5 +213,6 @@ found-no-surrogate index blocks unit code e = by-unit (isSurrogate unit) e
     by-unit true q = absurd (let z : _≡_ {A = ℕ} 0 1 = cc in omega arith)
     by-unit false q = refl
 
+-- a unit that has a code does not wait
 pub found-no-wait : (index blocks : List ℕ) (unit code : ℕ) → unitAlone index blocks unit ≡ Found code → isHigh unit ≡ false
 found-no-wait index blocks unit code e = no-surrogate-waits unit (found-no-surrogate index blocks unit code e)

@@ -9,7 +9,7 @@ use native.Mathlib.Omega.{arith}
 use lib.Dec.{leb, ltb, eqb}
 use lib.ListN.{length, getD}
 use borrow.Author.Tests.{eqb-true, eqb-false, leb-true, leb-false, ltb-true, ltb-false, eq-eqb, ne-eqb, le-leb, lt-leb, lt-ltb, le-ltb, not-true, not-false}
-use Rattle.codepage.specs.CodePage.{CodePage, pick, entry, isKnown, isLead, leads, GoodShape, firstBad, badClass, badNumber, classFault, sizesFault, entriesFault, firstFault, isGood, GoodClass, GoodNumber, GoodBlocks, PageGood, ClassesGood, SinglesGood, PairsGood, IndexGood, SizesGood, Names}
+use Rattle.codepage.specs.CodePage.{CodePage, pick, entryAt, isKnown, isLead, leads, GoodShape, firstBad, badClass, badNumber, classFault, sizesFault, entriesFault, firstFault, isGood, GoodClass, GoodNumber, GoodBlocks, PageGood, ClassesGood, SinglesGood, PairsGood, IndexGood, SizesGood, Names}
 use Rattle.codepage.specs.declared.Fault.{Fault}
 use Rattle.codepage.specs.declared.Fault.the-variants.{Good, Page, ClassesSize, SinglesSize, PairsSize, IndexSize, BlocksSize, Class, Lead, Number}
 use Rattle.codepage.proofs.ShapeLaws.{bad-here, bad-later, and-left, and-right, or-left-false, or-right-false, none-at-all, all-are-good, no-fault}
@@ -18,8 +18,8 @@ use Rattle.codepage.proofs.ShapeLaws.{bad-here, bad-later, and-left, an
 -- bad there, and at no place below it
 pub record FirstAt (bad : ℕ → ℕ → Bool) (from : ℕ) (xs : List ℕ) (k : ℕ) : Type 0 where
   pub inside : k < length xs
-  pub is-bad : bad (from + k) (entry xs k) ≡ true
-  pub none-below : (j : ℕ) → j < k → bad (from + j) (entry xs j) ≡ false
+  pub is-bad : bad (from + k) (entryAt xs k) ≡ true
+  pub none-below : (j : ℕ) → j < k → bad (from + j) (entryAt xs j) ≡ false
 
 module _ (bad : ℕ → ℕ → Bool) where
   first-found : (from : ℕ) (xs : List ℕ) (k : ℕ) → FirstAt bad from xs k → firstBad bad from xs ≡ from + k
@@ -53,19 +53,19 @@ module _ (bad : ℕ → ℕ → Bool) where
           )
       by-test false q rest = let (k, m, f) = rest q in (suc k, omega arith, record { inside = omega (arith, f .inside); is-bad = let s : from + suc k ≡ suc from + k = omega arith in rw s (f .is-bad); none-below = below f })
         where
-          below : {k : ℕ} → FirstAt bad (suc from) xs k → (j : ℕ) → j < suc k → bad (from + j) (entry (x ∷ xs) j) ≡ false
+          below : {k : ℕ} → FirstAt bad (suc from) xs k → (j : ℕ) → j < suc k → bad (from + j) (entryAt (x ∷ xs) j) ≡ false
           below f zero l = let z : from + 0 ≡ from = omega arith in rw z q
           below f (suc j) l = let s : from + suc j ≡ suc from + j = omega arith in rw s (f .none-below j (omega arith))
 
   -- counted from 0
-  at-zero : (xs : List ℕ) (k : ℕ) → k < length xs → bad k (entry xs k) ≡ true → ((j : ℕ) → j < k → bad j (entry xs j) ≡ false) → firstBad bad 0 xs ≡ k
+  at-zero : (xs : List ℕ) (k : ℕ) → k < length xs → bad k (entryAt xs k) ≡ true → ((j : ℕ) → j < k → bad j (entryAt xs j) ≡ false) → firstBad bad 0 xs ≡ k
   at-zero xs k h b g =
       first-found 0 xs k (record { inside = h; is-bad = rw (zero-add k) b; none-below = λ j l. rw (zero-add j) (g j l) }) ∙ zero-add k
 
   pub record Found (xs : List ℕ) (k : ℕ) : Type 0 where
     pub inside : k < length xs
-    pub is-bad : bad k (entry xs k) ≡ true
-    pub none-below : (j : ℕ) → j < k → bad j (entry xs j) ≡ false
+    pub is-bad : bad k (entryAt xs k) ≡ true
+    pub none-below : (j : ℕ) → j < k → bad j (entryAt xs j) ≡ false
 
   zero-found : (xs : List ℕ) → firstBad bad 0 xs < length xs → Found xs (firstBad bad 0 xs)
   zero-found xs h =
@@ -94,14 +94,14 @@ module _ (p : CodePage) where
   count = length (p .blocks) / 256
 
   abbrev badAt : ℕ → Bool
-  badAt k = badClass k (entry (p .classes) k)
+  badAt k = badClass k (entryAt (p .classes) k)
 
   class-good : (k : ℕ) → badAt k ≡ false → GoodClass p k
   unfolding badClass
   class-good k e =
       record {
         known = not-false _ (or-left-false _ _ e);
-        not-low-lead = λ h. sym (rw (lt-ltb k 0x80 h)) ∙ or-right-false (not (isKnown (entry (p .classes) k))) _ e;
+        not-low-lead = λ h. sym (rw (lt-ltb k 0x80 h)) ∙ or-right-false (not (isKnown (entryAt (p .classes) k))) _ e;
       }
 
   good-class : (k : ℕ) → GoodClass p k → badAt k ≡ false
@@ -112,37 +112,37 @@ module _ (p : CodePage) where
       by-place true e = rw (g .known, e, g .not-low-lead (ltb-true _ _ e))
       by-place false e = rw (g .known, e)
 
-  unknown-bad : (k : ℕ) → isKnown (entry (p .classes) k) ≡ false → badAt k ≡ true
+  unknown-bad : (k : ℕ) → isKnown (entryAt (p .classes) k) ≡ false → badAt k ≡ true
   unfolding badClass
   unknown-bad k e = rw e
 
-  low-lead-bad : (k : ℕ) → k < 0x80 → isLead (entry (p .classes) k) ≡ true → badAt k ≡ true
+  low-lead-bad : (k : ℕ) → k < 0x80 → isLead (entryAt (p .classes) k) ≡ true → badAt k ≡ true
   unfolding badClass
-  low-lead-bad k h e = rw (lt-ltb k 0x80 h, e) (or-true (not (isKnown (entry (p .classes) k))))
+  low-lead-bad k h e = rw (lt-ltb k 0x80 h, e) (or-true (not (isKnown (entryAt (p .classes) k))))
     where
       or-true : (b : Bool) → (b || true) ≡ true
       or-true true = refl
       or-true false = refl
 
-  number-good : (k : ℕ) → badNumber count k (entry (p .index) k) ≡ false → GoodNumber p k
+  number-good : (k : ℕ) → badNumber count k (entryAt (p .index) k) ≡ false → GoodNumber p k
   unfolding badNumber
-  number-good k e = omega (arith, leb-false count (entry (p .index) k) e)
+  number-good k e = omega (arith, leb-false count (entryAt (p .index) k) e)
 
-  good-number : (k : ℕ) → GoodNumber p k → badNumber count k (entry (p .index) k) ≡ false
+  good-number : (k : ℕ) → GoodNumber p k → badNumber count k (entryAt (p .index) k) ≡ false
   unfolding badNumber
-  good-number k h = lt-leb count (entry (p .index) k) (omega arith)
+  good-number k h = lt-leb count (entryAt (p .index) k) (omega arith)
 
-  bad-number : (k : ℕ) → (GoodNumber p k → ⊥) → GoodBlocks p → badNumber count k (entry (p .index) k) ≡ true
+  bad-number : (k : ℕ) → (GoodNumber p k → ⊥) → GoodBlocks p → badNumber count k (entryAt (p .index) k) ≡ true
   unfolding badNumber
-  bad-number k h b = by-test (leb count (entry (p .index) k)) refl
+  bad-number k h b = by-test (leb count (entryAt (p .index) k)) refl
     where
-      by-test : (t : Bool) → leb count (entry (p .index) k) ≡ t → leb count (entry (p .index) k) ≡ true
+      by-test : (t : Bool) → leb count (entryAt (p .index) k) ≡ t → leb count (entryAt (p .index) k) ≡ true
       by-test true e = e
-      by-test false e = absurd (h (omega (arith, leb-false count (entry (p .index) k) e)))
+      by-test false e = absurd (h (omega (arith, leb-false count (entryAt (p .index) k) e)))
 
-  number-not : (k : ℕ) → badNumber count k (entry (p .index) k) ≡ true → GoodNumber p k → ⊥
+  number-not : (k : ℕ) → badNumber count k (entryAt (p .index) k) ≡ true → GoodNumber p k → ⊥
   unfolding badNumber
-  number-not k e h = omega (arith, leb-true count (entry (p .index) k) e)
+  number-not k e h = omega (arith, leb-true count (entryAt (p .index) k) e)
 
   -- ---- what the report says holds
   pick-names : (t : Bool) (f g : Fault) → (t ≡ true → Names p f) → (t ≡ false → Names p g) → Names p (pick t f g)
@@ -189,8 +189,8 @@ module _ (p : CodePage) where
   says-class s k f =
       let below : (j : ℕ) → j < k → GoodClass p j = λ j l. class-good j (f .none-below j l) in
       let inside : k < 256 = omega (arith, f .inside, s .0 .0 .0 .0 .1) in
-      pick-names (isKnown (entry (p .classes) k)) (Lead k) (Class k)
-      (λ e. let low = known-not k (entry (p .classes) k) (f .is-bad) e in (s, low .0, low .1, below)) (λ e. (s, inside, e, below))
+      pick-names (isKnown (entryAt (p .classes) k)) (Lead k) (Class k)
+      (λ e. let low = known-not k (entryAt (p .classes) k) (f .is-bad) e in (s, low .0, low .1, below)) (λ e. (s, inside, e, below))
 
   abbrev firstClass : ℕ
   firstClass = firstBad badClass 0 (p .classes)
@@ -284,7 +284,7 @@ module _ (p : CodePage) where
   named IndexSize h = rw (ne-eqb _ _ (h .0 .0 .0 .0), eq-eqb _ _ (h .0 .0 .0 .1), eq-eqb _ _ (h .0 .0 .1), eq-eqb _ _ (h .0 .1), ne-eqb _ _ (h .1))
   named BlocksSize h = blocks-size (h .0) (h .1)
   named (Class byte) h = class-is (h .0) byte (h .1) (unknown-bad byte (h .2)) (h .3) ∙ unfold classFault in rw (h .2)
-  named (Lead byte) h = class-is (h .0) byte (omega (arith, h .1)) (low-lead-bad byte (h .1) (h .2)) (h .3) ∙ unfold classFault in rw (lead-known (entry (p .classes) byte) (h .2))
+  named (Lead byte) h = class-is (h .0) byte (omega (arith, h .1)) (low-lead-bad byte (h .1) (h .2)) (h .3) ∙ unfold classFault in rw (lead-known (entryAt (p .classes) byte) (h .2))
   named (Number place) h = number-is (h .0) place (h .2) (h .1) (h .3) (h .4)
 
 -- THE REPORT NAMES THE FIRST BAD PLACE: each case exactly if what it says holds.

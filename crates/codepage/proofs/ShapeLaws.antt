@@ -11,16 +11,18 @@ use lib.Dec.{leb, ltb, eqb}
 use lib.ListN.{length, getD, take, drop, length-take, drop-of-length-le}
 use lib.Seq.{drop-cons, take-all}
 use borrow.Author.Tests.{eqb-true, eqb-false, leb-true, leb-false, ltb-true, ltb-false, eq-eqb, ne-eqb, le-leb, lt-leb, lt-ltb, le-ltb, not-true, not-false}
-use Rattle.codepage.specs.CodePage.{CodePage, pick, entry, isKnown, isLead, leads, leadsBelow, GoodShape, firstBad, badClass, badNumber, classFault, sizesFault, entriesFault, firstFault, isGood}
+use Rattle.codepage.specs.CodePage.{CodePage, pick, entryAt, isKnown, isLead, leads, leadsBelow, GoodShape, firstBad, badClass, badNumber, classFault, sizesFault, entriesFault, firstFault, isGood}
 use Rattle.codepage.specs.declared.Fault.{Fault}
 use Rattle.codepage.specs.declared.Fault.the-variants.{Good, Page, ClassesSize, SinglesSize, PairsSize, IndexSize, BlocksSize, Class, Lead, Number}
 
 -- ---- the first bad place
 module _ (bad : ℕ → ℕ → Bool) where
+  -- the entry at the place that is looked at is bad: that is the place
   pub bad-here : (i x : ℕ) (xs : List ℕ) → bad i x ≡ true → firstBad bad i (x ∷ xs) ≡ i
   unfolding firstBad
   bad-here i x xs e = rw (e, firstBad)
 
+  -- the entry is good: the search goes on behind it
   pub bad-later : (i x : ℕ) (xs : List ℕ) → bad i x ≡ false → firstBad bad i (x ∷ xs) ≡ firstBad bad (suc i) xs
   unfolding firstBad
   bad-later i x xs e = rw (e, firstBad)
@@ -29,9 +31,11 @@ module _ (bad : ℕ → ℕ → Bool) where
   pub bad-turn : (i : ℕ) (xs : List ℕ) (n : ℕ) → n ≡ firstBad bad i (drop i xs) → i < length xs → bad i (getD xs i 0) ≡ false → n ≡ firstBad bad (i + 1) (drop (i + 1) xs)
   bad-turn i xs n e h b = e ∙ ap (firstBad bad i) (drop-cons xs i 0 h) ∙ bad-later i (getD xs i 0) (drop (suc i) xs) b ∙ rw (add-one i)
 
+  -- the search ends at a bad entry
   pub bad-found : (i : ℕ) (xs : List ℕ) (n : ℕ) → n ≡ firstBad bad i (drop i xs) → i < length xs → bad i (getD xs i 0) ≡ true → n ≡ i
   bad-found i xs n e h b = e ∙ ap (firstBad bad i) (drop-cons xs i 0 h) ∙ bad-here i (getD xs i 0) (drop (suc i) xs) b
 
+  -- or behind the last entry
   pub bad-none : (i : ℕ) (xs : List ℕ) (n : ℕ) → n ≡ firstBad bad i (drop i xs) → length xs ≤ i → n ≡ i
   unfolding firstBad
   bad-none i xs n e h = e ∙ ap (firstBad bad i) (drop-of-length-le xs h)
@@ -64,6 +68,7 @@ module _ (bad : ℕ → ℕ → Bool) where
   pub none-at-all : (xs : List ℕ) → length xs ≤ firstBad bad 0 xs → (k : ℕ) → k < length xs → bad k (getD xs k 0) ≡ false
   none-at-all xs h k q = rw (zero-add k) at (none-bad 0 xs (omega arith) k q)
 
+  -- where no entry is bad, the search ends behind the last one
   pub all-are-good : (xs : List ℕ) → ((k : ℕ) → k < length xs → bad k (getD xs k 0) ≡ false) → firstBad bad 0 xs ≡ length xs
   all-are-good xs h = all-good 0 xs (λ k q. rw (zero-add k) (h k q)) ∙ omega arith
 
@@ -72,14 +77,17 @@ pub and-left : (a b : Bool) → (a && b) ≡ true → a ≡ true
 and-left true b e = refl
 and-left false b e = absurd (false≢true e)
 
+-- where both hold, the second does
 pub and-right : (a b : Bool) → (a && b) ≡ true → b ≡ true
 and-right true b e = e
 and-right false b e = absurd (false≢true e)
 
+-- where neither holds, the first does not
 pub or-left-false : (a b : Bool) → (a || b) ≡ false → a ≡ false
 or-left-false true b e = absurd (true≢false e)
 or-left-false false b e = refl
 
+-- where neither holds, the second does not
 pub or-right-false : (a b : Bool) → (a || b) ≡ false → b ≡ false
 or-right-false true b e = absurd (true≢false e)
 or-right-false false b e = e
@@ -99,11 +107,13 @@ leads-more (c ∷ cs) zero h = refl
 leads-more (c ∷ cs) (suc i) h =
     ap (λ (n : ℕ). pick (isLead c) (suc n) n) (leads-more cs i (le-of-suc-le-suc h)) ∙ one-more (isLead c) (isLead (getD cs i 0)) (leads (take i cs))
 
+-- a byte more that is a lead counts one more
 pub count-lead : (cs : List ℕ) (i n : ℕ) → n ≡ leads (take i cs) → isLead (getD cs i 0) ≡ true → i < length cs → n + 1 ≡ leads (take (i + 1) cs)
 count-lead cs i n e q h =
     let m : leads (take (suc i) cs) ≡ suc (leads (take i cs)) = leads-more cs i h ∙ rw q in
     rw (add-one, add-one, m, e)
 
+-- a byte more that is no lead counts nothing
 pub count-other : (cs : List ℕ) (i n : ℕ) → n ≡ leads (take i cs) → isLead (getD cs i 0) ≡ false → i < length cs → n ≡ leads (take (i + 1) cs)
 count-other cs i n e q h =
     let m : leads (take (suc i) cs) ≡ leads (take i cs) = leads-more cs i h ∙ rw q in
@@ -135,10 +145,12 @@ block-there cs byte h e =
     let q : leads (take (suc byte) cs) ≡ suc (leads (take byte cs)) = leads-more cs byte h ∙ rw e in
     omega (arith, leads-take-le cs (suc byte))
 
+-- the leads below 256 are all the leads of a table of 256 classes
 pub below-all : (cs : List ℕ) → length cs ≡ 256 → leadsBelow cs 256 ≡ leads cs
 unfolding leadsBelow
 below-all cs h = ap leads (take-all 256 cs (omega arith))
 
+-- no more leads are below a byte than there are bytes below it
 pub below-le : (cs : List ℕ) (byte : ℕ) → leadsBelow cs byte ≤ byte
 unfolding leadsBelow
 below-le cs byte = omega (arith, leads-le (take byte cs), simp length-take at (leads-le (take byte cs)))
@@ -148,7 +160,7 @@ good-step : (b : Bool) (f g : Fault) → isGood f ≡ false → isGood (pick b f
 good-step true f g n e = absurd (false≢true (sym n ∙ e))
 good-step false f g n e = (refl, e)
 
-class-fault : (cs : List ℕ) (byte : ℕ) (t : Bool) → isKnown (entry cs byte) ≡ t → isGood (classFault cs byte) ≡ false
+class-fault : (cs : List ℕ) (byte : ℕ) (t : Bool) → isKnown (entryAt cs byte) ≡ t → isGood (classFault cs byte) ≡ false
 unfolding classFault
 class-fault cs byte true e = rw e
 class-fault cs byte false e = rw e
@@ -193,6 +205,7 @@ pub report-bad : (p : CodePage) (fault : Fault) → fault ≡ sizesFault p Good 
 unfolding firstFault
 report-bad p fault e q = let none : isGood (sizesFault p Good) ≡ false = ap isGood (sym e) ∙ q in rw (sizes-then, none) e
 
+-- where page and sizes are good, the report is what the entries say
 pub report-good : (p : CodePage) (fault : Fault) → isGood (sizesFault p Good) ≡ true → fault ≡ entriesFault (p .classes) (p .index) (length (p .blocks) / 256) → fault ≡ firstFault p
 unfolding firstFault
 report-good p fault q e = rw (sizes-then, q) e
@@ -218,9 +231,9 @@ module _ (p : CodePage) where
       let high : length (p .blocks) / 256 ≤ 256 = leb-true (length (p .blocks) / 256) 256 (and-right (leb 1 (length (p .blocks) / 256)) _ count) in
       let no-class : 256 ≤ firstBad badClass 0 (p .classes) = ltb-false _ _ (s₈ .0) in
       let no-number : 256 ≤ firstBad (badNumber (length (p .blocks) / 256)) 0 (p .index) = ltb-false _ _ (s₉ .0) in
-      let class : (k : ℕ) → k < 256 → badClass k (entry (p .classes) k) ≡ false =
+      let class : (k : ℕ) → k < 256 → badClass k (entryAt (p .classes) k) ≡ false =
       λ k h. none-at-all badClass (p .classes) (omega arith) k (omega arith) in
-      let number : (k : ℕ) → k < 256 → leb (length (p .blocks) / 256) (entry (p .index) k) ≡ false =
+      let number : (k : ℕ) → k < 256 → leb (length (p .blocks) / 256) (entryAt (p .index) k) ≡ false =
       λ k h. none-at-all (badNumber (length (p .blocks) / 256)) (p .index) (omega arith) k (omega arith) in
       record {
         page = eqb-false _ _ (s₁ .0);
@@ -230,27 +243,28 @@ module _ (p : CodePage) where
         index = index;
         blocks = (length (p .blocks) / 256, low, high, omega arith);
         class = λ k h. not-false _ (or-left-false _ _ (class k h));
-        low = λ k h. sym (rw (lt-ltb k 0x80 h)) ∙ or-right-false (not (isKnown (entry (p .classes) k))) _ (class k (omega arith));
-        number = λ k h. omega (arith, leb-false (length (p .blocks) / 256) (entry (p .index) k) (number k h));
+        low = λ k h. sym (rw (lt-ltb k 0x80 h)) ∙ or-right-false (not (isKnown (entryAt (p .classes) k))) _ (class k (omega arith));
+        number = λ k h. omega (arith, leb-false (length (p .blocks) / 256) (entryAt (p .index) k) (number k h));
       }
 
-  number-good : (k : ℕ) → 256 * entry (p .index) k + 256 ≤ length (p .blocks) → badNumber (length (p .blocks) / 256) k (entry (p .index) k) ≡ false
+  number-good : (k : ℕ) → 256 * entryAt (p .index) k + 256 ≤ length (p .blocks) → badNumber (length (p .blocks) / 256) k (entryAt (p .index) k) ≡ false
   unfolding badNumber
-  number-good k h = lt-leb (length (p .blocks) / 256) (entry (p .index) k) (omega arith)
+  number-good k h = lt-leb (length (p .blocks) / 256) (entryAt (p .index) k) (omega arith)
 
-  class-good : (k : ℕ) (t : Bool) → ltb k 0x80 ≡ t → GoodShape p → isKnown (entry (p .classes) k) ≡ true → badClass k (entry (p .classes) k) ≡ false
+  class-good : (k : ℕ) (t : Bool) → ltb k 0x80 ≡ t → GoodShape p → isKnown (entryAt (p .classes) k) ≡ true → badClass k (entryAt (p .classes) k) ≡ false
   unfolding badClass
   class-good k true e g h = rw (h, e, g .low k (ltb-true _ _ e))
   class-good k false e g h = rw (h, e)
 
+  -- of a good shape the report says good
   pub no-fault : GoodShape p → firstFault p ≡ Good
   unfolding firstFault sizesFault entriesFault
   no-fault g =
       let count = g .blocks .0 in
       let size : length (p .blocks) ≡ 256 * count = g .blocks .3 in
-      let number : (k : ℕ) → k < length (p .index) → badNumber (length (p .blocks) / 256) k (entry (p .index) k) ≡ false =
+      let number : (k : ℕ) → k < length (p .index) → badNumber (length (p .blocks) / 256) k (entryAt (p .index) k) ≡ false =
       λ k h. number-good k (g .number k (omega (arith, g .index))) in
-      let class : (k : ℕ) → k < length (p .classes) → badClass k (entry (p .classes) k) ≡ false =
+      let class : (k : ℕ) → k < length (p .classes) → badClass k (entryAt (p .classes) k) ≡ false =
       λ k h. class-good k (ltb k 0x80) refl g (g .class k (omega (arith, g .classes))) in
       let no-class : 256 ≤ firstBad badClass 0 (p .classes) = omega (arith, all-are-good badClass (p .classes) class, g .classes) in
       let no-number : 256 ≤ firstBad (badNumber (length (p .blocks) / 256)) 0 (p .index) = omega (arith, all-are-good (badNumber (length (p .blocks) / 256)) (p .index) number, g .index) in
@@ -278,9 +292,9 @@ module _ (p : CodePage) where
 pub record Inside (p : CodePage) : Type 0 where
   pub class : (byte : ℕ) → byte < 256 → byte < length (p .classes)
   pub single : (byte : ℕ) → byte < 256 → byte < length (p .singles)
-  pub pair : (lead byte : ℕ) → lead < 256 → isLead (entry (p .classes) lead) ≡ true → byte < 256 → 256 * leadsBelow (p .classes) lead + byte < length (p .pairs)
+  pub pair : (lead byte : ℕ) → lead < 256 → isLead (entryAt (p .classes) lead) ≡ true → byte < 256 → 256 * leadsBelow (p .classes) lead + byte < length (p .pairs)
   pub high : (unit : ℕ) → unit < 65536 → unit / 256 < length (p .index)
-  pub code : (unit : ℕ) → unit < 65536 → 256 * entry (p .index) (unit / 256) + unit % 256 < length (p .blocks)
+  pub code : (unit : ℕ) → unit < 65536 → 256 * entryAt (p .index) (unit / 256) + unit % 256 < length (p .blocks)
 
 pub inside : (p : CodePage) → GoodShape p → Inside p
 inside p g =

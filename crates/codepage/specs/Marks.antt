@@ -5,7 +5,7 @@ use mathlib.Core.Logic.{_⊎_}
 use mathlib.Core.Path.{_≡_}
 use Prim.Native.Nat.{ℕ, _<_, _≤_, _/_, _%_}
 use lib.Dec.{leb, eqb}
-use Rattle.codepage.specs.CodePage.{entry, isLead}
+use Rattle.codepage.specs.CodePage.{entryAt, isLead}
 
 -- 1 for a place that has something, else 0
 abbrev pub markOf : Bool → ℕ
@@ -14,13 +14,13 @@ markOf false = 0
 
 -- a mark over the entries from `from` on and below `to`: over 0 exactly if one is bad
 pub record Marked (bad : ℕ → ℕ → Bool) (xs : List ℕ) (from to mark : ℕ) : Type 0 where
-  pub none-bad : mark ≡ 0 → (k : ℕ) → from ≤ k → k < to → bad k (entry xs k) ≡ false
-  pub one-bad : 0 < mark → (k : ℕ) × (from ≤ k) × (k < to) × (bad k (entry xs k) ≡ true)
+  pub none-bad : mark ≡ 0 → (k : ℕ) → from ≤ k → k < to → bad k (entryAt xs k) ≡ false
+  pub one-bad : 0 < mark → (k : ℕ) × (from ≤ k) × (k < to) × (bad k (entryAt xs k) ≡ true)
 
 -- the largest of the entries below `to`
 pub record Largest (xs : List ℕ) (to most : ℕ) : Type 0 where
-  pub bound : (k : ℕ) → k < to → entry xs k ≤ most
-  pub reached : (most ≡ 0 → ⊥) → (k : ℕ) × (k < to) × (entry xs k ≡ most)
+  pub bound : (k : ℕ) → k < to → entryAt xs k ≤ most
+  pub reached : (most ≡ 0 → ⊥) → (k : ℕ) × (k < to) × (entryAt xs k ≡ most)
 
 -- the sizes of a good shape, but for the pairs'
 unfoldable pub goodSizes : (classes singles index blocks : ℕ) → Bool
@@ -28,4 +28,4 @@ goodSizes classes singles index blocks = eqb classes 256 && eqb singles 256 && e
 
 -- no lead is below 80
 abbrev pub NoLowLead : List ℕ → Type 0
-NoLowLead classes = (byte : ℕ) → byte < 0x80 → isLead (entry classes byte) ≡ false
+NoLowLead classes = (byte : ℕ) → byte < 0x80 → isLead (entryAt classes byte) ≡ false

@@ -1,12 +1,12 @@
 -- Document 01, "Reading one code from bytes" and "Reading one unit for bytes", as amended by CR 2 and CR 5: what a code means,
--- with no policy.
+-- with no policy. docs/RULES.md, "Reading bytes" and "Reading units".
 use mathlib.Core.Bool.{Bool, true, false, _&&_, _||_}
 use mathlib.Core.List.{List, [], _∷_, _++_}
 use mathlib.Core.Option.{Option, none, some}
 use Prim.Native.Nat.{ℕ, zero, suc, _+_, _*_, _/_, _%_}
 use lib.Dec.{leb, eqb}
 use lib.ListN.{length}
-use Rattle.codepage.specs.CodePage.{pick, entry, isSingle, isLead, isTrail, leadsBelow}
+use Rattle.codepage.specs.CodePage.{pick, entryAt, isSingle, isLead, isTrail, leadsBelow}
 use Rattle.codepage.specs.declared.Kind.{Kind}
 use Rattle.codepage.specs.declared.Kind.the-variants.{UndefinedSingle, UndefinedPair, Invalid}
 use Rattle.codepage.specs.declared.Lookup.{Lookup}
@@ -21,17 +21,17 @@ lookup kind value = pick (eqb value 0xFFFF) (Lacking kind) (Found value)
 -- One byte. Class single: its character, or undefined single. Class never, and a lead that nothing is taken with (at the end of
 -- the whole text, or before a byte below 80 that may not be second): invalid.
 unfoldable pub byteAlone : (classes singles : List ℕ) → ℕ → Lookup
-byteAlone classes singles byte = pick (isSingle (entry classes byte)) (lookup UndefinedSingle (entry singles byte)) (Lacking Invalid)
+byteAlone classes singles byte = pick (isSingle (entryAt classes byte)) (lookup UndefinedSingle (entryAt singles byte)) (Lacking Invalid)
 
 -- CR 2: a byte is taken with the lead before it if it may be second, or is 80 or more; else it is read afresh.
 unfoldable pub byteJoins : (classes : List ℕ) → ℕ → Bool
-byteJoins classes byte = isTrail (entry classes byte) || leb 0x80 byte
+byteJoins classes byte = isTrail (entryAt classes byte) || leb 0x80 byte
 
 -- Two bytes. A lead followed by a byte that may be second: its character, or undefined pair. Followed by any other that is taken
 -- with it: invalid.
 -- The lead with j leads below it uses block j, at the second byte.
 unfoldable pub bytePair : (classes pairs : List ℕ) → ℕ → ℕ → Lookup
-bytePair classes pairs lead byte = pick (isTrail (entry classes byte)) (lookup UndefinedPair (entry pairs (256 * leadsBelow classes lead + byte))) (Lacking Invalid)
+bytePair classes pairs lead byte = pick (isTrail (entryAt classes byte)) (lookup UndefinedPair (entryAt pairs (256 * leadsBelow classes lead + byte))) (Lacking Invalid)
 
 -- Reading one unit for bytes.
 
@@ -39,15 +39,17 @@ bytePair classes pairs lead byte = pick (isTrail (entry classes byte)) (lookup U
 unfoldable pub isHigh : ℕ → Bool
 isHigh unit = leb 0xD800 unit && leb unit 0xDBFF
 
+-- a low surrogate: it joins a high one before it (CR 5)
 unfoldable pub isLow : ℕ → Bool
 isLow unit = leb 0xDC00 unit && leb unit 0xDFFF
 
+-- a high or a low surrogate: it is not looked up
 unfoldable pub isSurrogate : ℕ → Bool
 isSurrogate unit = isHigh unit || isLow unit
 
 -- A unit's code, in the block of its high half at its low half, or undefined single.
 unfoldable pub unitCode : (index blocks : List ℕ) → ℕ → Lookup
-unitCode index blocks unit = lookup UndefinedSingle (entry blocks (256 * entry index (unit / 256) + unit % 256))
+unitCode index blocks unit = lookup UndefinedSingle (entryAt blocks (256 * entryAt index (unit / 256) + unit % 256))
 
 -- One unit. A surrogate is not looked up: it is invalid.
 unfoldable pub unitAlone : (index blocks : List ℕ) → ℕ → Lookup
@@ -74,10 +76,11 @@ pub record Reader : Type 0 where
 abbrev pub unitOf : ℕ → List ℕ
 unitOf unit = unit ∷ []
 
+-- Decoding: a lead waits, and a byte that joins it is one code with it (CR 2).
 unfoldable pub decoder : (classes singles pairs : List ℕ) → Reader
 decoder classes singles pairs =
     record {
-      waits = λ byte. isLead (entry classes byte);
+      waits = λ byte. isLead (entryAt classes byte);
       joins = λ lead byte. byteJoins classes byte;
       one = byteAlone classes singles;
       two = bytePair classes pairs;
@@ -101,15 +104,19 @@ pub record Code : Type 0 where
   pub more : List ℕ
   pub means : Lookup
 
+-- the units of a code, in their order
 abbrev pub unitsOf : Code → List ℕ
 unitsOf k = k .first ∷ k .more
 
+-- how many units are read for a code
 abbrev pub sizeOf : Code → ℕ
 sizeOf k = length (unitsOf k)
 
+-- the code that one unit is by itself
 abbrev pub alone : Reader → ℕ → Code
 alone r a = record { first = a; more = []; means = r .one a }
 
+-- the code that a waiting unit and the one after it are
 abbrev pub together : Reader → ℕ → ℕ → Code
 together r a b = record { first = a; more = b ∷ []; means = r .two a b }
 
@@ -132,6 +139,7 @@ unfoldable pub completed : Reader → Option ℕ → ℕ → List Code
 completed r none a = freshCodes r a
 completed r (some c) a = settled r c a ∷ pick (r .joins c a) [] (freshCodes r a)
 
+-- the unit that waits behind one more unit, or none
 unfoldable pub waitsThen : Reader → Option ℕ → ℕ → Option ℕ
 waitsThen r none a = freshWaits r a
 waitsThen r (some c) a = pick (r .joins c a) none (freshWaits r a)
@@ -141,18 +149,20 @@ unfoldable pub codesAtEnd : Reader → (last : Bool) → Option ℕ → List Cod
 codesAtEnd r last none = []
 codesAtEnd r last (some c) = pick last (alone r c ∷ []) []
 
+-- the codes that a call has to take: `last` is whether its piece ends the whole text
 unfoldable pub callCodes : Reader → (last : Bool) → Option ℕ → List ℕ → List Code
 callCodes r last pending [] = codesAtEnd r last pending
 callCodes r last pending (a ∷ units) = completed r pending a ++ callCodes r last (waitsThen r pending a) units
 
-unfoldable pub waitingUnit : Reader → (last : Bool) → Option ℕ → List ℕ → Option ℕ
-waitingUnit r last pending [] = pick last none pending
-waitingUnit r last pending (a ∷ units) = waitingUnit r last (waitsThen r pending a) units
+-- the unit that is pending behind these codes: none in a call marked last
+unfoldable pub leftPending : Reader → (last : Bool) → Option ℕ → List ℕ → Option ℕ
+leftPending r last pending [] = pick last none pending
+leftPending r last pending (a ∷ units) = leftPending r last (waitsThen r pending a) units
 
 -- a waiting unit or none, as a list
-abbrev pub waitingUnits : Option ℕ → List ℕ
-waitingUnits none = []
-waitingUnits (some c) = c ∷ []
+abbrev pub asUnits : Option ℕ → List ℕ
+asUnits none = []
+asUnits (some c) = c ∷ []
 
 -- The codes of a text, one after the other.
 unfoldable pub codes : Reader → List ℕ → List Code

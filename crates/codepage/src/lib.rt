@@ -1,5 +1,13 @@
-// A code page as lent tables: its shape, and the shape report. (Document 01, "The table set".)
+// A code page as a caller lends it: three numbers and five tables. (Document 01, "The table set"; docs/RULES.md, "The table set".)
+//
+// `shape_report` names the first bad place of a table set, or says that its shape is good. Every call of this product that is handed
+// tables tests their shape itself, and refuses a bad one with 10: a caller asks for the report to tell a person what is wrong.
+//
+//     let fault = codepage::shape_report(numbers, classes, singles, pairs, index, blocks);
+//
+// The other functions are small questions about a class.
 pub mod marks;
+mod scans;
 pub mod shape;
 
 ghost use mathlib.Core.Path.{_≡_};
@@ -154,7 +162,7 @@ fn size_fault(
     if singles.len() != 256 {
         return Fault::SinglesSize;
     }
-    if pairs.len() != 256 * marks::leads_below(classes, 256) {
+    if pairs.len() != 256 * scans::leads_below(classes, 256) {
         return Fault::PairsSize;
     }
     if index.len() != 256 {
@@ -192,6 +200,7 @@ fn entry_fault(classes: &[u8], index: &[u8], count: usize) -> Fault
     Fault::Good
 }
 
+// Whether the report found no bad place.
 fn is_good(fault: Fault) -> bool
     ensures { λ r. ⌜ r ≡ isGood fault ⌝ }
 {

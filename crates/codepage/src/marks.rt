@@ -1,12 +1,9 @@
-// Marks and counts over the tables: loops without a break, so that they run over many entries at a time. The report has its own,
-// but for counting lead bytes. The functions are inner: they are no public calls.
+// What a class or a number counts for in the loops over tables that have no break.
 ghost use mathlib.Core.Path.{_≡_};
-ghost use mathlib.Core.Bool.{true, false};
-ghost use Prim.Native.Nat.{ℕ, _+_, _≤_, _<_};
+ghost use Prim.Native.Nat.{_≤_};
 ghost use lib.Dec.{ltb};
-ghost use lib.ListN.{length};
-ghost use Rattle.codepage.specs.CodePage.{pick, isLead, badClass, leadsBelow};
-ghost use Rattle.codepage.specs.Marks.{markOf, Marked, Largest};
+ghost use Rattle.codepage.specs.CodePage.{pick, isLead};
+ghost use Rattle.codepage.specs.Marks.{markOf};
 
 // 1 for the class of a lead byte, else 0.
 pub fn lead_mark(class: u8) -> u8
@@ -18,20 +15,6 @@ pub fn lead_mark(class: u8) -> u8
     0
 }
 
-// 0 for a class that a byte below 80 can have, else another number.
-fn low_mark(class: u8) -> u8
-    ensures { λ r. ⌜ ((byte : ℕ) → byte < 0x80 → badClass byte class ≡ ltb 0 r) ⌝ }
-{
-    class & 0xFA
-}
-
-// 0 for a class that a byte from 80 on can have, else another number.
-fn high_mark(class: u8) -> u8
-    ensures { λ r. ⌜ ((byte : ℕ) → 0x80 ≤ byte → badClass byte class ≡ ltb 0 r) ⌝ }
-{
-    ((class & 0xFB) + 1) & 0xFC
-}
-
 // The larger of two numbers.
 pub fn larger(a: u8, b: u8) -> u8
     ensures { λ r. ⌜ (a ≤ r) × (b ≤ r) ⌝ }
@@ -41,74 +24,4 @@ pub fn larger(a: u8, b: u8) -> u8
         return b;
     }
     a
-}
-
-// 0 where no byte below 80 has a bad class.
-pub fn low_marks(classes: &[u8]) -> u8
-    requires { ⌜ length (now classes) ≡ 256 ⌝ }
-    ensures { λ r. ⌜ Marked badClass (now (classes .entry)) 0 0x80 r ⌝ }
-{
-    let mut mark: u8 = 0;
-    let mut i: usize = 0;
-    while i < 128 {
-        mark = mark | low_mark(classes[i]);
-        i += 1;
-    }
-    mark
-}
-
-// 0 where no byte from 80 on has a bad class.
-pub fn high_marks(classes: &[u8]) -> u8
-    requires { ⌜ length (now classes) ≡ 256 ⌝ }
-    ensures { λ r. ⌜ Marked badClass (now (classes .entry)) 0x80 256 r ⌝ }
-{
-    let mut mark: u8 = 0;
-    let mut i: usize = 128;
-    while i < 256 {
-        mark = mark | high_mark(classes[i]);
-        i += 1;
-    }
-    mark
-}
-
-// The largest index number.
-pub fn largest(index: &[u8]) -> u8
-    requires { ⌜ length (now index) ≡ 256 ⌝ }
-    ensures { λ r. ⌜ Largest (now (index .entry)) 256 r ⌝ }
-{
-    let mut most: u8 = 0;
-    let mut i: usize = 0;
-    while i < 256 {
-        most = larger(most, index[i]);
-        i += 1;
-    }
-    most
-}
-
-// The number of lead bytes from 80 on.
-pub fn high_leads(classes: &[u8]) -> u8
-    requires { ⌜ length (now classes) ≡ 256 ⌝ }
-    ensures { λ r. ⌜ leadsBelow (now (classes .entry)) 256 ≡ leadsBelow (now (classes .entry)) 0x80 + r ⌝ }
-{
-    let mut count: u8 = 0;
-    let mut i: usize = 128;
-    while i < 256 {
-        count += lead_mark(classes[i]);
-        i += 1;
-    }
-    count
-}
-
-// The number of lead bytes below a byte. The loop has no branch, so that it runs over many entries at a time.
-pub fn leads_below(classes: &[u8], byte: usize) -> usize
-    requires { ⌜ (byte ≤ 256) × (byte ≤ length (now classes)) ⌝ }
-    ensures { λ r. ⌜ r ≡ leadsBelow (now (classes .entry)) byte ⌝ }
-{
-    let mut count: u16 = 0;
-    let mut i = 0;
-    while i < byte {
-        count += lead_mark(classes[i]) as u16;
-        i += 1;
-    }
-    count as usize
 }

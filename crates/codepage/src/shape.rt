@@ -5,7 +5,7 @@ ghost use lib.ListN.{length};
 ghost use Rattle.codepage.specs.CodePage.{codePage, firstFault, isGood};
 ghost use Rattle.codepage.specs.Marks.{goodSizes};
 use crate::Numbers;
-use crate::marks;
+use crate::scans;
 
 // Whether the sizes of the tables are those of a good shape, but for the pairs'.
 fn good_sizes(classes: &[u8], singles: &[u16], index: &[u8], blocks: &[u16]) -> bool
@@ -46,16 +46,16 @@ pub fn good_shape(
     if !good_sizes(classes, singles, index, blocks) {
         return false;
     }
-    if marks::low_marks(classes) != 0 {
+    if scans::low_marks(classes) != 0 {
         return false;
     }
-    if marks::high_marks(classes) != 0 {
+    if scans::high_marks(classes) != 0 {
         return false;
     }
-    if blocks.len() / 256 <= (marks::largest(index) as usize) {
+    if blocks.len() / 256 <= (scans::largest(index) as usize) {
         return false;
     }
-    if pairs.len() != 256 * (marks::high_leads(classes) as usize) {
+    if pairs.len() != 256 * (scans::high_leads(classes) as usize) {
         return false;
     }
     true

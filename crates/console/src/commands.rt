@@ -1,7 +1,7 @@
 // One line goes through every function that runs commands: each has the slices that its commands change, and does nothing for
 // any other command.
-use script::command;
-use script::state::Next;
+use console_script::command;
+use console_script::state::Next;
 
 // Answers one line.
 pub fn answer(
@@ -20,7 +20,7 @@ pub fn answer(
     out: &mut [u8],
 ) -> Next {
     let command = command::command_of(line);
-    let next = setting::run_table(
+    let next = console_setting::run_table(
         command,
         line,
         next,
@@ -31,10 +31,10 @@ pub fn answer(
         blocks,
         out,
     );
-    let next = setting::run_text(command, line, next, bytes, units, out);
-    let next = setting::run_run(command, line, next, lent_bytes, out);
-    let next = cutting::run_fields(command, line, next, units, field_buffer, out);
-    calling::run_call(
+    let next = console_setting::run_text(command, line, next, bytes, units, out);
+    let next = console_setting::run_run(command, line, next, lent_bytes, out);
+    let next = console_cutting::run_fields(command, line, next, units, field_buffer, out);
+    console_calling::run_call(
         command,
         line,
         next,

@@ -12,6 +12,7 @@ pub struct Cursor {
 }
 
 impl Cursor {
+    // Before the first block is read.
     pub fn new() -> Cursor {
         Cursor {
             from: 0,
@@ -79,7 +80,7 @@ fn gather(block: &[u8], line: &mut [u8], cursor: Cursor) -> Cursor {
     }
     let end = line_feed(block, from, to);
     let mut next = cursor;
-    next.length = print::put(&block[from..end], line, cursor.length);
+    next.length = console_print::put(&block[from..end], line, cursor.length);
     next.ended = end < to;
     next.from = end + 1;
     next

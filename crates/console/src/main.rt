@@ -4,10 +4,10 @@ mod commands;
 mod input;
 mod output;
 
+use console_script::state;
+use console_script::state::Next;
+use console_script::texts;
 use input::Cursor;
-use script::state;
-use script::state::Next;
-use script::texts;
 
 // The tables have room for one element too many, and so have the texts, the rooms and the line. A proved loop has to end, and
 // nothing says that the input does: so the loop counts its turns, up to a number that no run reaches.

@@ -9,9 +9,9 @@ use native.Mathlib.Omega.{arith}
 use lib.Dec.{leb, ltb, eqb}
 use lib.ListN.{length, getD, drop, length-append, length-drop, List·getD-eq-default}
 use lib.Bits.{bitOr}
-use Rattle.codepage.specs.CodePage.{CodePage, pick, entry, isLead, GoodShape, firstFault, isGood}
-use Rattle.codepage.specs.Reading.{isHigh, decoder, encoder, waitingUnits}
-use Rattle.codepage.proofs.ShapeLaws.{shape-exact}
+use Rattle.codepage.specs.CodePage.{CodePage, pick, entryAt, isLead, GoodShape, firstFault, isGood}
+use Rattle.codepage.specs.Reading.{isHigh, decoder, encoder, asUnits}
+use Rattle.codepage.proofs.ShapeLaws.{shape-exact, and-left, and-right}
 use Rattle.engine.specs.declared.Direction.{Direction}
 use Rattle.engine.specs.declared.Direction.the-variants.{Decoding, Encoding}
 use Rattle.convert.specs.declared.Outcome.{Outcome}
@@ -24,16 +24,16 @@ use borrow.Author.Tests.{eqb-true, eqb-false, leb-true, ltb-true, ltb-false, eq-
 use Rattle.engine.specs.Policies.{policyAllowed}
 use Rattle.convert.specs.Runs.{pieceLimit, readLimit, isDecoding, isEncoding, mostWritten, pendingAllowed, validRun}
 use Rattle.engine.specs.Engine.{Converter, converter, limit, Fed}
-use Rattle.convert.specs.Calls.{sameDirection, leadIn, check, refusal, Called, pendingUnit, pendingCount, pendingAs, finalUnit, readOf, pendingAfter, endedAfter, runAfter, fedBy, acceptedCall, refusedCall, runCall, Answered}
+use Rattle.convert.specs.Calls.{sameDirection, leadIn, check, refusal, Called, pendingUnit, pendingCount, pendingAs, finalUnit, unitsRead, pendingAfter, endedAfter, runAfter, fedBy, acceptedCall, refusedCall, runCall, Answered}
 use Rattle.codepage.specs.Lent.{over}
 use Rattle.engine.specs.Engine.{converterOf}
 use Rattle.convert.specs.Steps.{hasPending, pendingByte, pendingHigh, pendingAgrees, mostOfOne, runRefusal, restRefusal, Finished, Refused}
 use Rattle.engine.specs.Steps.{summary, DecodeSizes, optional, decodeFed, encodeFed}
 use Rattle.engine.proofs.EngineLaws.{Waits, Shape, shape-from}
-use Rattle.engine.proofs.EffectLaws.{and-left, and-right}
 
 -- ---- the final unit
 module _ (direction : Direction) where
+  -- an empty piece: the final unit is what was pending
   pub final-empty : (pending : Pending) (piece : List ℕ) → length piece ≡ 0 → pending ≡ finalUnit direction pending piece
   final-empty pending [] e = refl
   final-empty pending (a ∷ l) e = absurd (omega arith)
@@ -42,6 +42,7 @@ module _ (direction : Direction) where
   final-at pending a [] = refl
   final-at pending a (b ∷ l) = final-at (pendingAs direction a) b l
 
+  -- a piece that is not empty: the final unit is its last one, at the index one below its length
   pub final-last : (pending : Pending) (piece : List ℕ) → (length piece ≡ 0 → ⊥) → pendingAs direction (getD piece (length piece - 1) 0) ≡ finalUnit direction pending piece
   final-last pending [] e = absurd (e refl)
   final-last pending (a ∷ l) e =
@@ -49,8 +50,9 @@ module _ (direction : Direction) where
       rw z (final-at pending a l)
 
 -- ---- what is read is of the piece
-pub read-le : (pending : Pending) (count answer used : ℕ) → used ≤ pendingCount pending + count → readOf pending count answer used ≤ count
-unfolding readOf
+-- a call reads no more units than the piece has
+pub read-le : (pending : Pending) (count answer used : ℕ) → used ≤ pendingCount pending + count → unitsRead pending count answer used ≤ count
+unfolding unitsRead
 read-le pending count answer used h = by-answer (eqb answer 1)
   where
     by-answer : (b : Bool) → pick b count (used - pendingCount pending) ≤ count
@@ -68,6 +70,7 @@ pub record Valid (run : Run) : Type 0 where
   pub stopped : (ltb (run .flags) 8 || run .ended) ≡ true
   pub pending : pendingAllowed (run .pending) (run .direction) (run .ended) (run .written) (run .read) ≡ true
 
+-- a run that passes the test keeps each rule
 pub valid-facts : (run : Run) → validRun run ≡ true → Valid run
 unfolding validRun
 valid-facts run e =
@@ -87,6 +90,7 @@ valid-facts run e =
       pending = and-left _ _ e₆;
     }
 
+-- a run that keeps each rule passes the test
 pub valid-of : (run : Run) → Valid run → validRun run ≡ true
 unfolding validRun
 valid-of run v =
@@ -100,10 +104,12 @@ valid-of run v =
       v .pending,
     )
 
+-- a run that keeps the rules has read no more than the limit
 pub valid-read : (run : Run) → validRun run ≡ true → run .read ≤ readLimit
 valid-read run e = valid-facts run e .read
 
 -- ---- what an accepted call may rely on
+-- What checks 10 to 16 say of a call that none of them refuses.
 pub record Accepted (direction : Direction) (run : Run) (p : CodePage) (count : ℕ) : Type 0 where
   pub good : GoodShape p
   pub short : count ≤ pieceLimit
@@ -114,6 +120,7 @@ pub record Accepted (direction : Direction) (run : Run) (p : CodePage) (count : 
   pub going : run .ended ≡ false
   pub total : run .read + count ≤ readLimit
 
+-- directions that the test finds the same are equal
 pub same-direction : (a b : Direction) → sameDirection a b ≡ true → a ≡ b
 same-direction Decoding Decoding e = refl
 same-direction Decoding Encoding e = absurd (false≢true e)
@@ -124,6 +131,7 @@ passed : (number : ℕ) (holds : Bool) (next : ℕ) → (number ≡ 0 → ⊥) �
 passed number true next h e = (refl, e)
 passed number false next h e = absurd (h e)
 
+-- A call that no check refuses: what each of the seven checks says.
 pub accepted-facts : (direction : Direction) (run : Run) (p : CodePage) (count : ℕ) → refusal direction run p count ≡ 0 → Accepted direction run p count
 unfolding refusal
 accepted-facts direction run p count e =
@@ -154,10 +162,12 @@ named-check : (number : ℕ) (holds : Bool) (next : ℕ) → 10 ≤ number → n
 named-check number true next l h rest ne = rest ne
 named-check number false next l h rest ne = record { low = l; high = h }
 
+-- a shape that is not good is refused with 10, whatever else there is
 pub refusal-shape : (direction : Direction) (run : Run) (p : CodePage) (count : ℕ) → isGood (firstFault p) ≡ false → 10 ≡ refusal direction run p count
 unfolding refusal
 refusal-shape direction run p count e = rw e
 
+-- the number of a refusal is one of 10 to 16
 pub refusal-named : (direction : Direction) (run : Run) (p : CodePage) (count : ℕ) → (refusal direction run p count ≡ 0 → ⊥) → Named (refusal direction run p count)
 unfolding refusal
 refusal-named direction run p count =
@@ -182,12 +192,15 @@ module _ (direction : Direction) (run : Run) (p : CodePage) (count first : ℕ) 
   unfolding refusal
   refusal-parts = rw (good, e) (in-parts (leb count pieceLimit) (validRun run) (sameDirection direction (run .direction) && eqb (run .page) (p .page)) (restRefusal run (p .classes) count))
 
+  -- a number that checks 11 to 13 gave is the call's refusal, if the shape is good
   pub refusal-first : (first ≡ 0 → ⊥) → first ≡ refusal direction run p count
   refusal-first n = sym (refusal-parts ∙ rw (ne-eqb first 0 n))
 
+  -- where checks 11 to 13 pass, the call's refusal is what checks 14 to 16 give
   pub refusal-rest : first ≡ 0 → {number : ℕ} → number ≡ restRefusal run (p .classes) count → number ≡ refusal direction run p count
   refusal-rest z q = q ∙ sym (refusal-parts ∙ rw (eq-eqb first 0 z))
 
+  -- where checks 11 to 13 pass, the piece is within its limit and the run keeps the rules
   pub refusal-valid : first ≡ 0 → (count ≤ pieceLimit) × (validRun run ≡ true)
   refusal-valid z = by-checks (leb count pieceLimit) (validRun run) refl refl (sym e ∙ z)
     where
@@ -200,8 +213,9 @@ module _ (direction : Direction) (run : Run) (p : CodePage) (count first : ℕ) 
 -- ---- what is pending
 -- a waiting unit or none, as a list
 abbrev pub pendingUnits : Pending → List ℕ
-pendingUnits pending = waitingUnits (pendingUnit pending)
+pendingUnits pending = asUnits (pendingUnit pending)
 
+-- at most one unit is pending
 pub count-le-one : (pending : Pending) → pendingCount pending ≤ 1
 count-le-one Nothing = omega arith
 count-le-one (Byte byte) = omega arith
@@ -217,6 +231,7 @@ unit-as : (direction : Direction) (unit : ℕ) → pendingUnit (pendingAs direct
 unit-as Decoding unit = refl
 unit-as Encoding unit = refl
 
+-- the final unit, of what is pending and the piece as one list, is the unit at the last index
 pub final-unit : (direction : Direction) (pending : Pending) (piece : List ℕ) (n : ℕ) → n + 1 ≡ length (pendingUnits pending ++ piece)
     → pendingUnit (finalUnit direction pending piece) ≡ some (getD (pendingUnits pending ++ piece) n 0)
 final-unit direction Nothing [] n h = absurd (omega arith)
@@ -225,7 +240,7 @@ final-unit direction (High unit) [] n h = let z : n ≡ 0 = omega arith in rw z
 final-unit direction pending (a ∷ piece) n h =
     ap pendingUnit (sym (final-at direction pending a piece)) ∙ unit-as direction (getD (a ∷ piece) (length piece) 0) ∙ ap some (final-place pending a piece n h)
 
--- what a run that keeps the rules has pending is of its direction: a lead byte in decoding, a high surrogate in encoding
+-- what is pending is of the direction: a byte in decoding, a high surrogate in encoding
 abbrev pub PendingIn : Direction → Pending → Type 0
 PendingIn direction Nothing = Prim.Unit {0}
 PendingIn Decoding (Byte byte) = Prim.Unit {0}
@@ -240,6 +255,7 @@ allowed-in (Byte byte) Encoding ended written read e = false≢true e
 allowed-in (High unit) Decoding ended written read e = false≢true e
 allowed-in (High unit) Encoding ended written read e = and-left (isHigh unit) _ e
 
+-- what is pending in a run that keeps the rules is of the run's direction
 pub valid-in : (run : Run) (direction : Direction) → direction ≡ run .direction → Valid run → PendingIn direction (run .pending)
 valid-in run direction e v = subst (λ (d : Direction). PendingIn d (run .pending)) (sym e) (allowed-in (run .pending) (run .direction) (run .ended) (run .written) (run .read) (v .pending))
 
@@ -255,11 +271,13 @@ final-as direction pending (a ∷ piece) n i h = sym (final-at direction pending
 
 -- ---- the rule of what is pending, in the order of the code
 module _ (direction : Direction) (written read : ℕ) where
+  -- nothing is pending: that is allowed in every run
   pub allowed-none : (pending : Pending) (ended : Bool) → hasPending pending ≡ false → pendingAllowed pending direction ended written read ≡ true
   allowed-none Nothing ended e = refl
   allowed-none (Byte byte) ended e = absurd (true≢false e)
   allowed-none (High unit) ended e = absurd (true≢false e)
 
+  -- what is pending is not of the run's direction: not allowed
   pub allowed-other : (pending : Pending) (ended : Bool) → pendingAgrees pending direction ≡ false → pendingAllowed pending direction ended written read ≡ false
   allowed-other Nothing ended e = absurd (true≢false e)
   allowed-other (Byte byte) ended e = rw e
@@ -269,11 +287,13 @@ module _ (direction : Direction) (written read : ℕ) where
       by-direction Decoding q = refl
       by-direction Encoding q = rw q
 
+  -- something is pending in a run that has ended: not allowed
   pub allowed-ended : (pending : Pending) → hasPending pending ≡ true → pendingAgrees pending direction ≡ true → pendingAllowed pending direction true written read ≡ false
   allowed-ended Nothing e a = absurd (false≢true e)
   allowed-ended (Byte byte) e a = rw a
   allowed-ended (High unit) e a = rw (and-left (isEncoding direction) (isHigh unit) a, and-right (isEncoding direction) (isHigh unit) a)
 
+  -- pending, of the run's direction, in a run that goes on: allowed exactly if what it may write is within what was read
   pub allowed-room : (pending : Pending) → hasPending pending ≡ true → pendingAgrees pending direction ≡ true
       → pendingAllowed pending direction false written read ≡ leb (written + mostOfOne direction) (mostWritten direction read)
   allowed-room Nothing e a = absurd (false≢true e)
@@ -299,7 +319,7 @@ optional-high Nothing i = refl
 optional-high (Byte byte) i = absurd i
 optional-high (High unit) i = refl
 
-lead-pending : (classes : List ℕ) (pending : Pending) → PendingIn Decoding pending → leadIn classes pending ≡ true → hasPending pending ≡ true → isLead (entry classes (pendingByte pending)) ≡ true
+lead-pending : (classes : List ℕ) (pending : Pending) → PendingIn Decoding pending → leadIn classes pending ≡ true → hasPending pending ≡ true → isLead (entryAt classes (pendingByte pending)) ≡ true
 lead-pending classes Nothing i e h = absurd (false≢true h)
 lead-pending classes (Byte byte) i e h = e
 lead-pending classes (High unit) i e h = absurd i
@@ -328,8 +348,9 @@ pub call-waits : (direction : Direction) (run : Run) (p : CodePage) (count : ℕ
 call-waits Decoding run p count a = decode-waits p (run .policy) (run .pending) (call-in Decoding run p count a) (a .lead)
 call-waits Encoding run p count a = encode-waits p (run .policy) (run .pending) (call-in Encoding run p count a)
 
+-- What each answer of an accepted call says of the units it used, the pending one among them (`Shape`, of the engine).
 pub feed-shape : (direction : Direction) (run : Run) (p : CodePage) (piece : List ℕ) (last : Bool) (room : ℕ) → Accepted direction run p (length piece)
-    → Shape (converterOf direction p (run .policy)) last (waitingUnits (pendingUnit (run .pending)) ++ piece) (fedBy direction run p piece last room)
+    → Shape (converterOf direction p (run .policy)) last (asUnits (pendingUnit (run .pending)) ++ piece) (fedBy direction run p piece last room)
 unfolding fedBy
 feed-shape direction run p piece last room a = shape-from (converterOf direction p (run .policy)) last (limit room) (pendingUnit (run .pending)) piece (call-waits direction run p (length piece) a)
 
@@ -339,13 +360,14 @@ over-length : (before ys after : List ℕ) → after ≡ over before ys → leng
 unfolding over
 over-length before ys after e h = omega (arith, simp (length-append, length-drop) at (ap length e))
 
+-- in both directions no more than twice read is written
 pub most-twice : (direction : Direction) (read : ℕ) → mostWritten direction read ≤ 2 * read
 most-twice Decoding read = omega arith
 most-twice Encoding read = omega arith
 
 module _ (direction : Direction) (run : Run) (p : CodePage) (piece : List ℕ) (last : Bool) (before : List ℕ) where
   pub used-le : Accepted direction run p (length piece) → fedBy direction run p piece last (length before) .used ≤ pendingCount (run .pending) + length piece
-  used-le a = omega (arith, feed-shape direction run p piece last (length before) a .within, length-append (waitingUnits (pendingUnit (run .pending))) piece)
+  used-le a = omega (arith, feed-shape direction run p piece last (length before) a .within, length-append (asUnits (pendingUnit (run .pending))) piece)
 
   -- what `accepted` requires
   pub finish-needs : (s : Progress) (after : List ℕ) → Accepted direction run p (length piece) → s ≡ summary (fedBy direction run p piece last (length before))
@@ -368,6 +390,7 @@ module _ (direction : Direction) (run : Run) (p : CodePage) (piece : List ℕ) (
     ),
   )
 
+  -- An accepted call whose loop gave what the rules give, and whose result was built from that, keeps the promise.
   pub answered-accepted : (s : Progress) (after : List ℕ) (pending : Pending) (r : Outcome) → refusal direction run p (length piece) ≡ 0
       → s ≡ summary (fedBy direction run p piece last (length before)) → after ≡ over before (fedBy direction run p piece last (length before) .output)
       → pending ≡ pendingAfter direction (run .pending) piece (s .answer) (s .used) → Finished run s pending (length piece) last r
@@ -379,16 +402,17 @@ module _ (direction : Direction) (run : Run) (p : CodePage) (piece : List ℕ) (
       rw accepted
       (record {
         number = w .number ∙ answer;
-        read = w .read ∙ ap (λ (v : Progress). readOf (run .pending) (length piece) (v .answer) (v .used)) e;
+        read = w .read ∙ ap (λ (v : Progress). unitsRead (run .pending) (length piece) (v .answer) (v .used)) e;
         written = w .written ∙ ap (λ (v : Progress). v .written) e;
         run =
             w .run′
-            ∙ ap (λ (n : Pending). runAfter run n (readOf (run .pending) (length piece) (s .answer) (s .used)) (s .written) (s .flags) (endedAfter last (s .answer)))
+            ∙ ap (λ (n : Pending). runAfter run n (unitsRead (run .pending) (length piece) (s .answer) (s .used)) (s .written) (s .flags) (endedAfter last (s .answer)))
             (q ∙ ap (λ (d : Direction). pendingAfter d (run .pending) piece (s .answer) (s .used)) (accepted-facts direction run p (length piece) z .same))
-            ∙ ap (λ (v : Progress). runAfter run (pendingAfter (run .direction) (run .pending) piece (v .answer) (v .used)) (readOf (run .pending) (length piece) (v .answer) (v .used)) (v .written) (v .flags) (endedAfter last (v .answer))) e;
+            ∙ ap (λ (v : Progress). runAfter run (pendingAfter (run .direction) (run .pending) piece (v .answer) (v .used)) (unitsRead (run .pending) (length piece) (v .answer) (v .used)) (v .written) (v .flags) (endedAfter last (v .answer))) e;
         lent = f;
       })
 
+  -- A refused call whose result has the refusal's number and the run it was handed, with the output untouched, keeps the promise.
   pub answered-refused : (number : ℕ) (r : Outcome) → number ≡ refusal direction run p (length piece) → (number ≡ 0 → ⊥) → Refused number run r
       → Answered (runCall direction run p piece last (length before)) r before before
   unfolding runCall refusedCall over
@@ -398,12 +422,13 @@ module _ (direction : Direction) (run : Run) (p : CodePage) (piece : List ℕ) (
 -- ---- the two loops
 -- what the decode loop requires, and that it feeds what the call feeds
 pub decode-needs : (run : Run) (p : CodePage) (count : ℕ) (has : Bool) (byte : ℕ) → has ≡ hasPending (run .pending) → byte ≡ pendingByte (run .pending) → Accepted Decoding run p count
-    → DecodeSizes (p .classes) (p .singles) (p .pairs) × (has ≡ true → isLead (entry (p .classes) byte) ≡ true)
+    → DecodeSizes (p .classes) (p .singles) (p .pairs) × (has ≡ true → isLead (entryAt (p .classes) byte) ≡ true)
 decode-needs run p count has byte e f a = (
   record { all-classes = a .good .classes; all-singles = a .good .singles; all-pairs = a .good .pairs; no-low-lead = a .good .low },
   λ h. rw f (lead-pending (p .classes) (run .pending) (call-in Decoding run p count a) (a .lead) (sym e ∙ h)),
 )
 
+-- the decode loop, given the pending byte as a flag and a number, takes what the call takes
 pub decode-fed : (run : Run) (p : CodePage) (piece : List ℕ) (last : Bool) (room : ℕ) (has : Bool) (byte : ℕ) → has ≡ hasPending (run .pending) → byte ≡ pendingByte (run .pending)
     → Accepted Decoding run p (length piece)
     → decodeFed (p .classes) (p .singles) (p .pairs) (run .policy) (p .defaultUnit) last room (optional has byte) piece ≡ fedBy Decoding run p piece last room
@@ -412,16 +437,18 @@ decode-fed run p piece last room has byte e f a =
     ap (λ (o : Option ℕ). decodeFed (p .classes) (p .singles) (p .pairs) (run .policy) (p .defaultUnit) last room o piece)
     (rw (e, f) (optional-byte (run .pending) (call-in Decoding run p (length piece) a)))
 
--- the same of the encode loop
-pub index-high : (index : List ℕ) (blocks high : ℕ) → length index ≡ 256 → ((h : ℕ) → h < 256 → 256 * entry index h + 256 ≤ blocks) → 256 ≤ blocks → 256 * entry index high + 256 ≤ blocks
+-- whatever place of the index is asked, also one behind its end, the block that it names is there
+pub index-high : (index : List ℕ) (blocks high : ℕ) → length index ≡ 256 → ((h : ℕ) → h < 256 → 256 * entryAt index h + 256 ≤ blocks) → 256 ≤ blocks → 256 * entryAt index high + 256 ≤ blocks
 index-high index blocks high e h l = by-place (ltb high 256) refl
   where
-    by-place : (t : Bool) → ltb high 256 ≡ t → 256 * entry index high + 256 ≤ blocks
+    by-place : (t : Bool) → ltb high 256 ≡ t → 256 * entryAt index high + 256 ≤ blocks
     by-place true q = h high (ltb-true _ _ q)
     by-place false q = omega (arith, ltb-false high 256 q, List·getD-eq-default index 0 {n = high} (omega (arith, ltb-false high 256 q)))
 
+-- what the encode loop requires of an accepted call: allowed digits, the index, a block for each of its numbers, and that a
+-- pending unit is a high surrogate
 pub encode-needs : (run : Run) (p : CodePage) (count : ℕ) (has : Bool) (unit : ℕ) → has ≡ hasPending (run .pending) → unit ≡ pendingHigh (run .pending) → Accepted Encoding run p count
-    → (policyAllowed Encoding (run .policy) ≡ true) × ((length (p .index) ≡ 256) × (((high : ℕ) → 256 * entry (p .index) high + 256 ≤ length (p .blocks)) × (has ≡ true → isHigh unit ≡ true)))
+    → (policyAllowed Encoding (run .policy) ≡ true) × ((length (p .index) ≡ 256) × (((high : ℕ) → 256 * entryAt (p .index) high + 256 ≤ length (p .blocks)) × (has ≡ true → isHigh unit ≡ true)))
 encode-needs run p count has unit e f a = (
   rw (a .same) (a .valid .policy),
   (
@@ -433,6 +460,7 @@ encode-needs run p count has unit e f a = (
   ),
 )
 
+-- the encode loop, given the pending unit as a flag and a number, takes what the call takes
 pub encode-fed : (run : Run) (p : CodePage) (piece : List ℕ) (last : Bool) (room default : ℕ) (has : Bool) (unit : ℕ) → default ≡ p .defaultByte → has ≡ hasPending (run .pending) → unit ≡ pendingHigh (run .pending)
     → Accepted Encoding run p (length piece)
     → encodeFed (p .index) (p .blocks) (run .policy) default last room (optional has unit) piece ≡ fedBy Encoding run p piece last room

@@ -10,7 +10,7 @@ use lib.Dec.{eqb}
 use lib.ListN.{length, getD, length-append}
 use borrow.Author.Tests.{eqb-true, eqb-false, eq-eqb, ne-eqb}
 use Rattle.codepage.specs.CodePage.{CodePage, pick}
-use Rattle.codepage.specs.Reading.{Reader, Code, sizeOf, codesAtEnd, callCodes, waitingUnit, waitingUnits}
+use Rattle.codepage.specs.Reading.{Reader, Code, sizeOf, codesAtEnd, callCodes, leftPending, asUnits}
 use Rattle.codepage.proofs.ReadingLaws.{sizesOf, sizes-cover}
 use Rattle.engine.specs.declared.Direction.{Direction}
 use Rattle.engine.specs.declared.Direction.the-variants.{Decoding, Encoding}
@@ -20,7 +20,7 @@ use Rattle.engine.proofs.AnswerLaws.{Goes, StopsAt, NoRoomAt, Exact, answers-ex
 use Rattle.convert.specs.declared.Pending.{Pending}
 use Rattle.convert.specs.declared.Pending.the-variants.{Nothing, Byte, High}
 use Rattle.convert.specs.declared.Run.{Run}
-use Rattle.convert.specs.Calls.{refusal, Called, pendingUnit, pendingCount, pendingAs, finalUnit, readOf, pendingAfter, endedAfter, runAfter, fedBy, acceptedCall, refusedCall, runCall}
+use Rattle.convert.specs.Calls.{refusal, Called, pendingUnit, pendingCount, pendingAs, finalUnit, unitsRead, pendingAfter, endedAfter, runAfter, fedBy, acceptedCall, refusedCall, runCall}
 use Rattle.convert.proofs.CallLaws.{Accepted, accepted-facts, refusal-named, pendingUnits, count-le-one, valid-in, final-as, feed-shape}
 use Rattle.convert.proofs.RefusalLaws.{Cases, AllPass, accepted-of, refusals-exact}
 use Rattle.convert.proofs.RunLaws.{refused-same}
@@ -39,9 +39,9 @@ DoesNotFit direction run p piece last room = NoRoomAt (converterOf direction p (
 
 -- Document 01's table of numbers, 0 to 3 and 10 to 16, and when the run ends. `AllPass`: the call passes every check.
 pub record Numbers (direction : Direction) (run : Run) (p : CodePage) (piece : List ℕ) (last : Bool) (room : ℕ) (c : Called) : Type 0 where
-  -- all read, nothing carried, not stopped
+  -- all read, nothing pending, not stopped
   pub all-read : (c .number ≡ 0) ↔ (AllPass direction run p (length piece) × (c .read ≡ length piece) × (c .run .pending ≡ Nothing) × (Stops direction run p piece last room → ⊥))
-  -- call not marked last: all read, a lead or a high surrogate is carried
+  -- call not marked last: all read, a lead or a high surrogate is pending
   pub waits : (c .number ≡ 1)
       ↔ (AllPass direction run p (length piece) × (last ≡ false) × (c .read ≡ length piece) × ((unit : ℕ) × (c .run .pending ≡ pendingAs direction unit) × (readerOf direction p .waits unit ≡ true)))
   -- the next code does not fit
@@ -50,7 +50,7 @@ pub record Numbers (direction : Direction) (run : Run) (p : CodePage) (piece : L
   pub stopped : (c .number ≡ 3) ↔ (AllPass direction run p (length piece) × Stops direction run p piece last room)
   -- 10 to 16: the first check that fails
   pub refused : Cases direction run p (length piece) (c .number)
-  -- an accepted call ends the run by a stop, or marked last with all read and nothing carried
+  -- an accepted call ends the run by a stop, or marked last with all read and nothing pending
   pub ended : AllPass direction run p (length piece) → (c .run .ended ≡ true) ↔ ((c .number ≡ 3) ⊎ ((last ≡ true) × (c .read ≡ length piece) × (c .run .pending ≡ Nothing)))
 
 -- ---- an accepted call
@@ -67,7 +67,7 @@ module _ (direction : Direction) (run : Run) (p : CodePage) (piece : List ℕ) (
   ks = codesOfCall direction run p piece last
 
   abbrev waiting : Option ℕ
-  waiting = waitingUnit (readerOf direction p) last (pendingUnit (run .pending)) piece
+  waiting = leftPending (readerOf direction p) last (pendingUnit (run .pending)) piece
 
   f : Fed
   f = fedBy direction run p piece last room
@@ -76,7 +76,7 @@ module _ (direction : Direction) (run : Run) (p : CodePage) (piece : List ℕ) (
   pending′ = pendingAfter (run .direction) (run .pending) piece (f .answer) (f .used)
 
   abbrev read′ : ℕ
-  read′ = readOf (run .pending) (length piece) (f .answer) (f .used)
+  read′ = unitsRead (run .pending) (length piece) (f .answer) (f .used)
 
   formed : Shape v last (pendingUnits (run .pending) ++ piece) f
   unfolding f
@@ -94,7 +94,7 @@ module _ (direction : Direction) (run : Run) (p : CodePage) (piece : List ℕ) (
 
   -- what is read and pending then
   read-used : (f .answer ≡ 1 → ⊥) → read′ ≡ f .used - pendingCount (run .pending)
-  unfolding readOf
+  unfolding unitsRead
   read-used e = rw (ne-eqb _ _ e)
 
   pending-settled : (f .answer ≡ 1 → ⊥) → (f .used ≡ 0 → ⊥) → pending′ ≡ Nothing
@@ -123,7 +123,7 @@ module _ (direction : Direction) (run : Run) (p : CodePage) (piece : List ℕ) (
 
   -- 1
   one-read : f .answer ≡ 1 → read′ ≡ length piece
-  unfolding readOf
+  unfolding unitsRead
   one-read e = rw (eq-eqb _ _ e)
 
   one-pending : f .answer ≡ 1 → (unit : ℕ) × (pending′ ≡ pendingAs direction unit) × (readerOf direction p .waits unit ≡ true)
@@ -141,7 +141,7 @@ module _ (direction : Direction) (run : Run) (p : CodePage) (piece : List ℕ) (
 
   used-less : DoesNotFit direction run p piece last room → f .used < pendingCount (run .pending) + length piece
   used-less n =
-      let all : sizesOf ks + length (waitingUnits waiting) ≡ length (waitingUnits (pendingUnit (run .pending))) + length piece =
+      let all : sizesOf ks + length (asUnits waiting) ≡ length (asUnits (pendingUnit (run .pending))) + length piece =
       sizes-cover (readerOf direction p) last (pendingUnit (run .pending)) piece in
       let part : sizesOf (n .taken) < sizesOf ks = subst (λ (l : List Code). sizesOf (n .taken) < sizesOf l) (sym (n .split)) (sizes-split (n .taken) (n .code) (n .behind)) in
       omega (arith, ap (λ (x : Fed). x .used) (exact .full n))
@@ -162,8 +162,8 @@ module _ (direction : Direction) (run : Run) (p : CodePage) (piece : List ℕ) (
   no-codes r (some c) [] xs k ys e q = omega (arith, sizes-split xs k ys, ap sizesOf q)
   no-codes r pending (b ∷ l) xs k ys e q = omega arith
 
-  not-carried : last ≡ false → DoesNotFit direction run p piece last room → f .answer ≡ 2 → read′ ≡ length piece → (unit : ℕ) → pending′ ≡ pendingAs direction unit → ⊥
-  not-carried l n e r unit q = by-used (eqb (f .used) 0) refl
+  not-pending : last ≡ false → DoesNotFit direction run p piece last room → f .answer ≡ 2 → read′ ≡ length piece → (unit : ℕ) → pending′ ≡ pendingAs direction unit → ⊥
+  not-pending l n e r unit q = by-used (eqb (f .used) 0) refl
     where
       by-used : (t : Bool) → eqb (f .used) 0 ≡ t → ⊥
       by-used true u =
@@ -178,8 +178,8 @@ module _ (direction : Direction) (run : Run) (p : CodePage) (piece : List ℕ) (
   three-pending e = pending-settled (λ q. omega arith) (λ q. omega (arith, formed .reads e))
 
   -- ---- the other way round
-  abbrev Carried : Type 0
-  Carried = (unit : ℕ) × (pending′ ≡ pendingAs direction unit) × (readerOf direction p .waits unit ≡ true)
+  abbrev StaysPending : Type 0
+  StaysPending = (unit : ℕ) × (pending′ ≡ pendingAs direction unit) × (readerOf direction p .waits unit ≡ true)
 
   other-pending : (unit : ℕ) → pending′ ≡ Nothing → pending′ ≡ pendingAs direction unit → ⊥
   other-pending unit e q = some-pending direction unit (sym q ∙ e)
@@ -190,8 +190,8 @@ module _ (direction : Direction) (run : Run) (p : CodePage) (piece : List ℕ) (
       by-answer : (t : Bool) → eqb (f .answer) 0 ≡ t → f .answer ≤ 1 → f .answer ≡ 0
       by-answer true e h = eqb-true _ _ e
       by-answer false e h =
-          let carried = one-pending (omega (arith, eqb-false (f .answer) 0 e)) in
-          absurd (other-pending (carried .0) q (carried .1))
+          let pending = one-pending (omega (arith, eqb-false (f .answer) 0 e)) in
+          absurd (other-pending (pending .0) q (pending .1))
 
       low : (w : Option ℕ) → f .answer ≡ atEnd w → f .answer ≤ 1
       low none e = omega arith
@@ -202,7 +202,7 @@ module _ (direction : Direction) (run : Run) (p : CodePage) (piece : List ℕ) (
       by-case (inr (inl g)) = absurd (s g)
       by-case (inr (inr g)) = absurd (not-all g (cases .full .1 g) r q)
 
-  is-one : last ≡ false → read′ ≡ length piece → Carried → f .answer ≡ 1
+  is-one : last ≡ false → read′ ≡ length piece → StaysPending → f .answer ≡ 1
   is-one l r (byte, q, w) = by-case (exact .one-of-them)
     where
       low : (w : Option ℕ) → f .answer ≡ atEnd w → f .answer ≡ 1
@@ -212,7 +212,7 @@ module _ (direction : Direction) (run : Run) (p : CodePage) (piece : List ℕ) (
       by-case : Goes v (limit room) ks ⊎ (StopsAt v (limit room) ks ⊎ NoRoomAt v (limit room) ks) → f .answer ≡ 1
       by-case (inl g) = low waiting (ap (λ (x : Fed). x .answer) (exact .all-taken g))
       by-case (inr (inl g)) = absurd (other-pending byte (three-pending (cases .stopped .1 g)) q)
-      by-case (inr (inr g)) = absurd (not-carried l g (cases .full .1 g) r byte q)
+      by-case (inr (inr g)) = absurd (not-pending l g (cases .full .1 g) r byte q)
 
   not-both-ways : f .answer ≡ 0 → Stops direction run p piece last room → ⊥
   not-both-ways e s = omega (arith, cases .stopped .1 s)
@@ -263,6 +263,7 @@ module _ (direction : Direction) (run : Run) (p : CodePage) (piece : List ℕ) (
   unfolding acceptedCall
   low-number e = omega (arith, ap (λ (c : Called). c .number) (call-accepted e), feed-shape direction run p piece last room (accepted-facts direction run p count e) .known)
 
+  -- A refused call answers the number of its refusal.
   pub refused-number : (refusal direction run p count ≡ 0 → ⊥) → call .number ≡ refusal direction run p count
   unfolding refusedCall
   refused-number e = ap (λ (c : Called). c .number) (refused-same direction run p piece last room e)

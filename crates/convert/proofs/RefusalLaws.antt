@@ -8,13 +8,12 @@ use native.Mathlib.Omega.{arith}
 use lib.Dec.{leb, eqb}
 use borrow.Author.Tests.{eqb-true, eqb-false, leb-true, leb-false, eq-eqb, le-leb, lt-leb, not-true, not-false}
 use Rattle.codepage.specs.CodePage.{CodePage, GoodShape, firstFault, isGood}
-use Rattle.codepage.proofs.ShapeLaws.{shape-exact}
+use Rattle.codepage.proofs.ShapeLaws.{shape-exact, and-left, and-right}
 use Rattle.engine.specs.declared.Direction.{Direction}
 use Rattle.engine.specs.declared.Direction.the-variants.{Decoding, Encoding}
 use Rattle.convert.specs.declared.Run.{Run}
 use Rattle.convert.specs.Runs.{pieceLimit, readLimit, validRun, RunRules}
 use Rattle.convert.specs.Calls.{sameDirection, leadIn, check, refusal}
-use Rattle.engine.proofs.EffectLaws.{and-left, and-right}
 use Rattle.convert.proofs.CallLaws.{same-direction, refusal-named}
 use Rattle.convert.proofs.RuleLaws.{rules-exact}
 
@@ -93,6 +92,7 @@ LeadPasses direction run p count = RunPasses direction run p count × (leadIn (p
 abbrev pub EndPasses : Direction → Run → CodePage → ℕ → Type 0
 EndPasses direction run p count = LeadPasses direction run p count × (run .ended ≡ false)
 
+-- All checks up to 16 pass: the call is accepted.
 abbrev pub AllPass : Direction → Run → CodePage → ℕ → Type 0
 AllPass direction run p count = EndPasses direction run p count × (run .read + count ≤ readLimit)
 

@@ -8,27 +8,27 @@ use native.Mathlib.Omega.{arith}
 use lib.Dec.{leb, eqb}
 use lib.Bits.{or-zero-l}
 use borrow.Author.Tests.{eqb-true}
-use Rattle.codepage.specs.CodePage.{CodePage, pick, entry, isSingle, isLead}
-use Rattle.codepage.specs.Reading.{byteAlone, isSurrogate, bytesOf, Reader, decoder, encoder, Code, unitsOf, sizeOf, alone, together, completed, waitsThen, codesAtEnd, callCodes, codes, waitingUnits}
+use Rattle.codepage.specs.CodePage.{CodePage, pick, entryAt, isSingle, isLead}
+use Rattle.codepage.specs.Reading.{byteAlone, isSurrogate, bytesOf, Reader, decoder, encoder, Code, unitsOf, sizeOf, alone, together, completed, waitsThen, codesAtEnd, callCodes, codes, asUnits}
 use Rattle.codepage.proofs.ReadingLaws.{codes-wait, codes-one, codes-two, codes-alone, none-waits, joined, covers, found-no-wait, found-no-surrogate}
 use Rattle.codepage.specs.declared.Kind.the-variants.{Invalid}
 use Rattle.codepage.specs.declared.Lookup.the-variants.{Found, Lacking}
 use Rattle.engine.specs.declared.Direction.the-variants.{Decoding, Encoding}
 use Rattle.engine.specs.declared.Policy.{Policy}
-use Rattle.engine.specs.Engine.{effectOf, converter, endless, fits, less, Fed, halt, after, takeWhen, takeCode, takeCodes, whole}
+use Rattle.engine.specs.Engine.{effectOf, converter, endless, fits, roomLeft, Fed, halt, after, takeWhen, takeCode, takeCodes, whole}
 use Rattle.engine.specs.Engine.{readerOf}
 use Rattle.convert.specs.RoundTrips.{UnitsReturn, CodesReturn, BytesReturn}
 
 -- ---- a code that has a character is read the same before any other bytes
 -- a lead alone has no character
-lead-lacks : (classes singles : List ℕ) (byte : ℕ) → isLead (entry classes byte) ≡ true → byteAlone classes singles byte ≡ Lacking Invalid
+lead-lacks : (classes singles : List ℕ) (byte : ℕ) → isLead (entryAt classes byte) ≡ true → byteAlone classes singles byte ≡ Lacking Invalid
 unfolding byteAlone isSingle isLead
-lead-lacks classes singles byte e = by-class (eqb (entry classes byte) 2) refl
+lead-lacks classes singles byte e = by-class (eqb (entryAt classes byte) 2) refl
   where
-    alone-of : (c : ℕ) → entry classes byte ≡ c → (eqb c 1 || eqb c 5) ≡ false → byteAlone classes singles byte ≡ Lacking Invalid
+    alone-of : (c : ℕ) → entryAt classes byte ≡ c → (eqb c 1 || eqb c 5) ≡ false → byteAlone classes singles byte ≡ Lacking Invalid
     alone-of c q f = rw (q, f)
 
-    by-class : (t : Bool) → eqb (entry classes byte) 2 ≡ t → byteAlone classes singles byte ≡ Lacking Invalid
+    by-class : (t : Bool) → eqb (entryAt classes byte) 2 ≡ t → byteAlone classes singles byte ≡ Lacking Invalid
     by-class true q = alone-of 2 (eqb-true _ _ q) refl
     by-class false q = alone-of 6 (eqb-true _ _ (sym (rw q) ∙ e)) refl
 
@@ -50,7 +50,7 @@ module _ (classes singles pairs : List ℕ) where
   abbrev r : Reader
   r = decoder classes singles pairs
 
-  one-byte : (b : ℕ) (k : Code) (unit : ℕ) (rest : List ℕ) → callCodes r true none (b ∷ []) ≡ k ∷ [] → k .means ≡ Found unit → (t : Bool) → isLead (entry classes b) ≡ t
+  one-byte : (b : ℕ) (k : Code) (unit : ℕ) (rest : List ℕ) → callCodes r true none (b ∷ []) ≡ k ∷ [] → k .means ≡ Found unit → (t : Bool) → isLead (entryAt classes b) ≡ t
       → callCodes r true none (b ∷ rest) ≡ k ∷ callCodes r true none rest
   unfolding decoder callCodes codesAtEnd
   one-byte b k unit rest e c true w =
@@ -60,7 +60,7 @@ module _ (classes singles pairs : List ℕ) where
       let q : alone r b ≡ k = cons-path (alone r b) k [] [] (sym (codes-one r true b [] w) ∙ e) .0 in
       codes-one r true b rest w ∙ ap (λ (x : Code). x ∷ callCodes r true none rest) q
 
-  two-bytes : (a b : ℕ) (k : Code) (rest : List ℕ) → callCodes r true none (a ∷ b ∷ []) ≡ k ∷ [] → (t : Bool) → isLead (entry classes a) ≡ t → callCodes r true none (a ∷ b ∷ rest) ≡ k ∷ callCodes r true none rest
+  two-bytes : (a b : ℕ) (k : Code) (rest : List ℕ) → callCodes r true none (a ∷ b ∷ []) ≡ k ∷ [] → (t : Bool) → isLead (entryAt classes a) ≡ t → callCodes r true none (a ∷ b ∷ rest) ≡ k ∷ callCodes r true none rest
   unfolding decoder callCodes codesAtEnd
   two-bytes a b k rest e true w = by-next (r .joins a b) refl
     where
@@ -70,10 +70,10 @@ module _ (classes singles pairs : List ℕ) where
           codes-wait r true a (b ∷ rest) w ∙ codes-two r true a b rest j ∙ ap (λ (x : Code). x ∷ callCodes r true none rest) q
       by-next false j =
           absurd
-          (codes-some r b (isLead (entry classes b)) refl
+          (codes-some r b (isLead (entryAt classes b)) refl
           (cons-path (alone r a) k (callCodes r true none (b ∷ [])) [] (sym (codes-wait r true a (b ∷ []) w ∙ codes-alone r true a b [] j) ∙ e) .1))
   two-bytes a b k rest e false w =
-      absurd (codes-some r b (isLead (entry classes b)) refl (cons-path (alone r a) k (callCodes r true none (b ∷ [])) [] (sym (codes-one r true a (b ∷ []) w) ∙ e) .1))
+      absurd (codes-some r b (isLead (entryAt classes b)) refl (cons-path (alone r a) k (callCodes r true none (b ∷ [])) [] (sym (codes-one r true a (b ∷ []) w) ∙ e) .1))
 
   pub code-first : (code : ℕ) (k : Code) (unit : ℕ) (rest : List ℕ) → codes r (bytesOf code) ≡ k ∷ [] → k .means ≡ Found unit → codes r (bytesOf code ++ rest) ≡ k ∷ codes r rest
   unfolding codes bytesOf
@@ -81,13 +81,13 @@ module _ (classes singles pairs : List ℕ) where
     where
       by-size : (t : Bool) → callCodes r true none (pick t (code ∷ []) (code / 256 ∷ code % 256 ∷ [])) ≡ k ∷ [] → k .means ≡ Found unit
           → callCodes r true none (pick t (code ∷ []) (code / 256 ∷ code % 256 ∷ []) ++ rest) ≡ k ∷ callCodes r true none rest
-      by-size true e c = one-byte code k unit rest e c (isLead (entry classes code)) refl
-      by-size false e c = two-bytes (code / 256) (code % 256) k rest e (isLead (entry classes (code / 256))) refl
+      by-size true e c = one-byte code k unit rest e c (isLead (entryAt classes code)) refl
+      by-size false e c = two-bytes (code / 256) (code % 256) k rest e (isLead (entryAt classes (code / 256))) refl
 
 -- ---- a code with a character is written, with no flag
 found-taken : (r : Reader) (policy : Policy) (default value : ℕ) (k : Code) (ks : List Code) → k .means ≡ Found value
     → takeCodes (converter r policy default) endless (k ∷ ks) none ≡ after (sizeOf k) (r .writes value) 0 (takeCodes (converter r policy default) endless ks none)
-unfolding takeCodes converter effectOf takeCode takeWhen fits less
+unfolding takeCodes converter effectOf takeCode takeWhen fits roomLeft
 found-taken r policy default value k ks e = rw e
 
 -- what a reading without a flag is
@@ -152,7 +152,7 @@ returns-units p text h encoding decoding default₁ default₂ =
 -- the units of a text's codes, one after the other, are the text
 pub covered : (r : Reader) (text : List ℕ) → joined (codes r text) ≡ text
 unfolding codes
-covered r text = sym (append-nil _) ∙ ap (λ (w : Option ℕ). joined (callCodes r true none text) ++ waitingUnits w) (sym (none-waits r none text)) ∙ covers r true none text
+covered r text = sym (append-nil _) ∙ ap (λ (w : Option ℕ). joined (callCodes r true none text) ++ asUnits w) (sym (none-waits r none text)) ∙ covers r true none text
 
 -- the characters of codes that belong with them
 abbrev unitsBy : (p : CodePage) (ks : List Code) → CodesReturn p ks → List ℕ

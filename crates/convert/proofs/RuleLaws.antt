@@ -7,11 +7,11 @@ use native.Mathlib.Omega.{arith}
 use lib.Dec.{leb, ltb, eqb}
 use borrow.Author.Tests.{eqb-true, eqb-false, leb-true, ltb-true, ltb-false, le-leb, lt-ltb, not-true}
 use Rattle.codepage.specs.Reading.{isHigh}
+use Rattle.codepage.proofs.ShapeLaws.{and-left, and-right}
 use Rattle.engine.specs.declared.Direction.{Direction}
 use Rattle.engine.specs.declared.Direction.the-variants.{Decoding, Encoding}
 use Rattle.engine.specs.declared.Policy.{Policy}
 use Rattle.engine.specs.Policies.{stoppedFlag, highestSingle, policyAllowed}
-use Rattle.engine.proofs.EffectLaws.{and-left, and-right}
 use Rattle.convert.specs.declared.Pending.{Pending}
 use Rattle.convert.specs.declared.Pending.the-variants.{Nothing, Byte, High}
 use Rattle.convert.specs.declared.Run.{Run}
@@ -19,9 +19,11 @@ use Rattle.convert.specs.Runs.{isDecoding, isEncoding, pendingAllowed, v
 use Rattle.convert.proofs.CallLaws.{valid-facts, valid-of}
 
 -- ---- digits
+-- the first digit is at most the highest of the direction, the other two at most 5
 abbrev pub Digits : Direction → Policy → Type 0
 Digits direction policy = (policy .single ≤ highestSingle direction) × (policy .pair ≤ 5) × (policy .invalid ≤ 5)
 
+-- A policy is allowed exactly if its three digits are within those of the direction.
 pub digits-allowed : (direction : Direction) (policy : Policy) → (policyAllowed direction policy ≡ true) ↔ Digits direction policy
 unfolding policyAllowed
 digits-allowed direction policy = (
@@ -47,7 +49,7 @@ is-encoding : (direction : Direction) → isEncoding direction ≡ true → dire
 is-encoding Decoding e = absurd (false≢true e)
 is-encoding Encoding e = refl
 
--- what has to hold if a byte is carried, and if a unit is
+-- what has to hold if a byte is pending, and if a unit is
 abbrev ByteRule : Direction → Bool → (written read : ℕ) → Type 0
 ByteRule direction ended written read = (direction ≡ Decoding) × (ended ≡ false) × (written < read)
 

@@ -11,8 +11,9 @@ use lib.Dec.{leb, ltb, eqb}
 use lib.ListN.{length, getD, length-append}
 use lib.Bits.{bitOr, or-lt}
 use borrow.Author.Tests.{eqb-true, eqb-false, ltb-true, ltb-false, leb-true, eq-eqb, ne-eqb, lt-ltb, le-ltb, le-leb, not-true}
-use Rattle.codepage.specs.Reading.{isHigh, waitingUnits}
+use Rattle.codepage.specs.Reading.{isHigh, asUnits}
 use Rattle.codepage.specs.CodePage.{CodePage, pick}
+use Rattle.codepage.proofs.ShapeLaws.{and-left, and-right}
 use Rattle.engine.specs.declared.Direction.{Direction}
 use Rattle.engine.specs.declared.Direction.the-variants.{Decoding, Encoding}
 use Rattle.engine.specs.declared.Policy.{Policy}
@@ -21,10 +22,9 @@ use Rattle.convert.specs.declared.Pending.the-variants.{Nothing, Byte, H
 use Rattle.convert.specs.declared.Run.{Run}
 use Rattle.engine.specs.Policies.{policyAllowed}
 use Rattle.engine.specs.Engine.{Fed, limit, feedFrom}
-use Rattle.convert.specs.Runs.{readLimit, mostWritten, pendingAllowed, validRun, fresh, startOf}
-use Rattle.convert.specs.Calls.{refusal, ReadsOrSettles, pendingUnit, pendingCount, pendingAs, finalUnit, readOf, pendingAfter, endedAfter, runAfter, fedBy, acceptedCall, refusedCall, runCall}
+use Rattle.convert.specs.Runs.{readLimit, mostWritten, pendingAllowed, validRun, fresh, startOf, writtenLimit}
+use Rattle.convert.specs.Calls.{refusal, ReadsOrSettles, pendingUnit, pendingCount, pendingAs, finalUnit, unitsRead, pendingAfter, endedAfter, runAfter, fedBy, acceptedCall, refusedCall, runCall}
 use Rattle.engine.specs.Engine.{converterOf}
-use Rattle.engine.proofs.EffectLaws.{and-left, and-right}
 use Rattle.engine.proofs.EngineLaws.{Shape}
 use Rattle.engine.proofs.EncodeLaws.{encoder-high}
 use Rattle.engine.proofs.BoundLaws.{Kept, kept-from, reads, widest, bounded-of}
@@ -94,23 +94,23 @@ module _ (direction : Direction) (run : Run) (p : CodePage) (piece : List ℕ) (
   unfolding f fedBy
   kept = kept-from (widest direction) (converterOf direction p (run .policy)) (bounded-of direction p (run .policy)) last (limit room) (pendingUnit (run .pending)) piece
 
-  formed : Shape (converterOf direction p (run .policy)) last (waitingUnits (pendingUnit (run .pending)) ++ piece) f
+  formed : Shape (converterOf direction p (run .policy)) last (asUnits (pendingUnit (run .pending)) ++ piece) f
   unfolding f
   formed = feed-shape direction run p piece last room a
 
-  units : length (waitingUnits (pendingUnit (run .pending)) ++ piece) ≡ pendingCount (run .pending) + length piece
-  units = length-append (waitingUnits (pendingUnit (run .pending))) piece
+  units : length (asUnits (pendingUnit (run .pending)) ++ piece) ≡ pendingCount (run .pending) + length piece
+  units = length-append (asUnits (pendingUnit (run .pending))) piece
 
   abbrev read′ : ℕ
-  read′ = readOf (run .pending) (length piece) (f .answer) (f .used)
+  read′ = unitsRead (run .pending) (length piece) (f .answer) (f .used)
 
   -- what is read, in each case
   read-all : f .answer ≡ 1 → read′ ≡ length piece
-  unfolding readOf
+  unfolding unitsRead
   read-all e = rw (eq-eqb _ _ e)
 
   read-used : (f .answer ≡ 1 → ⊥) → read′ ≡ f .used - pendingCount (run .pending)
-  unfolding readOf
+  unfolding unitsRead
   read-used e = rw (ne-eqb _ _ e)
 
   flags-kept : bitOr (run .flags) (f .flags) ≤ 15
@@ -239,6 +239,7 @@ unfolding runCall f
 call-kept direction run p piece last room e =
     rw (eq-eqb (refusal direction run p (length piece)) 0 e) (accepted-kept direction run p piece last room (accepted-facts direction run p (length piece) e))
 
+-- A call with a refusal is the refused call: the run it was handed, nothing read, nothing written.
 pub refused-same : (direction : Direction) (run : Run) (p : CodePage) (piece : List ℕ) (last : Bool) (room : ℕ) → (refusal direction run p (length piece) ≡ 0 → ⊥)
     → runCall direction run p piece last room ≡ refusedCall (refusal direction run p (length piece)) run
 unfolding runCall
@@ -255,10 +256,10 @@ policy-stays direction run p piece last room = by-test (eqb (refusal direction r
     by-test false = refl
 
 -- TOTALS NEVER OVERFLOW: those of a run that keeps the rules fit 64 bits.
-pub totals-fit : (run : Run) → validRun run ≡ true → (run .read ≤ 4294967295) × (run .written ≤ 8589934590)
+pub totals-fit : (run : Run) → validRun run ≡ true → (run .read ≤ readLimit) × (run .written ≤ writtenLimit)
 totals-fit run e = (valid-facts run e .read, by-direction (run .direction) (valid-facts run e .written))
   where
-    by-direction : (d : Direction) → run .written ≤ mostWritten d (run .read) → run .written ≤ 8589934590
+    by-direction : (d : Direction) → run .written ≤ mostWritten d (run .read) → run .written ≤ writtenLimit
     by-direction Decoding h = omega (arith, valid-facts run e .read)
     by-direction Encoding h = omega (arith, valid-facts run e .read)
 

@@ -11,25 +11,26 @@ use Rattle.codepage.proofs.ShapeLaws.{shape-exact}
 use Rattle.engine.specs.declared.Direction.the-variants.{Decoding, Encoding}
 use Rattle.engine.specs.Engine.{readerOf}
 use Rattle.convert.specs.RoundTrips.{RoundTrips, UnitsReturn, BytesReturn}
-use Rattle.convert.specs.Sample.{samplePage, rows, standardRows, badHalfRows, surrogateRows, carriedRefusals, AllHold}
+use Rattle.convert.specs.Sample.{samplePage, rows, standardRows, badHalfRows, surrogateRows, pendingRefusals, RowsHold}
 use Rattle.convert.proofs.Computing.{shapeRules, readingRules, callRules}
 
+-- The sample page has a good shape.
 pub sample-good : GoodShape samplePage
 unfolding shapeRules
 sample-good = shape-exact samplePage .0 refl
 
 -- THE ROWS: one list, one claim.
-pub rows-hold : AllHold rows
+pub rows-hold : RowsHold rows
 unfolding callRules
 rows-hold = (refl, (refl, (refl, (refl, (refl, (refl, (refl, (refl, (refl, (refl, (refl, (refl, (refl, (refl, (refl, (refl, tt))))))))))))))))
 
 -- THE ROWS OF CR 4.
-pub standard-rows-hold : AllHold standardRows
+pub standard-rows-hold : RowsHold standardRows
 unfolding callRules
 standard-rows-hold = (refl, (refl, (refl, tt)))
 
 -- THE ROWS OF CR 2.
-pub bad-halves-hold : AllHold badHalfRows
+pub bad-halves-hold : RowsHold badHalfRows
 unfolding callRules
 bad-halves-hold = (refl, (refl, (refl, (refl, (refl, (refl, (refl, (refl, tt))))))))
 
@@ -44,13 +45,13 @@ unfolding readingRules
 bad-half-taken = refl
 
 -- THE ROWS OF CR 5.
-pub surrogates-hold : AllHold surrogateRows
+pub surrogates-hold : RowsHold surrogateRows
 unfolding callRules
 surrogates-hold = (refl, (refl, (refl, (refl, (refl, (refl, (refl, (refl, (refl, tt)))))))))
 
-pub carried-refused : AllHold carriedRefusals
+pub pending-refused : RowsHold pendingRefusals
 unfolding callRules
-carried-refused = (refl, (refl, (refl, (refl, (refl, (refl, (refl, tt)))))))
+pending-refused = (refl, (refl, (refl, (refl, (refl, (refl, (refl, tt)))))))
 
 -- their codes: D83D DE00 together, and D83D alone before 0041
 pub pair-together : codes (readerOf Encoding samplePage) (0xD83D ∷ 0xDE00 ∷ []) ≡ record { first = 0xD83D; more = 0xDE00 ∷ []; means = Lacking UndefinedSingle } ∷ []

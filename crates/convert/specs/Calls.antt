@@ -1,4 +1,4 @@
--- Document 01, "One call of a run", as amended by CR 2 and CR 5.
+-- Document 01, "One call of a run", as amended by CR 2 and CR 5. docs/RULES.md, "A call of a run".
 use mathlib.Core.Bool.{Bool, true, false, not, _&&_}
 use mathlib.Core.List.{List, [], _∷_, _++_}
 use mathlib.Core.Option.{Option, none, some}
@@ -8,8 +8,8 @@ use Prim.Native.Nat.{ℕ, _+_, _-_, _≤_}
 use lib.Dec.{leb, eqb}
 use lib.ListN.{length}
 use lib.Bits.{bitOr}
-use Rattle.codepage.specs.CodePage.{CodePage, pick, entry, isLead, firstFault, isGood}
-use Rattle.codepage.specs.Reading.{waitingUnits}
+use Rattle.codepage.specs.CodePage.{CodePage, pick, entryAt, isLead, firstFault, isGood}
+use Rattle.codepage.specs.Reading.{asUnits}
 use Rattle.engine.specs.declared.Direction.{Direction}
 use Rattle.engine.specs.declared.Direction.the-variants.{Decoding, Encoding}
 use Rattle.engine.specs.declared.Policy.{Policy}
@@ -37,6 +37,7 @@ numberOf PendingNotLead = 14
 numberOf RunEnded = 15
 numberOf ReadLimit = 16
 
+-- whether two directions are the same: the first half of check 13
 abbrev pub sameDirection : Direction → Direction → Bool
 sameDirection Decoding Decoding = true
 sameDirection Decoding Encoding = false
@@ -46,7 +47,7 @@ sameDirection Encoding Encoding = true
 -- a pending byte is a lead here; of a pending unit nothing is asked
 abbrev pub leadIn : (classes : List ℕ) → Pending → Bool
 leadIn classes Nothing = true
-leadIn classes (Byte byte) = isLead (entry classes byte)
+leadIn classes (Byte byte) = isLead (entryAt classes byte)
 leadIn classes (High unit) = true
 
 -- a check that holds, and the next one, or the number that it refuses with
@@ -84,7 +85,7 @@ pendingUnit (High unit) = some unit
 
 -- how many units are pending
 abbrev pub pendingCount : Pending → ℕ
-pendingCount pending = length (waitingUnits (pendingUnit pending))
+pendingCount pending = length (asUnits (pendingUnit pending))
 
 -- a unit of input that is pending: a byte in decoding, a unit in encoding
 abbrev pub pendingAs : Direction → ℕ → Pending
@@ -97,8 +98,8 @@ finalUnit direction pending [] = pending
 finalUnit direction pending (a ∷ units) = finalUnit direction (pendingAs direction a) units
 
 -- all of the piece where the final unit waits, else its units among those of the codes taken
-unfoldable pub readOf : Pending → (count answer used : ℕ) → ℕ
-readOf pending count answer used = pick (eqb answer 1) count (used - pendingCount pending)
+unfoldable pub unitsRead : Pending → (count answer used : ℕ) → ℕ
+unitsRead pending count answer used = pick (eqb answer 1) count (used - pendingCount pending)
 
 -- the final unit where it waits; what was pending stays so until a code with it is taken
 unfoldable pub pendingAfter : Direction → Pending → (piece : List ℕ) → (answer used : ℕ) → Pending
@@ -122,17 +123,19 @@ runAfter run pending read written flags ended =
       ended = ended;
     }
 
+-- What an accepted call takes: the codes of what is pending and the piece, under the run's policy, while they fit the room.
 unfoldable pub fedBy : Direction → Run → CodePage → (piece : List ℕ) → (last : Bool) → (room : ℕ) → Fed
 fedBy direction run p piece last room = feedFrom (converterOf direction p (run .policy)) last (limit room) (pendingUnit (run .pending)) piece
 
+-- An accepted call: the answer and the output of the codes taken, the units of the piece that were read, and the run after it.
 unfoldable pub acceptedCall : Run → (piece : List ℕ) → (last : Bool) → Fed → Called
 acceptedCall run piece last f =
     record {
       number = f .answer;
-      read = readOf (run .pending) (length piece) (f .answer) (f .used);
+      read = unitsRead (run .pending) (length piece) (f .answer) (f .used);
       output = f .output;
       run =
-          runAfter run (pendingAfter (run .direction) (run .pending) piece (f .answer) (f .used)) (readOf (run .pending) (length piece) (f .answer) (f .used)) (length (f .output)) (f .flags)
+          runAfter run (pendingAfter (run .direction) (run .pending) piece (f .answer) (f .used)) (unitsRead (run .pending) (length piece) (f .answer) (f .used)) (length (f .output)) (f .flags)
           (endedAfter last (f .answer));
     }
 
@@ -140,6 +143,7 @@ acceptedCall run piece last f =
 unfoldable pub refusedCall : ℕ → Run → Called
 refusedCall number run = record { number = number; read = 0; output = []; run = run }
 
+-- THE CALL: refused with the first number that applies and nothing changed, or accepted.
 unfoldable pub runCall : Direction → Run → CodePage → (piece : List ℕ) → (last : Bool) → (room : ℕ) → Called
 runCall direction run p piece last room =
     pick (eqb (refusal direction run p (length piece)) 0) (acceptedCall run piece last (fedBy direction run p piece last room))

@@ -1,4 +1,5 @@
 -- Document 01, "Reading one unit for bytes": when a unit and a code belong together, so that texts of them return.
+-- docs/RULES.md, "Reading units".
 use mathlib.Core.List.{List, [], _∷_, _++_}
 use mathlib.Core.Path.{_≡_}
 use Prim.Native.Nat.{ℕ}
@@ -29,6 +30,7 @@ pub record CodeReturns (p : CodePage) (k : Code) : Type 0 where
   pub bytes : unitsOf k ≡ bytesOf code
   pub belong : RoundTrips p unit code
 
+-- Codes each of which belongs with its character.
 abbrev pub CodesReturn : CodePage → List Code → Type 0
 CodesReturn p [] = Unit {0}
 CodesReturn p (k ∷ ks) = CodeReturns p k × CodesReturn p ks

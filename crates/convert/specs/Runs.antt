@@ -1,4 +1,5 @@
 -- Document 01, "The run and its saved line", as amended by CR 5: the run, its limits and rules, and the start of a run.
+-- docs/RULES.md, "The run, and its saved line".
 use mathlib.Core.Bool.{Bool, true, false, not, _&&_, _||_}
 use mathlib.Core.List.{List, [], _∷_}
 use mathlib.Core.Option.{Option, none, some}
@@ -21,13 +22,20 @@ use Rattle.engine.specs.Policies.{stoppedFlag, highestSingle, policyAllowed}
 abbrev pub pieceLimit : ℕ
 pieceLimit = 65536
 
+-- All that a run reads: 4,294,967,295 units; more is refused with 16.
 abbrev pub readLimit : ℕ
 readLimit = 4294967295
 
+-- so much can be written for it: two bytes a unit
+abbrev pub writtenLimit : ℕ
+writtenLimit = 8589934590
+
+-- whether a run turns bytes into units
 abbrev pub isDecoding : Direction → Bool
 isDecoding Decoding = true
 isDecoding Encoding = false
 
+-- whether a run turns units into bytes
 abbrev pub isEncoding : Direction → Bool
 isEncoding direction = not (isDecoding direction)
 
@@ -36,19 +44,20 @@ abbrev pub mostWritten : Direction → ℕ → ℕ
 mostWritten Decoding read = read
 mostWritten Encoding read = 2 * read
 
--- a carried byte only if decoding, not ended, written below read; a carried unit only if encoding, a high surrogate, not ended,
+-- a pending byte only if decoding, not ended, written below read; a pending unit only if encoding, a high surrogate, not ended,
 -- written plus 2 at most 2 × read
 abbrev pub pendingAllowed : Pending → Direction → (ended : Bool) → (written read : ℕ) → Bool
 pendingAllowed Nothing direction ended written read = true
 pendingAllowed (Byte byte) direction ended written read = isDecoding direction && (not ended && ltb written read)
 pendingAllowed (High unit) direction ended written read = isEncoding direction && (isHigh unit && (not ended && leb (written + 2) (2 * read)))
 
+-- all tests of a list hold
 abbrev pub every : List Bool → Bool
 every [] = true
 every (b ∷ bs) = b && every bs
 
 -- The run rules: page not 0; digits allowed; flags at most 15; read within the limit; written at most read or twice read;
--- flag 8 only if ended; a carried byte or unit only where it is allowed.
+-- flag 8 only if ended; a pending byte or unit only where it is allowed.
 unfoldable pub validRun : Run → Bool
 validRun run =
     every
@@ -75,9 +84,9 @@ pub record RunRules (run : Run) : Type 0 where
   pub written : run .written ≤ mostWritten (run .direction) (run .read)
   -- flag 8 only if ended
   pub stopped : stoppedFlag ≤ run .flags → run .ended ≡ true
-  -- a carried byte only if decoding, not ended, written below read
+  -- a pending byte only if decoding, not ended, written below read
   pub pending-byte : (byte : ℕ) → run .pending ≡ Byte byte → (run .direction ≡ Decoding) × (run .ended ≡ false) × (run .written < run .read)
-  -- a carried unit only if encoding, a high surrogate, not ended, written plus 2 at most 2 × read
+  -- a pending unit only if encoding, a high surrogate, not ended, written plus 2 at most 2 × read
   pub pending-high : (unit : ℕ) → run .pending ≡ High unit
       → (run .direction ≡ Encoding) × (0xD800 ≤ unit) × (unit ≤ 0xDBFF) × (run .ended ≡ false) × (run .written + 2 ≤ 2 * run .read)
 
@@ -100,6 +109,7 @@ pub record Start : Type 0 where
   pub number : ℕ
   pub run : Option Run
 
+-- A start is accepted if the page is not 0 and the digits are allowed in the direction; else it is refused with 17.
 unfoldable pub startOf : Direction → ℕ → Policy → Start
 startOf direction page policy =
     pick (not (eqb page 0) && policyAllowed direction policy) (record { number = 0; run = some (fresh direction page policy) }) (record { number = 17; run = none })

@@ -1,5 +1,6 @@
 -- Document 01, "The little page, and sixteen rows to prove": the sample page, and its rows of run calls, row 7 as amended by CR 2
 -- and row 15 by CR 5, each under 555 by name (CR 4) unless it names digits; and rows of CR 2, CR 4 and CR 5.
+-- docs/RULES.md, "The little page", above the first heading, has the page.
 use mathlib.Core.Bool.{Bool, true, false}
 use mathlib.Core.List.{List, [], _∷_, _++_}
 use mathlib.Core.Path.{_≡_}
@@ -44,8 +45,8 @@ samplePage =
           ++ (upFrom 0 0x80 ++ (noneOf 0x20 ++ (0x20 ∷ noneOf 0x5F)) ++ (set (set (noneOf 256) 0x00 0x8140) 0x01 0x8141 ++ set (noneOf 256) 0x00 0x827C));
     }
 
--- A row: a call of a run on the sample page, with the lent output before it; what is seen of it: its answer, what it read and
--- wrote, the lent output after it, and the new run's flags, totals, pending byte and end.
+-- What is seen of a call: its answer, what it read and wrote, the lent output after it, and the new run's flags, totals, what is
+-- pending, and whether it has ended.
 pub record Seen : Type 0 where
   pub number : ℕ
   pub read : ℕ
@@ -57,6 +58,7 @@ pub record Seen : Type 0 where
   pub pending : Pending
   pub ended : Bool
 
+-- A run call on the sample page: direction, run, piece, mark and lent output before it, and what must be seen of it.
 pub record Row : Type 0 where
   pub direction : Direction
   pub run : Run
@@ -82,6 +84,7 @@ seenOf before c =
       ended = c .run .ended;
     }
 
+-- The rules give what the row says is seen.
 abbrev pub RowHolds : Row → Type 0
 RowHolds r = seenOf (r .lent) (called r) ≡ r .seen
 
@@ -134,6 +137,7 @@ row4 =
           };
     }
 
+-- Rows 1 to 15 of document 01, in their order; row 16 is the saved line (traces/specs/Examples.antt).
 abbrev pub rows : List Row
 rows =
     -- 1. empty: nothing, 0, ended
@@ -240,9 +244,9 @@ standardRows =
     ∷ lastCall Decoding standard ample (0x80 ∷ 0x81 ∷ 0x5A ∷ 0x41 ∷ []) (allRead 4 (0x30FB ∷ 0x30FB ∷ 0x0041 ∷ []) (room 6) 3)
     ∷ []
 
--- a run that has read one unit and carries it
-abbrev pub carrying : Direction → Pending → Policy → Run
-carrying direction pending policy =
+-- a run that has read one unit, which is pending
+abbrev pub withPending : Direction → Pending → Policy → Run
+withPending direction pending policy =
     record {
       direction = direction;
       page = 7;
@@ -254,16 +258,16 @@ carrying direction pending policy =
       ended = false;
     }
 
--- a call, not marked last, on a decoding run that carries 82
-abbrev pub carriedCall : Policy → (lent : List ℕ) → List ℕ → Seen → Row
-carriedCall policy lent piece seen = record { direction = Decoding; run = carrying Decoding (Byte 0x82) policy; piece = piece; last = false; lent = lent; seen = seen }
+-- a call, not marked last, on a decoding run with 82 pending
+abbrev pub pendingByteCall : Policy → (lent : List ℕ) → List ℕ → Seen → Row
+pendingByteCall policy lent piece seen = record { direction = Decoding; run = withPending Decoding (Byte 0x82) policy; piece = piece; last = false; lent = lent; seen = seen }
 
 -- CR 2: when a lead is followed by a byte below 80 that may not be second, only the lead is the invalid code, and the next byte is
 -- read afresh; a byte of 80 or more is still taken with it.
 abbrev pub badHalfRows : List Row
 badHalfRows =
-    -- 82 carried, 0A, room 1: the lead is settled, 0A does not fit and stays unread
-    carriedCall replacing (room 1) (0x0A ∷ [])
+    -- 82 pending, 0A, room 1: the lead is settled, 0A does not fit and stays unread
+    pendingByteCall replacing (room 1) (0x0A ∷ [])
     (record {
       number = 2;
       read = 0;
@@ -275,8 +279,8 @@ badHalfRows =
       pending = Nothing;
       ended = false;
     })
-    -- room 0: nothing fits, the lead stays carried
-    ∷ carriedCall replacing [] (0x0A ∷ [])
+    -- room 0: nothing fits, the lead stays pending
+    ∷ pendingByteCall replacing [] (0x0A ∷ [])
     (record {
       number = 2;
       read = 0;
@@ -289,7 +293,7 @@ badHalfRows =
       ended = false;
     })
     -- policy 551, room 0: the lead is skipped; nothing is read, nothing written, and the run has changed
-    ∷ carriedCall (digits 5 5 1) [] (0x0A ∷ [])
+    ∷ pendingByteCall (digits 5 5 1) [] (0x0A ∷ [])
     (record {
       number = 2;
       read = 0;
@@ -302,7 +306,7 @@ badHalfRows =
       ended = false;
     })
     -- policy 550: stopped, with 0A unread
-    ∷ carriedCall (digits 5 5 0) ample (0x0A ∷ [])
+    ∷ pendingByteCall (digits 5 5 0) ample (0x0A ∷ [])
     (record {
       number = 3;
       read = 0;
@@ -315,7 +319,7 @@ badHalfRows =
       ended = true;
     })
     -- room enough: the lead, and 0A by itself
-    ∷ carriedCall replacing ample (0x0A ∷ [])
+    ∷ pendingByteCall replacing ample (0x0A ∷ [])
     (record {
       number = 0;
       read = 1;
@@ -327,8 +331,8 @@ badHalfRows =
       pending = Nothing;
       ended = false;
     })
-    -- 81, a lead that may not be second: taken with it, not carried
-    ∷ carriedCall replacing (room 1) (0x81 ∷ [])
+    -- 81, a lead that may not be second: taken with it, not pending
+    ∷ pendingByteCall replacing (room 1) (0x81 ∷ [])
     (record {
       number = 0;
       read = 1;
@@ -345,15 +349,15 @@ badHalfRows =
     ∷ lastCall Decoding replacing ample (0x82 ∷ 0x80 ∷ []) (allRead 2 (0x30FB ∷ []) (room 8) 4)
     ∷ []
 
--- a call on an encoding run that carries D83D
+-- a call on an encoding run with D83D pending
 abbrev pub highCall : Policy → (last : Bool) → (lent : List ℕ) → List ℕ → Seen → Row
-highCall policy last lent piece seen = record { direction = Encoding; run = carrying Encoding (High 0xD83D) policy; piece = piece; last = last; lent = lent; seen = seen }
+highCall policy last lent piece seen = record { direction = Encoding; run = withPending Encoding (High 0xD83D) policy; piece = piece; last = last; lent = lent; seen = seen }
 
 -- CR 5: a high surrogate followed by a low one is one undefined single of two units; a surrogate otherwise is invalid, one unit, and
--- the unit after it is read afresh. Encoding runs carry a high surrogate between pieces.
+-- the unit after it is read afresh. A high surrogate is pending between pieces.
 abbrev pub surrogateRows : List Row
 surrogateRows =
-    -- D83D not last, room 0: 1, carried
+    -- D83D not last, room 0: 1, pending
     record {
       direction = Encoding;
       run = fresh Encoding 7 replacing;
@@ -373,7 +377,7 @@ surrogateRows =
             ended = false;
           };
     }
-    -- D83D carried, DE00 last: one 3F, flag 1
+    -- D83D pending, DE00 last: one 3F, flag 1
     ∷ highCall replacing true (room 1) (0xDE00 ∷ [])
     (record {
       number = 0;
@@ -399,7 +403,7 @@ surrogateRows =
       pending = Nothing;
       ended = false;
     })
-    -- D83D again, not last: the first is settled alone, the second is carried
+    -- D83D again, not last: the first is settled alone, the second is pending
     ∷ highCall replacing false (room 1) (0xD83D ∷ [])
     (record {
       number = 1;
@@ -468,22 +472,23 @@ refusedRow direction run =
           };
     }
 
--- CR 5: under 12 a carried unit is allowed in an encoding run if it is a high surrogate, the run is not ended, and written plus 2 is
+-- CR 5: under 12 a pending unit is allowed in an encoding run if it is a high surrogate, the run is not ended, and written plus 2 is
 -- at most 2 × read.
-abbrev pub carriedRefusals : List Row
-carriedRefusals =
+abbrev pub pendingRefusals : List Row
+pendingRefusals =
     -- a low surrogate; a unit that is none; the units beside the high ones
-    refusedRow Encoding (carrying Encoding (High 0xDC00) replacing)
-    ∷ refusedRow Encoding (carrying Encoding (High 0x0041) replacing)
-    ∷ refusedRow Encoding (carrying Encoding (High 0xD7FF) replacing)
+    refusedRow Encoding (withPending Encoding (High 0xDC00) replacing)
+    ∷ refusedRow Encoding (withPending Encoding (High 0x0041) replacing)
+    ∷ refusedRow Encoding (withPending Encoding (High 0xD7FF) replacing)
     -- a byte in encoding, a unit in decoding
-    ∷ refusedRow Encoding (carrying Encoding (Byte 0x82) replacing)
-    ∷ refusedRow Decoding (carrying Decoding (High 0xD83D) replacing)
+    ∷ refusedRow Encoding (withPending Encoding (Byte 0x82) replacing)
+    ∷ refusedRow Decoding (withPending Decoding (High 0xD83D) replacing)
     -- read 1, written 1; ended
     ∷ refusedRow Encoding (record { direction = Encoding; page = 7; policy = replacing; pending = High 0xD83D; flags = 0; read = 1; written = 1; ended = false })
     ∷ refusedRow Encoding (record { direction = Encoding; page = 7; policy = replacing; pending = High 0xD83D; flags = 0; read = 1; written = 0; ended = true })
     ∷ []
 
-abbrev pub AllHold : List Row → Type 0
-AllHold [] = Unit {0}
-AllHold (r ∷ rs) = RowHolds r × AllHold rs
+-- Every row of a list holds.
+abbrev pub RowsHold : List Row → Type 0
+RowsHold [] = Unit {0}
+RowsHold (r ∷ rs) = RowHolds r × RowsHold rs

@@ -13,22 +13,24 @@ use Rattle.convert.specs.declared.Pending.the-variants.{Nothing, Byte, H
 use Rattle.convert.specs.declared.Run.{Run}
 use Rattle.convert.specs.declared.Outcome.{Outcome}
 use Rattle.convert.specs.Runs.{pieceLimit, readLimit, isDecoding, isEncoding, mostWritten, validRun}
-use Rattle.convert.specs.Calls.{numberOf, sameDirection, leadIn, check, pendingUnit, readOf, runAfter, endedAfter}
+use Rattle.convert.specs.Calls.{numberOf, sameDirection, leadIn, check, pendingUnit, unitsRead, runAfter, endedAfter}
 
--- what is pending as a flag and a number
+-- whether there is a unit
 abbrev pub isSome : Option ℕ → Bool
 isSome none = false
 isSome (some unit) = true
 
+-- whether a byte or a unit is pending
 abbrev pub hasPending : Pending → Bool
 hasPending pending = isSome (pendingUnit pending)
 
--- the byte of a decoding run, the unit of an encoding run
+-- the pending byte of a decoding run; 0 where none is
 abbrev pub pendingByte : Pending → ℕ
 pendingByte Nothing = 0
 pendingByte (Byte byte) = byte
 pendingByte (High unit) = 0
 
+-- the pending unit of an encoding run, a high surrogate; 0 where none is
 abbrev pub pendingHigh : Pending → ℕ
 pendingHigh Nothing = 0
 pendingHigh (Byte byte) = 0
@@ -44,20 +46,21 @@ pendingAgrees (High unit) direction = isEncoding direction && isHigh unit
 abbrev pub mostOfOne : Direction → ℕ
 mostOfOne direction = mostWritten direction 1
 
--- the checks of a run call in two parts: 11 to 13, and 14 to 16
+-- the checks of a run call behind the shape's in two parts; 11 to 13: the piece, the run rules, direction and page
 abbrev pub runRefusal : Direction → Run → (page count : ℕ) → ℕ
 runRefusal direction run page count =
     check 11 (leb count pieceLimit) (check 12 (validRun run) (check 13 (sameDirection direction (run .direction) && eqb (run .page) page) 0))
 
+-- checks 14 to 16: the pending byte is a lead here, the run has not ended, the total stays within the limit
 abbrev pub restRefusal : Run → (classes : List ℕ) → (count : ℕ) → ℕ
 restRefusal run classes count = check 14 (leadIn classes (run .pending)) (check 15 (not (run .ended)) (check 16 (leb (run .read + count) readLimit) 0))
 
 -- the result of an accepted call
 pub record Finished (run : Run) (s : Progress) (pending : Pending) (count : ℕ) (last : Bool) (r : Outcome) : Type 0 where
   pub number : numberOf (r .answer) ≡ s .answer
-  pub read : r .read ≡ readOf (run .pending) count (s .answer) (s .used)
+  pub read : r .read ≡ unitsRead (run .pending) count (s .answer) (s .used)
   pub written : r .written ≡ s .written
-  pub run′ : r .run ≡ runAfter run pending (readOf (run .pending) count (s .answer) (s .used)) (s .written) (s .flags) (endedAfter last (s .answer))
+  pub run′ : r .run ≡ runAfter run pending (unitsRead (run .pending) count (s .answer) (s .used)) (s .written) (s .flags) (endedAfter last (s .answer))
 
 -- the result of a refused call
 pub record Refused (number : ℕ) (run : Run) (r : Outcome) : Type 0 where

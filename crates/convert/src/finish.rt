@@ -6,7 +6,7 @@ ghost use lib.ListN.{length};
 ghost use Rattle.codepage.specs.CodePage.{pick};
 ghost use Rattle.engine.specs.declared.Direction.the-variants.{Decoding, Encoding};
 ghost use Rattle.convert.specs.Runs.{readLimit};
-ghost use Rattle.convert.specs.Calls.{numberOf, pendingCount, finalUnit, readOf, pendingAfter, endedAfter};
+ghost use Rattle.convert.specs.Calls.{numberOf, pendingCount, finalUnit, unitsRead, pendingAfter, endedAfter};
 ghost use Rattle.convert.specs.Steps.{hasPending, pendingByte, pendingHigh, Finished, Refused};
 use crate::Answer;
 use crate::Outcome;
@@ -14,6 +14,7 @@ use crate::Pending;
 use crate::Run;
 use engine::progress::Progress;
 
+// Whether a byte or a unit is pending.
 pub fn has_pending(pending: Pending) -> bool
     ensures { λ r. ⌜ r ≡ hasPending pending ⌝ }
 {
@@ -24,6 +25,7 @@ pub fn has_pending(pending: Pending) -> bool
     }
 }
 
+// The pending byte of a decoding run; 0 where none is.
 pub fn pending_byte(pending: Pending) -> u8
     ensures { λ r. ⌜ r ≡ pendingByte pending ⌝ }
 {
@@ -34,6 +36,7 @@ pub fn pending_byte(pending: Pending) -> u8
     }
 }
 
+// The pending unit of an encoding run, a high surrogate; 0 where none is.
 pub fn pending_high(pending: Pending) -> u16
     ensures { λ r. ⌜ r ≡ pendingHigh pending ⌝ }
 {
@@ -44,6 +47,7 @@ pub fn pending_high(pending: Pending) -> u16
     }
 }
 
+// How many units are pending: 0 or 1.
 fn pending_count(pending: Pending) -> usize
     ensures { λ r. ⌜ r ≡ pendingCount pending ⌝ }
 {
@@ -104,8 +108,10 @@ pub fn pending_after_units(pending: Pending, s: Progress, piece: &[u16]) -> Pend
     kept_pending(pending, s)
 }
 
+// The units of the piece that the call read: all of it where its final unit waits, else those of the codes taken without the one
+// that was pending.
 fn read_of(pending: Pending, count: usize, s: Progress) -> usize
-    ensures { λ r. ⌜ r ≡ readOf pending count (s .answer) (s .used) ⌝ }
+    ensures { λ r. ⌜ r ≡ unitsRead pending count (s .answer) (s .used) ⌝ }
 {
     if s.answer == 1 {
         return count;
@@ -118,6 +124,7 @@ fn read_of(pending: Pending, count: usize, s: Progress) -> usize
     used - before
 }
 
+// Whether the run has ended: at a stop, and in a call marked last when all is read and nothing is pending.
 fn ended_after(last: bool, answer: u8) -> bool
     ensures { λ r. ⌜ r ≡ endedAfter last answer ⌝ }
 {
@@ -130,6 +137,7 @@ fn ended_after(last: bool, answer: u8) -> bool
     false
 }
 
+// The answer of an accepted call, by its number.
 fn answer_of(answer: u8) -> Answer
     requires { ⌜ answer ≤ 3 ⌝ }
     ensures { λ r. ⌜ numberOf r ≡ answer ⌝ }
@@ -142,6 +150,7 @@ fn answer_of(answer: u8) -> Answer
     }
 }
 
+// The answer of a refused call, by its number.
 fn refusal_of(number: u8) -> Answer
     requires { ⌜ (10 ≤ number) × (number ≤ 16) ⌝ }
     ensures { λ r. ⌜ numberOf r ≡ number ⌝ }

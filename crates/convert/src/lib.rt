@@ -1,5 +1,17 @@
-// A conversion between code page bytes and UTF-16 units as a run that is fed in pieces. (Document 01.)
+// A conversion between code page bytes and UTF-16 units, as a run that is fed in pieces. (Document 01; docs/RULES.md, "A call of a
+// run" and "The run, and its saved line".)
+//
+// In the order of use: `Run::start` gives a fresh run, or refuses (17); `decode` or `encode` takes the run, the tables, the next piece,
+// whether it is the last one, and room for output, and gives an answer, what was read and written, and the run for the next call.
+// `checkpoint` saves a run as a line of text.
+//
+//     let mut run = ..;                        // Run::start(Direction::Decoding, numbers.page, Policy::standard())
+//     let outcome = convert::decode(run, numbers, classes, singles, pairs, index, blocks, piece, last, out);
+//     run = outcome.run;                       // outcome.answer.number(), outcome.read, outcome.written
+//
+// With one place of room more than the piece has bytes (encoding: one byte more than twice its units) no answer is 2.
 mod finish;
+mod refusals;
 pub mod rules;
 
 ghost use mathlib.Core.Path.{_≡_};
@@ -15,10 +27,10 @@ ghost use Rattle.convert.specs.Runs.{startOf, startedAs};
 ghost use Rattle.convert.specs.Calls.{numberOf, runCall, Answered};
 use codepage::Numbers;
 use engine::policies;
-use loops::decoder;
-use loops::encoder;
+use engine_loops::decoder;
+use engine_loops::encoder;
 
-// What was read at the end of a piece and waits for what follows (documents 01 and 02: what is carried), or none.
+// What was read at the end of a piece and waits for what follows (documents 01 and 02: what is pending), or none.
 pub enum Pending {
     Nothing,
     // A lead byte, in a decoding run.
@@ -147,8 +159,8 @@ pub fn decode(
     if !codepage::shape::good_shape(numbers, classes, singles, pairs, index, blocks) {
         return finish::refused(10, run);
     }
-    let first = rules::run_refusal(Direction::Decoding, run, numbers.page, piece.len());
-    let number = rules::refusal(
+    let first = refusals::run_refusal(Direction::Decoding, run, numbers.page, piece.len());
+    let number = refusals::refusal(
         Direction::Decoding,
         first,
         run,
@@ -208,8 +220,8 @@ pub fn encode(
     if !codepage::shape::good_shape(numbers, classes, singles, pairs, index, blocks) {
         return finish::refused(10, run);
     }
-    let first = rules::run_refusal(Direction::Encoding, run, numbers.page, piece.len());
-    let number = rules::refusal(
+    let first = refusals::run_refusal(Direction::Encoding, run, numbers.page, piece.len());
+    let number = refusals::refusal(
         Direction::Encoding,
         first,
         run,

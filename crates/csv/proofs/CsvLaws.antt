@@ -16,6 +16,7 @@ use Rattle.csv.specs.Csv.{isSpecial, needsQuotes, escaped, escapedField,
 use Rattle.csv.specs.Records.{breakIf, partText, PutAs}
 use Rattle.csv.specs.Steps.{laidAt, Laid, oneIf, when, inQuotes, inOrder}
 
+-- nothing behind a list changes nothing
 pub append-none : (l : List ℕ) → l ++ [] ≡ l
 append-none [] = refl
 append-none (u ∷ l) = ap (λ (r : List ℕ). u ∷ r) (append-none l)
@@ -69,6 +70,7 @@ laid-all text before after r h laid =
           ∙ ap (λ (b : Bool). over before (pick b text [])) (sym (le-leb _ _ h));
     }
 
+-- a text that does not fit: no room, and the lent slice is as before
 pub laid-none : (text before : List ℕ) → length before < length text → PutAs text NoRoom before before
 unfolding over
 laid-none text before h =
@@ -78,6 +80,7 @@ laid-none text before h =
     }
 
 -- ---- a unit, if it is wanted
+-- a unit that is wanted is one unit, else none
 pub when-length : (wanted : Bool) (unit : ℕ) → length (when wanted unit) ≡ oneIf wanted
 unfolding when
 when-length true unit = refl
@@ -91,6 +94,7 @@ leb-rest a b c room h k = by (leb c (room - a - b)) refl
     by true e = let s : c ≤ room - a - b = leb-true _ _ e in e ∙ sym (le-leb (a + b + c) room (omega arith))
     by false e = let s : room - a - b < c = leb-false _ _ e in e ∙ sym (lt-leb (a + b + c) room (omega arith))
 
+-- a unit that may be wanted needs at most one place
 pub one-most : (wanted : Bool) → oneIf wanted ≤ 1
 one-most true = omega arith
 one-most false = omega arith
@@ -101,6 +105,7 @@ module _ (before : List ℕ) (place unit : ℕ) where
   unfolding laidAt
   store-one h = sets-eq (unit ∷ []) before place (omega arith)
 
+  -- a unit that is wanted is stored at the place
   pub laid-wanted : (wanted : Bool) → wanted ≡ true → place < length before → Laid before (set before place unit) place (when wanted unit) (place + 1)
   unfolding when
   laid-wanted wanted e h =
@@ -109,6 +114,7 @@ module _ (before : List ℕ) (place unit : ℕ) where
         next = ap (λ (b : Bool). place + length (pick b (unit ∷ []) [])) (sym e);
       }
 
+  -- a unit that is not wanted: nothing is stored, and the place stays
   pub laid-unwanted : (wanted : Bool) → wanted ≡ false → Laid before before place (when wanted unit) place
   unfolding when
   laid-unwanted wanted e =
@@ -117,6 +123,7 @@ module _ (before : List ℕ) (place unit : ℕ) where
         next = let z : place ≡ place + 0 = omega arith in z ∙ ap (λ (b : Bool). place + length (pick b (unit ∷ []) [])) (sym e);
       }
 
+  -- a unit that is no quote is stored as it is
   pub laid-other : (unit ≡ 0x22 → ⊥) → place < length before → Laid before (set before place unit) place (escaped unit) (place + 1)
   unfolding escaped
   laid-other e h =
@@ -125,6 +132,7 @@ module _ (before : List ℕ) (place unit : ℕ) where
         next = ap (λ (b : Bool). place + length (pick b (0x22 ∷ 0x22 ∷ []) (unit ∷ []))) (sym (ne-eqb _ _ e));
       }
 
+  -- a quote of a field is stored twice
   pub laid-quote : unit ≡ 0x22 → place + 2 ≤ length before → Laid before (set (set before place 0x22) (place + 1) 0x22) place (escaped unit) (place + 2)
   unfolding escaped laidAt
   laid-quote e h =
@@ -141,6 +149,7 @@ pub quote-length : (unit : ℕ) → unit ≡ 0x22 → length (escaped unit) ≡ 
 unfolding escaped
 quote-length unit e = ap (λ (b : Bool). length (pick b (0x22 ∷ 0x22 ∷ []) (unit ∷ []))) (eq-eqb _ _ e)
 
+-- a unit that is no quote is written once
 pub other-length : (unit : ℕ) → (unit ≡ 0x22 → ⊥) → length (escaped unit) ≡ 1
 unfolding escaped
 other-length unit e = ap (λ (b : Bool). length (pick b (0x22 ∷ 0x22 ∷ []) (unit ∷ []))) (ne-eqb _ _ e)
@@ -160,6 +169,7 @@ module _ (field : List ℕ) (i : ℕ) (h : i < length field) where
       ∙ escaped-append (take i field) (getD field i 0 ∷ [])
       ∙ ap (λ (l : List ℕ). escapedField (take i field) ++ l) (append-none (escaped (getD field i 0)))
 
+  -- room for the whole field is room for the units written so far and the next one
   pub escaped-rest : length (escapedField (take i field)) + length (escaped (getD field i 0)) ≤ length (escapedField field)
   unfolding escapedField
   escaped-rest =
@@ -183,35 +193,42 @@ module _ (field : List ℕ) (i : ℕ) (h : i < length field) where
   count-turn count r a b =
       ap length escaped-turn ∙ omega (arith, length-append (escapedField (take i field)) (escaped (getD field i 0)))
 
+-- all units are looked at: the field as written is longer by the quotes counted
 pub count-end : (field : List ℕ) (i count : ℕ) → length (escapedField (take i field)) ≡ i + count → length field ≤ i → i ≤ length field
     → length (escapedField field) ≡ length field + count
 count-end field i count e h k = ap (λ (l : List ℕ). length (escapedField l)) (sym (take-all i field h)) ∙ omega arith
 
+-- before the first unit of a field nothing is laid
 pub laid-start : (before field : List ℕ) (place : ℕ) → Laid before before place (escapedField (take 0 field)) place
 unfolding escapedField
 laid-start before field place = record { lent = sym (laid-nothing before place); next = omega arith }
 
+-- behind the last unit of a field all of it is laid
 pub laid-whole : {before after : List ℕ} {place at : ℕ} (field : List ℕ) (i : ℕ) → length field ≤ i → Laid before after place (escapedField (take i field)) at
     → Laid before after place (escapedField field) at
 laid-whole {before} {after} {place} {at} field i h a = subst (λ (l : List ℕ). Laid before after place (escapedField l) at) (take-all i field h) a
 
 -- ---- whether a field has to be quoted
 module _ (field : List ℕ) (i : ℕ) (so-far : needsQuotes field ≡ needsQuotes (drop i field)) (h : i < length field) where
+  -- a unit that has to be quoted: the field has to be
   pub needs-stop : isSpecial (getD field i 0) ≡ true → true ≡ needsQuotes field
   unfolding needsQuotes
   needs-stop e = sym (so-far ∙ ap needsQuotes (drop-cons field i 0 h) ∙ ap (λ (b : Bool). b || needsQuotes (drop (suc i) field)) e)
 
+  -- any other unit: the units behind it decide
   pub needs-turn : isSpecial (getD field i 0) ≡ false → needsQuotes field ≡ needsQuotes (drop (i + 1) field)
   unfolding needsQuotes
   needs-turn e =
       so-far ∙ ap needsQuotes (drop-cons field i 0 h) ∙ ap (λ (b : Bool). b || needsQuotes (drop (suc i) field)) e
       ∙ ap (λ (n : ℕ). needsQuotes (drop n field)) (sym (add-one i))
 
+-- no unit has to be quoted: the field stays without quotes
 pub needs-end : (field : List ℕ) (i : ℕ) → needsQuotes field ≡ needsQuotes (drop i field) → length field ≤ i → false ≡ needsQuotes field
 unfolding needsQuotes
 needs-end field i e h = sym (e ∙ ap needsQuotes (drop-of-length-le field h))
 
 -- ---- the order in which a part is laid
+-- neither of two tests holds if their disjunction does not
 pub or-false : (a b : Bool) → (a || b) ≡ false → (a ≡ false) × (b ≡ false)
 or-false false b e = (refl, e)
 or-false true b e = absurd (true≢false e)
@@ -248,6 +265,7 @@ break-length true = refl
 break-length false = refl
 
 module _ (quotes : Bool) (field : List ℕ) where
+  -- the length of a field's text: its units with doubled quotes, and two if it is in quotes
   pub quotes-length : length (inQuotes quotes field) ≡ length (escapedField field) + 2 * oneIf quotes
   unfolding inQuotes
   quotes-length =
@@ -258,6 +276,7 @@ module _ (quotes : Bool) (field : List ℕ) where
         when-length quotes 0x22,
       )
 
+  -- the length of a call's text: the field's units with doubled quotes, and what stands before and behind them
   pub order-length : (begun closed : Bool) → length (inOrder begun quotes closed field) ≡ length (escapedField field) + (oneIf begun + 2 * oneIf quotes + 2 * oneIf closed)
   unfolding inOrder
   order-length begun closed =
@@ -279,6 +298,7 @@ quotes-laid quotes field h x y z same =
     both (omega (arith, when-length quotes 0x22, quotes-length quotes field)) x
     (both (omega (arith, x .next, when-length quotes 0x22, quotes-length quotes field)) y z)
 
+-- the comma, the field and the line break, laid one behind the other from the front, are the call's text
 pub part-laid : {before a b after : List ℕ} {p q r : ℕ} (begun quotes closed : Bool) (field : List ℕ) → length (inOrder begun quotes closed field) ≤ length before
     → Laid before a 0 (when begun 0x2C) p → Laid a b p (inQuotes quotes field) q → Laid b after q (breakIf closed) r → length a ≡ length before
     → Laid before after 0 (inOrder begun quotes closed field) r
@@ -289,6 +309,7 @@ part-laid begun quotes closed field h x y z same =
 
 -- a line break
 module _ (before : List ℕ) (place : ℕ) (wanted : Bool) where
+  -- a line break that is wanted is stored as 000D 000A
   pub break-laid : wanted ≡ true → place + 2 ≤ length before → Laid before (set (set before place 0x0D) (place + 1) 0x0A) place (breakIf wanted) (place + 2)
   unfolding breakIf laidAt
   break-laid e h =
@@ -300,6 +321,7 @@ module _ (before : List ℕ) (place : ℕ) (wanted : Bool) where
         next = ap (λ (b : Bool). place + length (pick b lineEnd [])) (sym e);
       }
 
+  -- a line break that is not wanted: nothing is stored, and the place stays
   pub break-unwanted : wanted ≡ false → Laid before before place (breakIf wanted) place
   unfolding breakIf
   break-unwanted e =
@@ -318,14 +340,17 @@ module _ (begun quotes closed : Bool) (field before : List ℕ) (count more : �
   part-size : length (inOrder begun quotes closed field) ≡ length field + count + more
   part-size = omega (arith, order-length quotes field begun closed)
 
+  -- the count is over the room: the promise holds with nothing written
   pub part-none : fits ≡ false → PutAs (partText begun field closed) NoRoom before before
   part-none e =
       let s : length before < length field + count + more = leb-false _ _ (sym f ∙ e) in
       subst (λ (l : List ℕ). PutAs l NoRoom before before) part-is (laid-none (inOrder begun quotes closed field) before (omega (arith, part-size)))
 
+  -- the count is within the room: the text fits
   pub part-room : fits ≡ true → length (inOrder begun quotes closed field) ≤ length before
   part-room e = let s : length field + count + more ≤ length before = leb-true _ _ (sym f ∙ e) in omega (arith, part-size)
 
+  -- the count is within the room and the text is laid: the promise holds with its length
   pub part-whole : {after : List ℕ} {r : ℕ} → fits ≡ true → Laid before after 0 (inOrder begun quotes closed field) r → PutAs (partText begun field closed) (Units r) before after
   part-whole {after} {r} e laid =
       subst (λ (l : List ℕ). PutAs l (Units r) before after) part-is (laid-all (inOrder begun quotes closed field) before after r (part-room e) laid)

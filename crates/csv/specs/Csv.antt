@@ -9,6 +9,7 @@ use Rattle.codepage.specs.CodePage.{pick}
 abbrev pub isSpecial : (unit : ℕ) → Bool
 isSpecial unit = eqb unit 0x2C || (eqb unit 0x22 || (eqb unit 0x0D || eqb unit 0x0A))
 
+-- whether a field has a comma, a quote, a carriage return or a line feed
 unfoldable pub needsQuotes : (field : List ℕ) → Bool
 needsQuotes [] = false
 needsQuotes (unit ∷ field) = isSpecial unit || needsQuotes field
@@ -17,10 +18,12 @@ needsQuotes (unit ∷ field) = isSpecial unit || needsQuotes field
 unfoldable pub escaped : (unit : ℕ) → List ℕ
 escaped unit = pick (eqb unit 0x22) (0x22 ∷ 0x22 ∷ []) (unit ∷ [])
 
+-- a field's units, each quote written twice
 unfoldable pub escapedField : (field : List ℕ) → List ℕ
 escapedField [] = []
 escapedField (unit ∷ field) = escaped unit ++ escapedField field
 
+-- a field in quotes
 unfoldable pub quoted : (field : List ℕ) → List ℕ
 quoted field = 0x22 ∷ (escapedField field ++ (0x22 ∷ []))
 
@@ -37,10 +40,12 @@ pub record Row : Type 0 where
 abbrev pub lineEnd : List ℕ
 lineEnd = 0x0D ∷ 0x0A ∷ []
 
+-- the fields behind a record's first one, a comma before each, and the line break
 unfoldable pub othersText : (others : List (List ℕ)) → List ℕ
 othersText [] = lineEnd
 othersText (field ∷ others) = 0x2C ∷ (fieldText field ++ othersText others)
 
+-- a record with its line break
 unfoldable pub rowText : Row → List ℕ
 rowText row = fieldText (row .first) ++ othersText (row .others)
 

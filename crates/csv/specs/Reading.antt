@@ -19,6 +19,7 @@ pub data Mark : Type 0 where
   feed : Mark
   other : Mark
 
+-- the mark of a unit: of the four that the grammar names, or any other
 unfoldable pub mark : (unit : ℕ) → Mark
 mark unit = pick (eqb unit 0x22) quote (pick (eqb unit 0x2C) comma (pick (eqb unit 0x0D) return (pick (eqb unit 0x0A) feed other)))
 
@@ -39,16 +40,19 @@ pub data Rest : Type 0 where
   no-more : Rest
   going : (field : List ℕ) → (others : List (List ℕ)) → (rows : List Row) → Rest
 
+-- a unit of the field at hand, in front of what the rest says of that field
 unfoldable pub withUnit : (unit : ℕ) → Rest → Rest
 withUnit unit broken = broken
 withUnit unit no-more = broken
 withUnit unit (going field others rows) = going (unit ∷ field) others rows
 
+-- the field at hand ends; what the rest says first is the next field of the record
 unfoldable pub behindComma : Rest → Rest
 behindComma broken = broken
 behindComma no-more = broken
 behindComma (going field others rows) = going [] (field ∷ others) rows
 
+-- the field at hand and its record end; what the rest says first is the next record, if there is one
 unfoldable pub behindBreak : Rest → Rest
 behindBreak broken = broken
 behindBreak no-more = going [] [] []
@@ -87,6 +91,7 @@ step in-quotes other unit rest = withUnit unit (rest in-quotes)
 step behind-quote other unit rest = broken
 step line-breaks other unit rest = broken
 
+-- the text's end: allowed only where a record would begin
 unfoldable pub ended : State → Rest
 ended record-begins = no-more
 ended field-begins = broken
@@ -95,10 +100,12 @@ ended in-quotes = broken
 ended behind-quote = broken
 ended line-breaks = broken
 
+-- what a text says from a state on
 unfoldable pub reading : State → (text : List ℕ) → Rest
 reading state [] = ended state
 reading state (unit ∷ text) = step state (mark unit) unit (λ next. reading next text)
 
+-- the records of what a text says, from the beginning of a record on
 unfoldable pub rowsIn : Rest → Option (List Row)
 rowsIn broken = none
 rowsIn no-more = some []

@@ -25,6 +25,7 @@ abbrev pub openBefore : (units : List ℕ) → List Row → List Row
 openBefore units [] = record { first = units; others = [] } ∷ []
 openBefore units (row ∷ rows) = record { first = units; others = row .first ∷ row .others } ∷ rows
 
+-- a field in front of the records behind it: a record of its own if it closes one, else the first field of the next
 abbrev pub rowsBefore : (closed : Bool) → (units : List ℕ) → List Row → List Row
 rowsBefore true units rows = record { first = units; others = [] } ∷ rows
 rowsBefore false units rows = openBefore units rows
@@ -34,12 +35,13 @@ unfoldable pub recordsOf : List Field → List Row
 recordsOf [] = []
 recordsOf (field ∷ fields) = rowsBefore (closes (field .end)) (field .units) (recordsOf fields)
 
--- The records that some fields close: a record that is still open behind the last field is none of them.
+-- a field in front of closed records: one of its own if it closes a record, else the first field of the next, if there is one
 abbrev pub closedBefore : (closed : Bool) → (units : List ℕ) → List Row → List Row
 closedBefore true units rows = record { first = units; others = [] } ∷ rows
 closedBefore false units [] = []
 closedBefore false units (row ∷ rows) = record { first = units; others = row .first ∷ row .others } ∷ rows
 
+-- The records that some fields close: a record that is still open behind the last field is none of them.
 unfoldable pub closedRecords : List Field → List Row
 closedRecords [] = []
 closedRecords (field ∷ fields) = closedBefore (closes (field .end)) (field .units) (closedRecords fields)
@@ -63,10 +65,11 @@ unfoldable pub soFar : (begun : Bool) → List Field → List ℕ
 soFar begun [] = []
 soFar begun (field ∷ fields) = partText begun (field .units) (closes (field .end)) ++ soFar (pick (closes (field .end)) false true) fields
 
--- The promise of a call that writes a text at the front of a lent slice: all of it, or nothing where it does not fit.
+-- what a call writes of a text: all of it, or nothing where it does not fit
 abbrev pub written : (text : List ℕ) → (room : ℕ) → List ℕ
 written text room = pick (leb (length text) room) text []
 
+-- The promise of a call that writes a text at the front of a lent slice: r is its length, or no room; all else is as before.
 pub record PutAs (text : List ℕ) (r : Put) (before after : List ℕ) : Type 0 where
   pub result : r ≡ pick (leb (length text) (length before)) (Units (length text)) NoRoom
   pub lent : after ≡ over before (written text (length before))

@@ -12,10 +12,12 @@ use Rattle.csv.specs.Records.{breakIf}
 unfoldable pub laidAt : (before : List ℕ) → (place : ℕ) → (units : List ℕ) → List ℕ
 laidAt before place units = (take place before ++ units) ++ drop (place + length units) before
 
+-- units were laid at a place, and r is the place behind them
 pub record Laid (before after : List ℕ) (place : ℕ) (units : List ℕ) (r : ℕ) : Type 0 where
   pub lent : after ≡ laidAt before place units
   pub next : r ≡ place + length units
 
+-- 1 for a unit that is wanted, else 0
 abbrev pub oneIf : Bool → ℕ
 oneIf true = 1
 oneIf false = 0
@@ -24,9 +26,10 @@ oneIf false = 0
 unfoldable pub when : Bool → (unit : ℕ) → List ℕ
 when wanted unit = pick wanted (unit ∷ []) []
 
--- The text of a call, in the order in which it is laid.
+-- the field's units, each quote written twice, and quotes around them if they are wanted
 unfoldable pub inQuotes : (quotes : Bool) → (field : List ℕ) → List ℕ
 inQuotes quotes field = when quotes 0x22 ++ (escapedField field ++ when quotes 0x22)
 
+-- The text of a call, in the order in which it is laid: a comma if the record is begun, the field, a line break if it is closed.
 unfoldable pub inOrder : (begun quotes closed : Bool) → (field : List ℕ) → List ℕ
 inOrder begun quotes closed field = when begun 0x2C ++ (inQuotes quotes field ++ breakIf closed)

@@ -1,6 +1,10 @@
 // Fields and records as CSV (RFC 4180), in units: a field is quoted where it has to be, a record is closed by a carriage return and
 // a line feed. Each call writes the next part of a file at the front of a lent slice: a field with the comma before it and the line
 // break behind it, where they are due.
+//
+//     let put = csv::put_field(begun, field, csv::closes_record(end), out);    // Put::Units(size), or Put::NoRoom
+//
+// `put_close` closes a record that the text's end left open.
 ghost use mathlib.Core.Path.{_≡_};
 ghost use Prim.Native.Nat.{_+_, _*_, _≤_};
 ghost use lib.Dec.{leb};
@@ -78,6 +82,7 @@ fn quote_count(field: &[u16]) -> usize
     count
 }
 
+// 1 for a unit that is wanted, else 0.
 fn one_if(wanted: bool) -> usize
     ensures { λ r. ⌜ r ≡ oneIf wanted ⌝ }
 {

@@ -12,10 +12,10 @@ use lib.ListN.{length, length-append}
 use lib.Bits.{bitOr, or-zero-r}
 use borrow.Author.Tests.{leb-true, leb-false, le-leb, lt-leb}
 use mathlib.Core.List.{append-nil}
-use Rattle.codepage.specs.Reading.{Code, sizeOf, callCodes, waitingUnit}
+use Rattle.codepage.specs.Reading.{Code, sizeOf, callCodes, leftPending}
 use Rattle.codepage.proofs.ReadingLaws.{sizesOf}
 use Rattle.engine.specs.Policies.{stoppedFlag}
-use Rattle.engine.specs.Engine.{Effect, Converter, Room, limit, endless, fits, less, Fed, halt, after, stopAt, takeWhen, takeCode, atEnd, takeCodes, feedFrom}
+use Rattle.engine.specs.Engine.{Effect, Converter, Room, limit, endless, fits, roomLeft, Fed, halt, after, stopAt, takeWhen, takeCode, atEnd, takeCodes, feedFrom}
 use Rattle.engine.proofs.EngineLaws.{after-none, after-after}
 
 -- all that some codes write, and their flags
@@ -81,8 +81,8 @@ fits-first (limit n) a b e = le-leb a n (omega (arith, leb-true (a + b) n e))
 fits-first endless a b e = refl
 
 -- behind what fits, what is left of the room decides
-fits-behind : (room : Room) (a b : ℕ) → fits room a ≡ true → fits (less room a) b ≡ fits room (a + b)
-unfolding fits less
+fits-behind : (room : Room) (a b : ℕ) → fits room a ≡ true → fits (roomLeft room a) b ≡ fits room (a + b)
+unfolding fits roomLeft
 fits-behind endless a b e = refl
 fits-behind (limit n) a b e = by-test (leb b (n - a)) refl
   where
@@ -90,13 +90,13 @@ fits-behind (limit n) a b e = by-test (leb b (n - a)) refl
     by-test true q = q ∙ sym (le-leb (a + b) n (omega (arith, leb-true b (n - a) q, leb-true a n e)))
     by-test false q = q ∙ sym (lt-leb (a + b) n (omega (arith, leb-false b (n - a) q, leb-true a n e)))
 
-less-none : (room : Room) → less room 0 ≡ room
-unfolding less
+less-none : (room : Room) → roomLeft room 0 ≡ room
+unfolding roomLeft
 less-none (limit n) = ap limit (omega arith)
 less-none endless = refl
 
-less-less : (room : Room) (a b : ℕ) → less (less room a) b ≡ less room (a + b)
-unfolding less
+less-less : (room : Room) (a b : ℕ) → roomLeft (roomLeft room a) b ≡ roomLeft room (a + b)
+unfolding roomLeft
 less-less (limit n) a b = ap limit (omega arith)
 less-less endless a b = refl
 
@@ -118,27 +118,27 @@ module _ (v : Converter) where
   goes-first : (room : Room) (k : Code) (ks : List Code) → Goes v room (k ∷ ks) → fits room (size k) ≡ true
   goes-first room k ks g = fits-first room (size k) (total ks) (rw (← total-more k ks) (g .fitting))
 
-  goes-rest : (room : Room) (k : Code) (ks : List Code) → Goes v room (k ∷ ks) → Goes v (less room (size k)) ks
+  goes-rest : (room : Room) (k : Code) (ks : List Code) → Goes v room (k ∷ ks) → Goes v (roomLeft room (size k)) ks
   goes-rest room k ks g =
       record {
         none-stops = g .none-stops .1;
         fitting = fits-behind room (size k) (total ks) (goes-first room k ks g) ∙ rw (← total-more k ks) (g .fitting);
       }
 
-  goes-more : (room : Room) (k : Code) (ks : List Code) → v .does k .stops ≡ false → fits room (size k) ≡ true → Goes v (less room (size k)) ks → Goes v room (k ∷ ks)
+  goes-more : (room : Room) (k : Code) (ks : List Code) → v .does k .stops ≡ false → fits room (size k) ≡ true → Goes v (roomLeft room (size k)) ks → Goes v room (k ∷ ks)
   goes-more room k ks s f g = record { none-stops = (s, g .none-stops); fitting = rw (total-more k ks) (sym (fits-behind room (size k) (total ks) f) ∙ g .fitting) }
 
   -- Codes that are taken, and then the rest in what is left of the room.
   pub past : (room : Room) (taken rest : List Code) (waiting : Option ℕ) → Goes v room taken
-      → takeCodes v room (taken ++ rest) waiting ≡ after (sizesOf taken) (writesOf v taken) (flagsOf v taken) (takeCodes v (less room (total taken)) rest waiting)
+      → takeCodes v room (taken ++ rest) waiting ≡ after (sizesOf taken) (writesOf v taken) (flagsOf v taken) (takeCodes v (roomLeft room (total taken)) rest waiting)
   unfolding takeCodes takeCode takeWhen
   past room [] rest waiting g = rw (less-none room) (sym (after-none _))
   past room (k ∷ taken) rest waiting g =
       rw (g .none-stops .0, goes-first room k taken g)
-      (ap (after (sizeOf k) (v .does k .writes) (v .does k .flag)) (past (less room (size k)) taken rest waiting (goes-rest room k taken g))
+      (ap (after (sizeOf k) (v .does k .writes) (v .does k .flag)) (past (roomLeft room (size k)) taken rest waiting (goes-rest room k taken g))
       ∙ sym (after-after (sizeOf k) (sizesOf taken) (v .does k .writes) (writesOf v taken) (v .does k .flag) (flagsOf v taken) _)
       ∙ ap (λ (r : Room). after (sizeOf k + sizesOf taken) (v .does k .writes ++ writesOf v taken) (bitOr (v .does k .flag) (flagsOf v taken)) (takeCodes v r rest waiting))
-      (less-less room (size k) (total taken) ∙ ap (less room) (sym (total-more k taken))))
+      (less-less room (size k) (total taken) ∙ ap (roomLeft room) (sym (total-more k taken))))
 
   -- ---- what is given in each case
   after-halt : (ks : List Code) (answer : ℕ) → after (sizesOf ks) (writesOf v ks) (flagsOf v ks) (halt answer) ≡ took v ks answer
@@ -172,7 +172,7 @@ module _ (v : Converter) where
   abbrev Ending : Room → List Code → Type 0
   Ending room ks = Goes v room ks ⊎ (StopsAt v room ks ⊎ NoRoomAt v room ks)
 
-  ending-more : (room : Room) (k : Code) (ks : List Code) → v .does k .stops ≡ false → fits room (size k) ≡ true → Ending (less room (size k)) ks → Ending room (k ∷ ks)
+  ending-more : (room : Room) (k : Code) (ks : List Code) → v .does k .stops ≡ false → fits room (size k) ≡ true → Ending (roomLeft room (size k)) ks → Ending room (k ∷ ks)
   ending-more room k ks s f (inl g) = inl (goes-more room k ks s f g)
   ending-more room k ks s f (inr (inl g)) =
       inr
@@ -200,7 +200,7 @@ module _ (v : Converter) where
             rw sum (sym (fits-behind room (size k) (total (g .taken) + size (g .code)) f) ∙ g .large);
       }))
 
-  ending-first : (room : Room) (k : Code) (ks : List Code) (s t : Bool) → v .does k .stops ≡ s → fits room (size k) ≡ t → Ending (less room (size k)) ks → Ending room (k ∷ ks)
+  ending-first : (room : Room) (k : Code) (ks : List Code) (s t : Bool) → v .does k .stops ≡ s → fits room (size k) ≡ t → Ending (roomLeft room (size k)) ks → Ending room (k ∷ ks)
   ending-first room k ks true t e q g =
       inr (inl (record { taken = []; code = k; behind = ks; split = refl; goes = goes-none room; stops = e }))
   ending-first room k ks false true e q g = ending-more room k ks e q g
@@ -209,7 +209,7 @@ module _ (v : Converter) where
 
   ending : (room : Room) (ks : List Code) → Ending room ks
   ending room [] = inl (goes-none room)
-  ending room (k ∷ ks) = ending-first room k ks (v .does k .stops) (fits room (size k)) refl refl (ending (less room (size k)) ks)
+  ending room (k ∷ ks) = ending-first room k ks (v .does k .stops) (fits room (size k)) refl refl (ending (roomLeft room (size k)) ks)
 
 -- What a call gives, in each of its cases, and that one of them holds.
 pub record Exact (v : Converter) (room : Room) (ks : List Code) (waiting : Option ℕ) (f : Fed) : Type 0 where
@@ -221,6 +221,7 @@ pub record Exact (v : Converter) (room : Room) (ks : List Code) (waiting : Optio
   pub full : (s : NoRoomAt v room ks) → f ≡ took v (s .taken) 2
   pub one-of-them : Goes v room ks ⊎ (StopsAt v room ks ⊎ NoRoomAt v room ks)
 
+-- what taking codes gives is exact, whatever the room and the unit behind them
 pub codes-exact : (v : Converter) (room : Room) (ks : List Code) (waiting : Option ℕ) → Exact v room ks waiting (takeCodes v room ks waiting)
 codes-exact v room ks waiting =
     record {
@@ -233,9 +234,9 @@ codes-exact v room ks waiting =
 -- WHOLE OR NOT AT ALL, AND THE ANSWERS EXACT: of the codes of a call the first were taken and wrote all of its output; the call
 -- ended since none was left, or at one that stops, or at one that does not fit, whose units are not among those used.
 pub answers-exact : (v : Converter) (last : Bool) (room : Room) (p : Option ℕ) (l : List ℕ)
-    → Exact v room (callCodes (v .reader) last p l) (waitingUnit (v .reader) last p l) (feedFrom v last room p l)
+    → Exact v room (callCodes (v .reader) last p l) (leftPending (v .reader) last p l) (feedFrom v last room p l)
 unfolding feedFrom
-answers-exact v last room p l = codes-exact v room (callCodes (v .reader) last p l) (waitingUnit (v .reader) last p l)
+answers-exact v last room p l = codes-exact v room (callCodes (v .reader) last p l) (leftPending (v .reader) last p l)
 
 -- EACH ANSWER EXACTLY IN ITS CASE.
 pub record AnswerCases (v : Converter) (room : Room) (ks : List Code) (waiting : Option ℕ) (answer : ℕ) : Type 0 where
@@ -281,6 +282,7 @@ module _ (v : Converter) (room : Room) (ks : List Code) (waiting : Option ℕ) (
   is-stopped e (inr (inl s)) = s
   is-stopped e (inr (inr s)) = absurd (omega (arith, answer-full s))
 
+  -- of a call that is exact, each answer is given exactly in its case
   pub answer-cases : AnswerCases v room ks waiting (f .answer)
   answer-cases =
       record {

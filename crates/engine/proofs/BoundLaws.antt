@@ -11,7 +11,7 @@ use lib.ListN.{length, length-append}
 use lib.Bits.{or-lt}
 use borrow.Author.Tests.{le-leb}
 use Rattle.codepage.specs.CodePage.{CodePage, pick}
-use Rattle.codepage.specs.Reading.{unitOf, bytesOf, decoder, encoder, Code, sizeOf, callCodes, waitingUnit, waitingUnits}
+use Rattle.codepage.specs.Reading.{unitOf, bytesOf, decoder, encoder, Code, sizeOf, callCodes, leftPending, asUnits}
 use Rattle.codepage.proofs.ReadingLaws.{sizesOf, sizes-cover}
 use Rattle.codepage.specs.declared.Kind.{Kind}
 use Rattle.codepage.specs.declared.Kind.the-variants.{UndefinedSingle, UndefinedPair, Invalid}
@@ -23,7 +23,7 @@ use Rattle.engine.specs.declared.Policy.{Policy}
 use Rattle.engine.specs.declared.policies.Action.{Action}
 use Rattle.engine.specs.declared.policies.Action.the-variants.{Stop, Skip, Write}
 use Rattle.engine.specs.Policies.{digitOf, flagOf, actionOf}
-use Rattle.engine.specs.Engine.{Effect, acted, effectOf, Converter, converter, Room, limit, fits, less, Fed, halt, after, stopAt, takeWhen, takeCode, takeCodes, feedFrom}
+use Rattle.engine.specs.Engine.{Effect, acted, effectOf, Converter, converter, Room, limit, fits, roomLeft, Fed, halt, after, stopAt, takeWhen, takeCode, takeCodes, feedFrom}
 use Rattle.engine.specs.Engine.{converterOf, defaultOf}
 use lib.Dec.{leb}
 
@@ -70,8 +70,9 @@ module _ (m : ℕ) (v : Converter) (bounded : Bounded m v) where
   unfolding takeCodes takeCode
   kept-codes room [] none = kept-halt m 0 (λ z. omega arith)
   kept-codes room [] (some c) = kept-halt m 1 (λ z. omega arith)
-  kept-codes room (k ∷ ks) waiting = kept-take m (sizeOf k) (v .does k) _ _ _ (omega arith) (bounded .each k) (kept-codes (less room (length (v .does k .writes))) ks waiting)
+  kept-codes room (k ∷ ks) waiting = kept-take m (sizeOf k) (v .does k) _ _ _ (omega arith) (bounded .each k) (kept-codes (roomLeft room (length (v .does k .writes))) ks waiting)
 
+  -- every call keeps the bounds, whatever its room and what is pending
   pub kept-from : (last : Bool) (room : Room) (p : Option ℕ) (l : List ℕ) → Kept m (feedFrom v last room p l)
   unfolding feedFrom
   kept-from last room p l = kept-codes room _ _
@@ -82,19 +83,19 @@ module _ (m : ℕ) (v : Converter) (bounded : Bounded m v) where
   taken-some n room k f true h w = omega arith
   taken-some n room k f false h w = rw (le-leb (length (k .writes)) room (omega (arith, w .writes))) (omega arith)
 
-  reads-codes : (room : ℕ) (ks : List Code) (waiting : Option ℕ) → m ≤ room → 1 ≤ sizesOf ks + length (waitingUnits waiting)
+  reads-codes : (room : ℕ) (ks : List Code) (waiting : Option ℕ) → m ≤ room → 1 ≤ sizesOf ks + length (asUnits waiting)
       → (takeCodes v (limit room) ks waiting .answer ≡ 1) ⊎ (1 ≤ takeCodes v (limit room) ks waiting .used)
   unfolding takeCodes takeCode fits halt
   reads-codes room [] none h n = absurd (omega arith)
   reads-codes room [] (some c) h n = inl refl
-  reads-codes room (k ∷ ks) waiting h n = inr (omega (arith, taken-some (sizeOf k) room (v .does k) (takeCodes v (less (limit room) (length (v .does k .writes))) ks waiting) (v .does k .stops) h (bounded .each k)))
+  reads-codes room (k ∷ ks) waiting h n = inr (omega (arith, taken-some (sizeOf k) room (v .does k) (takeCodes v (roomLeft (limit room) (length (v .does k .writes))) ks waiting) (v .does k .stops) h (bounded .each k)))
 
   -- A call that has units, and room for m, ends with a unit waiting or has used one, be it the one that waited before.
   pub reads : (last : Bool) (room : ℕ) (p : Option ℕ) (a : ℕ) (l : List ℕ) → m ≤ room
       → (feedFrom v last (limit room) p (a ∷ l) .answer ≡ 1) ⊎ (1 ≤ feedFrom v last (limit room) p (a ∷ l) .used)
   unfolding feedFrom
   reads last room p a l h =
-      reads-codes room (callCodes (v .reader) last p (a ∷ l)) (waitingUnit (v .reader) last p (a ∷ l)) h (omega (arith, sizes-cover (v .reader) last p (a ∷ l)))
+      reads-codes room (callCodes (v .reader) last p (a ∷ l)) (leftPending (v .reader) last p (a ∷ l)) h (omega (arith, sizes-cover (v .reader) last p (a ∷ l)))
 
 -- ---- the two directions
 -- how many units a code writes at most
@@ -125,6 +126,7 @@ bytes-le code = by-test (leb code 0xFF)
     by-test true = omega arith
     by-test false = omega arith
 
+-- on every page, under every policy, a code of decoding writes at most one unit, one of encoding at most two bytes
 pub bounded-of : (direction : Direction) (p : CodePage) (policy : Policy) → Bounded (widest direction) (converterOf direction p policy)
 unfolding converter decoder encoder
 bounded-of Decoding p policy =
@@ -145,7 +147,7 @@ module _ (m : ℕ) (v : Converter) (bounded : Bounded m v) where
       q (sym (ap (λ (t : Bool). takeWhen false t n k f .answer) (le-leb (length (k .writes)) room (omega (arith, w .writes)))) ∙ e)
 
   roomy-codes : (room : ℕ) (ks : List Code) (waiting : Option ℕ) → m * sizesOf ks ≤ room → takeCodes v (limit room) ks waiting .answer ≡ 2 → ⊥
-  unfolding takeCodes takeCode fits less halt
+  unfolding takeCodes takeCode fits roomLeft halt
   roomy-codes room [] none h e = omega arith
   roomy-codes room [] (some c) h e = omega arith
   roomy-codes room (k ∷ ks) waiting h e =
@@ -153,10 +155,11 @@ module _ (m : ℕ) (v : Converter) (bounded : Bounded m v) where
       roomy-take (sizeOf k) room (v .does k) _ (v .does k .stops) (bounded .each k) (omega arith)
       (roomy-codes (room - length (v .does k .writes)) ks waiting (omega (arith, bounded .each k .writes))) e
 
-  pub roomy : (last : Bool) (room : ℕ) (p : Option ℕ) (l : List ℕ) → m * (length (waitingUnits p) + length l) ≤ room → feedFrom v last (limit room) p l .answer ≡ 2 → ⊥
+  -- so a call with that much room, also for a unit that is pending, takes all of its codes or is stopped
+  pub roomy : (last : Bool) (room : ℕ) (p : Option ℕ) (l : List ℕ) → m * (length (asUnits p) + length l) ≤ room → feedFrom v last (limit room) p l .answer ≡ 2 → ⊥
   unfolding feedFrom
   roomy last room p l h e =
       let ks : List Code = callCodes (v .reader) last p l in
-      let behind : List ℕ = waitingUnits (waitingUnit (v .reader) last p l) in
-      let all : m * (length (waitingUnits p) + length l) ≡ m * sizesOf ks + m * length behind = ap (λ (n : ℕ). m * n) (sym (sizes-cover (v .reader) last p l)) ∙ mul-add m (sizesOf ks) (length behind) in
-      roomy-codes room ks (waitingUnit (v .reader) last p l) (omega arith) e
+      let behind : List ℕ = asUnits (leftPending (v .reader) last p l) in
+      let all : m * (length (asUnits p) + length l) ≡ m * sizesOf ks + m * length behind = ap (λ (n : ℕ). m * n) (sym (sizes-cover (v .reader) last p l)) ∙ mul-add m (sizesOf ks) (length behind) in
+      roomy-codes room ks (leftPending (v .reader) last p l) (omega arith) e

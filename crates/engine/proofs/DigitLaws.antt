@@ -6,7 +6,7 @@ use mathlib.Core.Path.{_≡_, refl, sym, ap, _∙_}
 use Prim.Native.Nat.{ℕ}
 use lib.Dec.{eqb}
 use lib.ListN.{length}
-use Rattle.codepage.specs.CodePage.{CodePage, pick, entry}
+use Rattle.codepage.specs.CodePage.{CodePage, pick, entryAt}
 use Rattle.codepage.specs.Reading.{lookup, isSurrogate, unitCode, unitAlone, bytesOf, encoder, Reader, Code}
 use Rattle.codepage.specs.declared.Kind.the-variants.{UndefinedSingle, Invalid}
 use Rattle.codepage.specs.declared.Lookup.{Lookup}
@@ -15,7 +15,7 @@ use Rattle.codepage.proofs.ReadingLaws.{by-units}
 use Rattle.engine.specs.declared.Direction.the-variants.{Encoding}
 use Rattle.engine.specs.declared.Policy.{Policy}
 use Rattle.engine.specs.Policies.{actionOf, flagOf}
-use Rattle.engine.specs.Engine.{Effect, acted, effectOf, Converter, converter, converterOf, Room, less, Fed, halt, takeCode, feedFrom}
+use Rattle.engine.specs.Engine.{Effect, acted, effectOf, Converter, converter, converterOf, Room, roomLeft, Fed, halt, takeCode, feedFrom}
 use Rattle.engine.specs.Steps.{doesAlone, doesTogether}
 use Rattle.engine.proofs.EngineLaws.{feed-wait, feed-one, feed-two, feed-alone, feed-end, feed-last, feed-stays}
 
@@ -32,9 +32,9 @@ module _ (r : Reader) (d e : Code → Effect) (same : SameDoes r d e) (last : Bo
   w = record { reader = r; does = e }
 
   take-alike : (room : Room) (n : ℕ) (k m : Effect) (f g : Room → Fed) → k ≡ m → ((room : Room) → f room ≡ g room)
-      → takeCode room n k (f (less room (length (k .writes)))) ≡ takeCode room n m (g (less room (length (m .writes))))
+      → takeCode room n k (f (roomLeft room (length (k .writes)))) ≡ takeCode room n m (g (roomLeft room (length (m .writes))))
   take-alike room n k m f g q h =
-      ap (λ (x : Fed). takeCode room n k x) (h (less room (length (k .writes)))) ∙ ap (λ (x : Effect). takeCode room n x (g (less room (length (x .writes))))) q
+      ap (λ (x : Fed). takeCode room n k x) (h (roomLeft room (length (k .writes)))) ∙ ap (λ (x : Effect). takeCode room n x (g (roomLeft room (length (x .writes))))) q
 
   end-alike : (last : Bool) (c : ℕ) (room : Room) → feedFrom v last room (some c) [] ≡ feedFrom w last room (some c) []
   end-alike true c room = feed-last v room c ∙ ap (λ (k : Effect). takeCode room 1 k (halt 0)) (same .one c) ∙ sym (feed-last w room c)

@@ -9,9 +9,9 @@ use native.Mathlib.Numerals.{one-add}
 use native.Mathlib.Omega.{arith}
 use lib.ListN.{length, getD, drop}
 use lib.Bits.{bitOr, or-step, or-zero-l}
-use Rattle.codepage.specs.Reading.{sizeOf, alone, together, settled, callCodes, waitingUnit, completed, waitsThen, codesAtEnd, waitingUnits}
+use Rattle.codepage.specs.Reading.{sizeOf, alone, together, settled, callCodes, leftPending, completed, waitsThen, codesAtEnd, asUnits}
 use Rattle.codepage.proofs.ReadingLaws.{codes-settled, waiting-settled, by-units}
-use Rattle.engine.specs.Engine.{Effect, Converter, Room, endless, fits, less, Fed, halt, after, stopAt, takeWhen, takeCode, takeCodes, feedFrom, feed}
+use Rattle.engine.specs.Engine.{Effect, Converter, Room, endless, fits, roomLeft, Fed, halt, after, stopAt, takeWhen, takeCode, takeCodes, feedFrom, feed}
 use Rattle.engine.specs.Steps.{doesAlone, doesTogether, doesSettled}
 
 -- what a call marked last gives with room for all
@@ -48,44 +48,50 @@ or-assoc a b c = or-assoc-below (a + b + c) a b c (below a (omega arith)) (below
 
 -- ---- one unit more, in any room
 module _ (v : Converter) (last : Bool) (room : Room) where
+  -- a unit that waits: the call goes on with it
   pub feed-wait : (a : ℕ) (l : List ℕ) → v .reader .waits a ≡ true → feedFrom v last room none (a ∷ l) ≡ feedFrom v last room (some a) l
-  unfolding feedFrom callCodes waitingUnit completed waitsThen
+  unfolding feedFrom callCodes leftPending completed waitsThen
   feed-wait a l e = rw e
 
+  -- a unit that is a code alone is taken if it fits, and then the rest
   pub feed-one : (a : ℕ) (l : List ℕ) → v .reader .waits a ≡ false
-      → feedFrom v last room none (a ∷ l) ≡ takeCode room 1 (doesAlone v a) (feedFrom v last (less room (length (doesAlone v a .writes))) none l)
-  unfolding feedFrom takeCodes callCodes waitingUnit completed waitsThen
+      → feedFrom v last room none (a ∷ l) ≡ takeCode room 1 (doesAlone v a) (feedFrom v last (roomLeft room (length (doesAlone v a .writes))) none l)
+  unfolding feedFrom takeCodes callCodes leftPending completed waitsThen
   feed-one a l e = rw e
 
+  -- a waiting unit and the one after it that are one code
   pub feed-two : (c b : ℕ) (l : List ℕ) → v .reader .joins c b ≡ true
-      → feedFrom v last room (some c) (b ∷ l) ≡ takeCode room 2 (doesTogether v c b) (feedFrom v last (less room (length (doesTogether v c b .writes))) none l)
-  unfolding feedFrom takeCodes callCodes waitingUnit settled completed waitsThen
+      → feedFrom v last room (some c) (b ∷ l) ≡ takeCode room 2 (doesTogether v c b) (feedFrom v last (roomLeft room (length (doesTogether v c b .writes))) none l)
+  unfolding feedFrom takeCodes callCodes leftPending settled completed waitsThen
   feed-two c b l e = rw e
 
+  -- a waiting unit that is a code alone; the one after it is read afresh
   pub feed-alone : (c b : ℕ) (l : List ℕ) → v .reader .joins c b ≡ false
-      → feedFrom v last room (some c) (b ∷ l) ≡ takeCode room 1 (doesAlone v c) (feedFrom v last (less room (length (doesAlone v c .writes))) none (b ∷ l))
-  unfolding feedFrom takeCodes callCodes waitingUnit settled completed waitsThen
+      → feedFrom v last room (some c) (b ∷ l) ≡ takeCode room 1 (doesAlone v c) (feedFrom v last (roomLeft room (length (doesAlone v c .writes))) none (b ∷ l))
+  unfolding feedFrom takeCodes callCodes leftPending settled completed waitsThen
   feed-alone c b l e = rw e
 
   -- either way
   pub feed-settled : (c b : ℕ) (l : List ℕ)
       → feedFrom v last room (some c) (b ∷ l)
-      ≡ takeCode room (sizeOf (settled (v .reader) c b)) (doesSettled v c b) (feedFrom v last (less room (length (doesSettled v c b .writes))) none (drop (sizeOf (settled (v .reader) c b)) (c ∷ b ∷ l)))
+      ≡ takeCode room (sizeOf (settled (v .reader) c b)) (doesSettled v c b) (feedFrom v last (roomLeft room (length (doesSettled v c b .writes))) none (drop (sizeOf (settled (v .reader) c b)) (c ∷ b ∷ l)))
   unfolding feedFrom takeCodes
   feed-settled c b l = rw (codes-settled (v .reader) last c b l, waiting-settled (v .reader) last c b l)
 
 -- and none more
 pub feed-end : (v : Converter) (last : Bool) (room : Room) → feedFrom v last room none [] ≡ halt 0
-unfolding feedFrom takeCodes callCodes waitingUnit codesAtEnd
+unfolding feedFrom takeCodes callCodes leftPending codesAtEnd
 feed-end v true room = refl
 feed-end v false room = refl
 
+-- at the end of the whole text a waiting unit is a code alone
 pub feed-last : (v : Converter) (room : Room) (c : ℕ) → feedFrom v true room (some c) [] ≡ takeCode room 1 (doesAlone v c) (halt 0)
-unfolding feedFrom takeCodes callCodes waitingUnit codesAtEnd
+unfolding feedFrom takeCodes callCodes leftPending codesAtEnd
 feed-last v room c = refl
 
+-- at the end of a piece that is not the last a waiting unit stays pending: answer 1
 pub feed-stays : (v : Converter) (room : Room) (c : ℕ) → feedFrom v false room (some c) [] ≡ halt 1
-unfolding feedFrom takeCodes callCodes waitingUnit codesAtEnd
+unfolding feedFrom takeCodes callCodes leftPending codesAtEnd
 feed-stays v room c = refl
 
 -- ---- laws of `after`
@@ -93,6 +99,7 @@ pub after-none : (g : Fed) → after 0 [] 0 g ≡ g
 unfolding after
 after-none g = λ i. record { answer = g .answer; used = zero-add (g .used) i; output = g .output; flags = or-zero-l (g .flags) i }
 
+-- codes, and then other codes: as if they were taken at once
 pub after-after : (n m : ℕ) (xs ys : List ℕ) (f e : ℕ) (g : Fed) → after (n + m) (xs ++ ys) (bitOr f e) g ≡ after n xs f (after m ys e g)
 unfolding after
 after-after n m xs ys f e g =
@@ -111,6 +118,7 @@ pub record Cut (r : Converter) (w rest : List ℕ) (f u : Fed) : Type 0 where
   pub stopped : f .answer ≡ 3 → u ≡ f
   pub goes-on : (f .answer ≡ 3 → ⊥) → u ≡ after (f .used) (f .output) (f .flags) (uncut r (drop (f .used) w ++ rest))
 
+-- a pending unit, if there is one, is one that waits
 abbrev pub Waits : Converter → Option ℕ → Type 0
 Waits v none = Unit {0}
 Waits v (some c) = v .reader .waits c ≡ true
@@ -153,15 +161,15 @@ module _ (v : Converter) (last : Bool) (rest : List ℕ) (to-end : last ≡ true
 
   cut-code : (room : Room) (n : ℕ) (k : Effect) (w l : List ℕ) (u : Fed) → ((m : ℕ) → drop (n + m) w ≡ drop m l) → u ≡ takeCode endless n k (feedFrom v true endless none (l ++ rest))
       → uncut v (w ++ rest) ≡ u → ((room : Room) → Cut v l rest (feedFrom v last room none l) (feedFrom v true endless none (l ++ rest)))
-      → Cut v w rest (takeCode room n k (feedFrom v last (less room (length (k .writes))) none l)) u
+      → Cut v w rest (takeCode room n k (feedFrom v last (roomLeft room (length (k .writes))) none l)) u
   unfolding takeCode fits
   cut-code room n k w l u hd e hu h =
-      rw e (cut-take v (k .stops) (fits room (length (k .writes))) n k w l rest _ _ hd (hu ∙ e) (h (less room (length (k .writes)))))
+      rw e (cut-take v (k .stops) (fits room (length (k .writes))) n k w l rest _ _ hd (hu ∙ e) (h (roomLeft room (length (k .writes)))))
 
-  cut-from : (p : Option ℕ) (l : List ℕ) → Waits v p → (room : Room) → Cut v (waitingUnits p ++ l) rest (feedFrom v last room p l) (feedFrom v true endless p (l ++ rest))
-  unfolding uncut feed less
+  cut-from : (p : Option ℕ) (l : List ℕ) → Waits v p → (room : Room) → Cut v (asUnits p ++ l) rest (feedFrom v last room p l) (feedFrom v true endless p (l ++ rest))
+  unfolding uncut feed roomLeft
   cut-from =
-      by-units (v .reader) (λ (p : Option ℕ) (l : List ℕ). Waits v p → (room : Room) → Cut v (waitingUnits p ++ l) rest (feedFrom v last room p l) (feedFrom v true endless p (l ++ rest)))
+      by-units (v .reader) (λ (p : Option ℕ) (l : List ℕ). Waits v p → (room : Room) → Cut v (asUnits p ++ l) rest (feedFrom v last room p l) (feedFrom v true endless p (l ++ rest)))
       (record {
         end-none = λ w room. rw (feed-end v last room) (cut-halt v 0 [] rest _ (λ e. omega (arith, e)) refl);
         end-some = λ c w room. cut-end last to-end room c w;
@@ -173,7 +181,7 @@ module _ (v : Converter) (last : Bool) (rest : List ℕ) (to-end : last ≡ true
             (cut-code room 1 (doesAlone v c) (c ∷ b ∷ l) (b ∷ l) _ (drop-one c (b ∷ l)) (feed-alone v true endless c b (l ++ rest) e) (feed-wait v true endless c (b ∷ (l ++ rest)) w) (h tt));
       })
 
--- THE CUT LAW. One call, of any room, marked last or not, on the units l (what was carried, and then the piece), where `rest` is the
+-- THE CUT LAW. One call, of any room, marked last or not, on the units l (what was pending, and then the piece), where `rest` is the
 -- text after the piece.
 pub cut : (r : Converter) (last : Bool) (room : Room) (l rest : List ℕ) → (last ≡ true → rest ≡ []) → Cut r l rest (feed r last room l) (uncut r (l ++ rest))
 unfolding uncut feed
@@ -184,10 +192,12 @@ pub take-stop : (room : Room) (n : ℕ) (k : Effect) (g : Fed) → k .stops ≡ 
 unfolding takeCode takeWhen
 take-stop room n k g e = rw e
 
+-- a code that fits is taken
 pub take-fits : (room : Room) (n : ℕ) (k : Effect) (g : Fed) → k .stops ≡ false → fits room (length (k .writes)) ≡ true → takeCode room n k g ≡ after n (k .writes) (k .flag) g
 unfolding takeCode takeWhen
 take-fits room n k g e f = rw (e, f)
 
+-- a code that does not fit ends the call with 2, and is not read
 pub take-full : (room : Room) (n : ℕ) (k : Effect) (g : Fed) → k .stops ≡ false → fits room (length (k .writes)) ≡ false → takeCode room n k g ≡ halt 2
 unfolding takeCode takeWhen
 take-full room n k g e f = rw (e, f)
@@ -237,10 +247,11 @@ shape-end v false room c w =
     rw (feed-stays v room c)
     (record { within = omega arith; known = omega arith; reads = λ e. absurd (omega arith); all = λ e. absurd (omega arith); holds = λ e. (refl, w, refl) })
 
-pub shape-from : (v : Converter) (last : Bool) (room : Room) (p : Option ℕ) (l : List ℕ) → Waits v p → Shape v last (waitingUnits p ++ l) (feedFrom v last room p l)
+-- it holds of every call, with a pending unit that waits or with none
+pub shape-from : (v : Converter) (last : Bool) (room : Room) (p : Option ℕ) (l : List ℕ) → Waits v p → Shape v last (asUnits p ++ l) (feedFrom v last room p l)
 unfolding takeCode
 shape-from v last room p l w =
-    by-units (v .reader) (λ (p : Option ℕ) (l : List ℕ). Waits v p → (room : Room) → Shape v last (waitingUnits p ++ l) (feedFrom v last room p l))
+    by-units (v .reader) (λ (p : Option ℕ) (l : List ℕ). Waits v p → (room : Room) → Shape v last (asUnits p ++ l) (feedFrom v last room p l))
     (record {
       end-none = λ w room. rw (feed-end v last room) (shape-none v last);
       end-some = λ c w room. shape-end v last room c w;

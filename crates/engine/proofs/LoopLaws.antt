@@ -10,7 +10,7 @@ use lib.ListN.{length, take, drop, length-append, take-append-drop}
 use lib.Seq.{length-take-le, drop-drop, sets, sets-eq, length-sets, take-at, drop-at}
 use lib.Bits.{bitOr, or-zero-r}
 use borrow.Author.Tests.{le-leb, lt-leb}
-use Rattle.engine.specs.Engine.{Effect, Converter, Room, limit, fits, less, Fed, halt, after, stopAt, takeCode, feedFrom}
+use Rattle.engine.specs.Engine.{Effect, Converter, Room, limit, fits, roomLeft, Fed, halt, after, stopAt, takeCode, feedFrom}
 use Rattle.codepage.specs.Lent.{over}
 use Rattle.engine.specs.Steps.{sofar, ended, stoppedBy, fullAt, takenBy, Took, summary, Ends}
 use Rattle.engine.specs.declared.progress.Progress.{Progress}
@@ -18,6 +18,7 @@ use Rattle.engine.proofs.EngineLaws.{after-none, after-after, take-stop
 
 -- ---- the three ways of a code
 module _ (k : Effect) (n : ℕ) (s : Progress) (out : List ℕ) (h : s .written ≤ length out) where
+  -- it stops: its units are read, its flag and 8 are set, nothing is written
   pub took-stop : k .stops ≡ true
       → Took k n s out (stoppedBy (k .flag) n s) out
   unfolding sofar ended after stopAt
@@ -47,6 +48,7 @@ module _ (k : Effect) (n : ℕ) (s : Progress) (out : List ℕ) (h : s .written 
         ends = λ z g. ap (sofar s out) (take-full (limit (length out - s .written)) n k g e full) ∙ rw (append-nil, add-zero, or-zero-r);
       }
 
+  -- it fits: what it writes is laid behind what was written before
   pub took-fits : k .stops ≡ false → s .written + length (k .writes) ≤ length out
       → Took k n s out (takenBy (k .flag) n s (length (k .writes))) (sets out (s .written) (k .writes))
   unfolding sofar fits
@@ -77,10 +79,12 @@ module _ (k : Effect) (n : ℕ) (s : Progress) (out : List ℕ) (h : s .written 
       subst (λ (zs : List ℕ). Took k n s out (takenBy (k .flag) n s (length zs)) (sets out (s .written) zs)) w
       (took-fits e (omega (arith, ap length w)))
 
+  -- it does not fit, by the list that it would write
   pub took-lacks : (ys : List ℕ) → k .stops ≡ false → k .writes ≡ ys → length out < s .written + length ys
       → Took k n s out (fullAt s) out
   took-lacks ys e w f = took-full e (omega (arith, ap length w))
 
+  -- it writes nothing, so it needs no room
   pub took-none : k .stops ≡ false → k .writes ≡ [] → Took k n s out (takenBy (k .flag) n s 0) out
   took-none e w = took-writes [] e w (omega arith)
 

@@ -12,7 +12,7 @@ use Rattle.codepage.specs.declared.Kind.the-variants.{UndefinedSingle, Undefine
 use Rattle.codepage.specs.declared.Lookup.{Lookup}
 use Rattle.codepage.specs.declared.Lookup.the-variants.{Found, Lacking}
 use Rattle.engine.specs.Policies.{actionOf, replacing, skipping}
-use Rattle.engine.specs.Engine.{Effect, acted, effectOf, converter, endless, fits, less, Fed, halt, after, takeWhen, takeCode, takeCodes, whole, lacks, lackingIn}
+use Rattle.engine.specs.Engine.{Effect, acted, effectOf, converter, endless, fits, roomLeft, Fed, halt, after, takeWhen, takeCode, takeCodes, whole, lacks, lackingIn}
 
 -- One code: what it does under 555 and under 111.
 record Replaced (found : Lookup) (k m : Effect) : Type 0 where
@@ -39,7 +39,7 @@ module _ (r : Reader) (default : ℕ) where
 
   replaced-codes : (ks : List Code) → length (takeCodes (converter r replacing default) endless ks none .output)
       ≡ lackingIn ks + length (takeCodes (converter r skipping default) endless ks none .output)
-  unfolding takeCodes converter lackingIn halt less
+  unfolding takeCodes converter lackingIn halt roomLeft
   replaced-codes [] = refl
   replaced-codes (k ∷ ks) = replaced-take _ (lackingIn ks) (k .means) _ _ _ _ (replaced-one (k .first) (k .means)) (replaced-codes ks)
 

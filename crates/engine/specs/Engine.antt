@@ -1,5 +1,6 @@
 -- Taking code after code: one engine for both directions, for a run call and for the whole reading.
 -- (Document 01, "Policies and flags", "One call of a run" and, for the whole reading, "The lists of demand 3".)
+-- docs/RULES.md, "Policies and flags", "A call of a run", "Lists of calls".
 use mathlib.Core.Bool.{Bool, true, false}
 use mathlib.Core.List.{List, [], _∷_, _++_}
 use mathlib.Core.Option.{Option, none, some}
@@ -8,7 +9,7 @@ use lib.Dec.{leb}
 use lib.ListN.{length}
 use lib.Bits.{bitOr}
 use Rattle.codepage.specs.CodePage.{CodePage}
-use Rattle.codepage.specs.Reading.{Reader, decoder, encoder, Code, sizeOf, callCodes, waitingUnit, codes}
+use Rattle.codepage.specs.Reading.{Reader, decoder, encoder, Code, sizeOf, callCodes, leftPending, codes}
 use Rattle.codepage.specs.declared.Lookup.{Lookup}
 use Rattle.codepage.specs.declared.Lookup.the-variants.{Found, Lacking}
 use Rattle.engine.specs.declared.Direction.{Direction}
@@ -24,6 +25,7 @@ pub record Effect : Type 0 where
   pub writes : List ℕ
   pub stops : Bool
 
+-- what an action does; the code's flag is set in each case
 abbrev pub acted : ℕ → Action → Effect
 acted flag Stop = record { flag = flag; writes = []; stops = true }
 acted flag Skip = record { flag = flag; writes = []; stops = false }
@@ -39,6 +41,7 @@ pub record Converter : Type 0 where
   pub reader : Reader
   pub does : Code → Effect
 
+-- a reader under a policy, with the default that digit 5 writes
 unfoldable pub converter : Reader → Policy → ℕ → Converter
 converter r policy default = record { reader = r; does = λ k. effectOf (r .writes) policy default (k .first) (k .means) }
 
@@ -47,13 +50,15 @@ pub data Room : Type 0 where
   limit : ℕ → Room
   endless : Room
 
+-- whether so many units of output fit
 unfoldable pub fits : Room → ℕ → Bool
 fits (limit n) k = leb k n
 fits endless k = true
 
-unfoldable pub less : Room → ℕ → Room
-less (limit n) k = limit (n - k)
-less endless k = endless
+-- the room that is left behind so many units
+unfoldable pub roomLeft : Room → ℕ → Room
+roomLeft (limit n) k = limit (n - k)
+roomLeft endless k = endless
 
 -- What feeding units gives. answer: 0 all read, 1 a unit waits, 2 the next code does not fit, 3 stopped.
 -- used: the units of the codes that were taken; a unit that waits, and what was not read, is not among them.
@@ -63,6 +68,7 @@ pub record Fed : Type 0 where
   pub output : List ℕ
   pub flags : ℕ
 
+-- the end of a call with this answer, before any further code
 unfoldable pub halt : ℕ → Fed
 halt answer = record { answer = answer; used = 0; output = []; flags = 0 }
 
@@ -81,6 +87,7 @@ takeWhen true fitting n k rest = stopAt n k
 takeWhen false true n k rest = after n (k .writes) (k .flag) rest
 takeWhen false false n k rest = halt 2
 
+-- a code of n units, met with this room
 unfoldable pub takeCode : Room → ℕ → Effect → Fed → Fed
 takeCode room n k rest = takeWhen (k .stops) (fits room (length (k .writes))) n k rest
 
@@ -89,15 +96,17 @@ abbrev pub atEnd : Option ℕ → ℕ
 atEnd none = 0
 atEnd (some c) = 1
 
+-- each code is met with the room that those before it left; `waiting` is what is pending behind the last
 unfoldable pub takeCodes : Converter → Room → List Code → (waiting : Option ℕ) → Fed
 takeCodes v room [] waiting = halt (atEnd waiting)
-takeCodes v room (k ∷ ks) waiting = takeCode room (sizeOf k) (v .does k) (takeCodes v (less room (length (v .does k .writes))) ks waiting)
+takeCodes v room (k ∷ ks) waiting = takeCode room (sizeOf k) (v .does k) (takeCodes v (roomLeft room (length (v .does k .writes))) ks waiting)
 
 -- One call: a waiting unit or none, then units. A waiting unit that is the final one is left waiting in a call not marked
 -- last, even with no room; at the end of the whole text it is a code of its own.
 unfoldable pub feedFrom : Converter → (last : Bool) → Room → Option ℕ → List ℕ → Fed
-feedFrom v last room pending units = takeCodes v room (callCodes (v .reader) last pending units) (waitingUnit (v .reader) last pending units)
+feedFrom v last room pending units = takeCodes v room (callCodes (v .reader) last pending units) (leftPending (v .reader) last pending units)
 
+-- a call of a run that has nothing pending
 unfoldable pub feed : Converter → (last : Bool) → Room → List ℕ → Fed
 feed v last room units = feedFrom v last room none units
 
@@ -110,12 +119,14 @@ abbrev pub lacks : Lookup → ℕ
 lacks (Found value) = 0
 lacks (Lacking kind) = 1
 
+-- the codes without a character in a list, counted
 unfoldable pub lackingIn : List Code → ℕ
 lackingIn [] = 0
 lackingIn (k ∷ ks) = lacks (k .means) + lackingIn ks
 
 -- ---- The two directions
 
+-- the reader of a direction, over a page's tables
 abbrev pub readerOf : Direction → CodePage → Reader
 readerOf Decoding p = decoder (p .classes) (p .singles) (p .pairs)
 readerOf Encoding p = encoder (p .index) (p .blocks)
@@ -125,5 +136,6 @@ abbrev pub defaultOf : Direction → CodePage → ℕ
 defaultOf Decoding p = p .defaultUnit
 defaultOf Encoding p = p .defaultByte
 
+-- the converter of a direction, on a page under a policy
 abbrev pub converterOf : Direction → CodePage → Policy → Converter
 converterOf direction p policy = converter (readerOf direction p) policy (defaultOf direction p)

@@ -1,4 +1,4 @@
--- Document 01, "Policies and flags".
+-- Document 01, "Policies and flags"; docs/RULES.md, the same heading.
 use mathlib.Core.Bool.{Bool, true, false, _&&_}
 use mathlib.Core.List.{List, [], _∷_}
 use Prim.Native.Nat.{ℕ, _+_}
@@ -44,9 +44,11 @@ abbrev pub highestSingle : Direction → ℕ
 highestSingle Decoding = 6
 highestSingle Encoding = 5
 
+-- whether a run of a direction may have these digits; a start refuses others with 17
 unfoldable pub policyAllowed : Direction → Policy → Bool
 policyAllowed direction policy = leb (policy .single) (highestSingle direction) && (leb (policy .pair) 5 && leb (policy .invalid) 5)
 
+-- the policy of three digits: for undefined singles, undefined pairs and invalid codes
 abbrev pub digits : (single pair invalid : ℕ) → Policy
 digits single pair invalid = record { single = single; pair = pair; invalid = invalid }
 

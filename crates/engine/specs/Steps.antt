@@ -24,9 +24,11 @@ use Rattle.engine.specs.Engine.{Effect, Converter, Fed, after, takeCode,
 abbrev pub doesAlone : Converter → ℕ → Effect
 doesAlone v a = v .does (alone (v .reader) a)
 
+-- what two units do that are one code
 abbrev pub doesTogether : Converter → ℕ → ℕ → Effect
 doesTogether v a b = v .does (together (v .reader) a b)
 
+-- what the code of a waiting unit does, settled by the unit after it
 abbrev pub doesSettled : Converter → ℕ → ℕ → Effect
 doesSettled v a b = v .does (settled (v .reader) a b)
 
@@ -40,6 +42,7 @@ actedAs flag (Write value) = record { flag = flag; count = 1; value = value; sto
 unfoldable pub unitEffect : CodeEffect → Effect
 unitEffect d = record { flag = d .flag; writes = pick (eqb (d .count) 0) [] (d .value ∷ []); stops = d .stops }
 
+-- the same in bytes: none, the value's low half, or its high half and then its low half
 unfoldable pub byteEffect : CodeEffect → Effect
 byteEffect d =
     record {
@@ -56,6 +59,7 @@ summary f = record { answer = f .answer; used = f .used; written = length (f .ou
 unfoldable pub sofar : Progress → List ℕ → Fed → Fed
 sofar s out rest = after (s .used) (take (s .written) out) (s .flags) rest
 
+-- what a call gives that ends at this progress: its output is the front of the lent one
 unfoldable pub ended : Progress → List ℕ → Fed
 ended s out = record { answer = s .answer; used = s .used; output = take (s .written) out; flags = s .flags }
 
@@ -63,9 +67,11 @@ ended s out = record { answer = s .answer; used = s .used; output = take (s .wri
 abbrev pub stoppedBy : (flag size : ℕ) → Progress → Progress
 stoppedBy flag size s = record { answer = 3; used = s .used + size; written = s .written; flags = bitOr (s .flags) (bitOr flag stoppedFlag) }
 
+-- the next code does not fit: nothing of it is read or written
 abbrev pub fullAt : Progress → Progress
 fullAt s = record { answer = 2; used = s .used; written = s .written; flags = s .flags }
 
+-- a code of `size` units was taken that set a flag and wrote `count`
 abbrev pub takenBy : (flag size : ℕ) → Progress → (count : ℕ) → Progress
 takenBy flag size s count = record { answer = 0; used = s .used + size; written = s .written + count; flags = bitOr (s .flags) flag }
 
@@ -101,6 +107,7 @@ abbrev pub optional : Bool → ℕ → Option ℕ
 optional true a = some a
 optional false a = none
 
+-- how many units are pending, by that flag
 abbrev pub oneIf : Bool → ℕ
 oneIf true = 1
 oneIf false = 0
@@ -109,5 +116,6 @@ oneIf false = 0
 abbrev pub decodeFed : (classes singles pairs : List ℕ) → Policy → (default : ℕ) → (last : Bool) → (room : ℕ) → Option ℕ → List ℕ → Fed
 decodeFed classes singles pairs policy default last room pending piece = feedFrom (converter (decoder classes singles pairs) policy default) last (limit room) pending piece
 
+-- the same of encoding
 abbrev pub encodeFed : (index blocks : List ℕ) → Policy → (default : ℕ) → (last : Bool) → (room : ℕ) → Option ℕ → List ℕ → Fed
 encodeFed index blocks policy default last room pending piece = feedFrom (converter (encoder index blocks) policy default) last (limit room) pending piece

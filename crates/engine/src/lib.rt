@@ -1,6 +1,5 @@
-// Taking code after code: policies, and what a code does. (Document 01, "Policies and flags" and the
-// first paragraph of "One call of a run".) The functions of the modules are inner: the run calls above call them on tables whose
-// shape was found good. They are no public calls.
+// Inner: taking code after code, what it means and what a code does. `convert` hands on the types that a caller needs, `Policy` and
+// `Direction`. (Document 01, "Policies and flags" and the first paragraph of "One call of a run"; docs/RULES.md, "Policies and flags".)
 ghost use mathlib.Core.Path.{_≡_};
 ghost use Rattle.engine.specs.Policies.{digits, standard, replacing, skipping};
 

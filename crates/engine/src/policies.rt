@@ -27,6 +27,7 @@ pub struct CodeEffect {
     pub stops: bool,
 }
 
+// The highest first digit: 6 only in decoding.
 fn highest_single(direction: Direction) -> u8
     ensures { λ r. ⌜ r ≡ highestSingle direction ⌝ }
 {
@@ -36,6 +37,7 @@ fn highest_single(direction: Direction) -> u8
     }
 }
 
+// Whether a run of a direction may have these digits.
 pub fn allowed(direction: Direction, policy: Policy) -> bool
     ensures { λ r. ⌜ r ≡ policyAllowed direction policy ⌝ }
 {
@@ -48,6 +50,7 @@ pub fn allowed(direction: Direction, policy: Policy) -> bool
     policy.invalid <= 5
 }
 
+// The digit that decides about codes of a kind.
 fn digit_of(policy: Policy, kind: Kind) -> u8
     ensures { λ r. ⌜ r ≡ digitOf policy kind ⌝ }
 {
@@ -58,6 +61,7 @@ fn digit_of(policy: Policy, kind: Kind) -> u8
     }
 }
 
+// The flag that a code of a kind sets.
 fn flag_of(kind: Kind) -> u8
     ensures { λ r. ⌜ r ≡ flagOf kind ⌝ }
 {
@@ -68,6 +72,7 @@ fn flag_of(kind: Kind) -> u8
     }
 }
 
+// What a digit does about a code. `default` is what digit 5 writes, `byte` what digit 6 adds to F100.
 fn action_of(digit: u8, default: u16, byte: u8) -> Action
     ensures { λ r. ⌜ r ≡ actionOf digit default byte ⌝ }
 {
@@ -92,6 +97,7 @@ fn action_of(digit: u8, default: u16, byte: u8) -> Action
     Action::Write(0xF100 + (byte as u16))
 }
 
+// What an action does, with the flag of the code's kind.
 fn acted(flag: u8, action: Action) -> CodeEffect
     ensures { λ r. ⌜ r ≡ actedAs flag action ⌝ }
 {

@@ -12,6 +12,7 @@ use lib.Seq.{paste, drop-cons, drop-drop, length-take-le}
 use borrow.Author.Tests.{le-leb, lt-leb, eq-eqb, ne-eqb}
 use Rattle.codepage.specs.CodePage.{pick}
 use Rattle.codepage.specs.Lent.{over}
+use Rattle.convert.specs.Runs.{pieceLimit}
 use Rattle.fields.specs.declared.End.{End}
 use Rattle.fields.specs.declared.End.the-variants.{Bar, LineFeed, Text}
 use Rattle.fields.specs.declared.Place.the-variants.{Buffer, Block}
@@ -20,7 +21,7 @@ use Rattle.fields.specs.declared.Refusal.the-variants.{BufferTooShort, B
 use Rattle.fields.specs.declared.Answer.the-variants.{Field as FieldFound, Refused}
 use Rattle.fields.specs.declared.Held.{Held}
 use Rattle.fields.specs.declared.Outcome.{Outcome}
-use Rattle.fields.specs.Fields.{separator, stopAt, unitsIn, orElse, separatorIn, endIn, refusal, fresh, readWith, overFrom, foundCall, heldCall, refusedCall, fieldCall, Answered}
+use Rattle.fields.specs.Fields.{fieldLimit, separator, stopAt, unitsIn, orElse, separatorIn, endIn, refusal, fresh, readWith, overFrom, foundCall, heldCall, refusedCall, fieldCall, Answered}
 use Rattle.fields.specs.Steps.{isSeparator, endOf, Passed, Scanned}
 
 -- ---- separators
@@ -44,6 +45,7 @@ is-separator u e = by (eqb u 0x7C) (eqb u 0x0A) e
 
 -- ---- the scan: the units passed are no separators
 module _ (block : List ℕ) (i : ℕ) (so-far : length (unitsIn block) ≡ i + length (unitsIn (drop i block))) where
+  -- a separator at the place: the field's units in the block end there
   pub scan-stop : i < length block → isSeparator (getD block i 0) ≡ true → i ≡ length (unitsIn block)
   unfolding unitsIn
   scan-stop h e =
@@ -51,6 +53,7 @@ module _ (block : List ℕ) (i : ℕ) (so-far : length (unitsIn block) ≡ i + l
       ap (λ (l : List ℕ). length (unitsIn l)) (drop-cons block i 0 h) ∙ ap (λ (o : Option End). length (stopAt o (getD block i 0 ∷ unitsIn (drop (suc i) block)))) (is-separator _ e) in
       omega arith
 
+  -- no separator at the place: the scan goes one unit on
   pub scan-turn : i < length block → isSeparator (getD block i 0) ≡ false → length (unitsIn block) ≡ (i + 1) + length (unitsIn (drop (i + 1) block))
   unfolding unitsIn
   scan-turn h e =
@@ -58,6 +61,7 @@ module _ (block : List ℕ) (i : ℕ) (so-far : length (unitsIn block) ≡ i + l
       ap (λ (l : List ℕ). length (unitsIn l)) (drop-cons block i 0 h) ∙ ap (λ (o : Option End). length (stopAt o (getD block i 0 ∷ unitsIn (drop (suc i) block)))) (no-separator _ e) in
       rw (add-one i) (omega arith)
 
+  -- the end of the block: all of its units are the field's
   pub scan-end : length block ≤ i → i ≡ length (unitsIn block)
   unfolding unitsIn
   scan-end h =
@@ -66,17 +70,21 @@ module _ (block : List ℕ) (i : ℕ) (so-far : length (unitsIn block) ≡ i + l
 
 -- four units at a time
 module _ (block : List ℕ) where
+  -- no separator at the place, in a scan of four: the next place is passed too
   pub scan-next : (i j : ℕ) → Passed block i → i < length block → isSeparator (getD block i 0) ≡ false → j ≡ i + 1 → Passed block j
   scan-next i j so-far h e q = subst (Passed block) (sym q) (scan-turn block i so-far h e)
 
+  -- a separator among the four units: how many stand before it
   pub scan-found : (i n j : ℕ) → n < 4 → i + n ≡ j → Passed block j → j < length block → isSeparator (getD block j 0) ≡ true → Scanned block i n
   scan-found i n j small q so-far h e =
       record { within = omega arith; found = λ l. q ∙ scan-stop block j so-far h e; passed = λ w. absurd (omega arith) }
 
+  -- no separator among the four units: all four are passed
   pub scan-passed : (i : ℕ) → Passed block (i + 4) → Scanned block i 4
   scan-passed i so-far = record { within = omega arith; found = λ l. absurd (omega arith); passed = λ w. so-far }
 
 -- ---- the copy
+-- the first units of a block, copied behind those held, are laid over the buffer there
 pub laid : (buffer : List ℕ) (held : ℕ) (block : List ℕ) (size : ℕ) → size ≤ length block → paste buffer held block size ≡ overFrom held buffer (take size block)
 unfolding overFrom over
 laid buffer held block size h =
@@ -99,6 +107,7 @@ take-with : (u : ℕ) (block : List ℕ) (o : Option End) → take (length (unit
 take-with u block none e = ap (λ (l : List ℕ). u ∷ l) e
 take-with u block (some end) e = refl
 
+-- the next field's units are the block's first ones
 pub units-taken : (block : List ℕ) → take (length (unitsIn block)) block ≡ unitsIn block
 unfolding unitsIn
 units-taken [] = refl
@@ -130,6 +139,7 @@ separator-none (u ∷ block) h = none-with u block (separator u) h (separator-no
 -- ---- the cases of a call
 module _ (held : ℕ) (buffer units : List ℕ) (end : End) (count read : ℕ) (state : Held) (after : List ℕ) (size : count ≡ length units) (reads : read ≡ readWith end count)
     (new : state ≡ fresh) where
+  -- nothing was held: the field is shown from the block, and the buffer is as before
   pub found-here : held ≡ 0 → after ≡ buffer
       → Answered (foundCall held buffer units end) (record { answer = FieldFound (record { end = end; place = Block; count = count; read = read }); state = state }) after
   unfolding foundCall
@@ -143,6 +153,7 @@ module _ (held : ℕ) (buffer units : List ℕ) (end : End) (count read : ℕ) (
         buffer = e;
       })
 
+  -- units were held: the field is completed behind them and shown from the buffer
   pub found-held : (held ≡ 0 → ⊥) → after ≡ overFrom held buffer units
       → Answered (foundCall held buffer units end) (record { answer = FieldFound (record { end = end; place = Buffer; count = held + count; read = read }); state = state }) after
   unfolding foundCall
@@ -157,37 +168,45 @@ module _ (held : ℕ) (buffer units : List ℕ) (end : End) (count read : ℕ) (
       })
 
 module _ (held : ℕ) (buffer block : List ℕ) (last : Bool) where
-  pub short : length buffer < 256 → refusal held buffer block ≡ some BufferTooShort
+  -- a buffer of under 256 units: 20
+  pub short : length buffer < fieldLimit → refusal held buffer block ≡ some BufferTooShort
   unfolding refusal
   short a = simp (lt-leb _ _ a)
 
-  pub too-long : 256 ≤ length buffer → 65536 < length block → refusal held buffer block ≡ some BlockTooLong
+  -- the block has over 65,536 units: 11
+  pub too-long : fieldLimit ≤ length buffer → pieceLimit < length block → refusal held buffer block ≡ some BlockTooLong
   unfolding refusal
   too-long a b = simp (le-leb _ _ a, lt-leb _ _ b)
 
-  pub invalid : 256 ≤ length buffer → length block ≤ 65536 → 256 < held → refusal held buffer block ≡ some InvalidState
+  -- the state claims over 256 held units: 27
+  pub invalid : fieldLimit ≤ length buffer → length block ≤ pieceLimit → fieldLimit < held → refusal held buffer block ≡ some InvalidState
   unfolding refusal
   invalid a b d = simp (le-leb _ _ a, le-leb _ _ b, lt-leb _ _ d)
 
-  pub over-limit : 256 ≤ length buffer → length block ≤ 65536 → held ≤ 256 → 256 < held + length (unitsIn block) → refusal held buffer block ≡ some FieldTooLong
+  -- the next field has over 256 units: 21
+  pub over-limit : fieldLimit ≤ length buffer → length block ≤ pieceLimit → held ≤ fieldLimit → fieldLimit < held + length (unitsIn block) → refusal held buffer block ≡ some FieldTooLong
   unfolding refusal
   over-limit a b d f = simp (le-leb _ _ a, le-leb _ _ b, le-leb _ _ d, lt-leb _ _ f)
 
-  pub accepted : 256 ≤ length buffer → length block ≤ 65536 → held ≤ 256 → held + length (unitsIn block) ≤ 256 → refusal held buffer block ≡ none
+  -- all four checks pass
+  pub accepted : fieldLimit ≤ length buffer → length block ≤ pieceLimit → held ≤ fieldLimit → held + length (unitsIn block) ≤ fieldLimit → refusal held buffer block ≡ none
   unfolding refusal
   accepted a b d f = simp (le-leb _ _ a, le-leb _ _ b, le-leb _ _ d, le-leb _ _ f)
 
+  -- A refused call, with its refusal, the state it was handed and the buffer untouched, keeps the promise.
   pub call-refused : (why : Refusal) (r : Outcome) → refusal held buffer block ≡ some why → (r .answer ≡ Refused why) × (r .state .count ≡ held)
       → Answered (fieldCall held buffer block last) r buffer
   unfolding fieldCall refusedCall
   call-refused why r e w = rw e (record { answer = w .0; state = w .1; buffer = refl })
 
+  -- An accepted call in which something ends the field keeps the promise if it gave that field.
   pub call-found : (size : ℕ) (end : End) (r : Outcome) (after : List ℕ) → refusal held buffer block ≡ none → endIn held block last ≡ some end → size ≡ length (unitsIn block)
       → Answered (foundCall held buffer (take size block) end) r after → Answered (fieldCall held buffer block last) r after
   unfolding fieldCall
   call-found size end r after e q n w =
       rw (e, q) (subst (λ (l : List ℕ). Answered (foundCall held buffer l end) r after) (ap (λ (k : ℕ). take k block) n ∙ units-taken block) w)
 
+  -- An accepted call in which nothing ends the field keeps the promise if it held the block.
   pub call-held : (r : Outcome) (after : List ℕ) → refusal held buffer block ≡ none → endIn held block last ≡ none
       → Answered (heldCall held buffer block) r after → Answered (fieldCall held buffer block last) r after
   unfolding fieldCall
@@ -198,6 +217,7 @@ module _ (held : ℕ) (buffer block : List ℕ) (last : Bool) where
   unfolding endIn
   end-separator size end n h e = rw (separator-at block size n h) (ap some (sym e))
 
+  -- the block has no separator: the text's end ends the field in a call marked last, if it has units; else nothing does
   pub end-other : (size : ℕ) (t : Bool) → size ≡ length (unitsIn block) → length block ≤ size → size ≤ length block → t ≡ (last && ltb 0 (held + size))
       → endIn held block last ≡ pick t (some Text) none
   unfolding endIn

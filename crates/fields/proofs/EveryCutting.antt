@@ -23,11 +23,12 @@ use Rattle.fields.specs.declared.Answer.{Answer}
 use Rattle.fields.specs.declared.Answer.the-variants.{Field as FieldFound, Incomplete, Refused}
 use Rattle.fields.specs.declared.Held.{Held}
 use Rattle.fields.specs.Fields.{Field, fieldsOf, separator, unitsIn, orElse, separatorIn, endIn, fieldLimit, check, refusal, fresh, Called, readWith, overFrom, foundCall, heldCall, refusedCall, acceptedCall, unlessRefused, fieldCall, partOf, isAccepted, readBy}
-use Rattle.fields.specs.Cuttings.{Entry, Shown, Meets, AllMeet, givenBy, Progress, opened, next, play, Allowed, AllAllowed, Trace, Cut}
+use Rattle.fields.specs.Cuttings.{Entry, Shown, EntryMeets, AllMeet, givenBy, Progress, opened, next, play, Allowed, AllAllowed, Trace, Cut}
 use Rattle.fields.proofs.FieldLaws.{separator-append, units-plain, units-all, split, field-first, field-last}
 use Rattle.fields.proofs.CallLaws.{units-taken, units-fit}
 
 -- ---- lists
+-- what is left behind a block that was read
 pub drop-past : (n : ℕ) (text a b : List ℕ) → drop n text ≡ a ++ b → drop (n + length a) text ≡ b
 drop-past n text a b e = sym (drop-drop (length a) n text) ∙ ap (drop (length a)) e ∙ drop-append-seam a b
 
@@ -99,6 +100,7 @@ check-holds : (why : Refusal) (t : Bool) (o : Option Refusal) → check why t o 
 check-holds why true o e = (refl, e)
 check-holds why false o e = let z : _≡_ {A = ℕ} 0 1 = cc in absurd (omega arith)
 
+-- an accepted call: the buffer has at least 256 units; the units held and the field's units in the block are at most 256
 pub accepted-fits : (held : ℕ) (buffer block : List ℕ) → refusal held buffer block ≡ none → (256 ≤ length buffer) × (held + length (unitsIn block) ≤ 256)
 unfolding refusal
 accepted-fits held buffer block e =
@@ -123,6 +125,7 @@ separator-read u end n e = by (eqb u 0x7C) (eqb u 0x0A) end e
     by false true Text e = let z : _≡_ {A = ℕ} 0 1 = cc in absurd (omega arith)
     by false false Text e = let z : _≡_ {A = ℕ} 0 1 = cc in absurd (omega arith)
 
+-- what ended the field: a separator in the block or, where there is none, the text's end or nothing
 pub or-cases : (o : Option End) (t : Bool) (p : Option End) → orElse o (pick t (some Text) none) ≡ p
     → ((end : End) × (o ≡ some end) × (p ≡ some end)) ⊎ ((o ≡ none) × (p ≡ pick t (some Text) none))
 or-cases none t p e = inr (refl, sym e)
@@ -275,6 +278,7 @@ pub record Kept (text : List ℕ) (state : Held) (buffer : List ℕ) (p : Progre
   pub left : fieldsOf text ≡ p .given ++ fieldsOf (take (state .count) buffer ++ drop (p .position) text)
   pub all : p .finished ≡ true → fieldsOf text ≡ p .given
 
+-- before the first call nothing is held, and all of the text is left
 pub kept-start : (text buffer : List ℕ) → Kept text fresh buffer opened
 unfolding separatorIn
 kept-start text buffer = record { inside = omega arith; plain = refl; within = omega arith; left = refl; all = λ e. absurd (false≢true e) }
@@ -297,7 +301,7 @@ or-true true b e = inl refl
 or-true false b e = inr e
 
 module _ (text : List ℕ) (state : Held) (buffer : List ℕ) (p : Progress) (e : Entry) (rest : List ℕ) (k : Kept text state buffer p) (here : drop (p .position) text ≡ e .block ++ rest)
-    (to-end : e .last ≡ true → rest ≡ []) (w : Meets state buffer e) where
+    (to-end : e .last ≡ true → rest ≡ []) (w : EntryMeets state buffer e) where
   abbrev call : Called
   call = fieldCall (state .count) buffer (e .block) (e .last)
 
@@ -340,9 +344,11 @@ module _ (text : List ℕ) (state : Held) (buffer : List ℕ) (p : Progress) (e 
       later-is
       ∙ went .done (ap isAccepted (sym (w .call .answer)) ∙ a) l (drop-of-length-le text {i = p .position + went .read} (omega (arith, read-now)))
 
+  -- a call keeps the buffer's length
   pub kept-size : length (e .buffer) ≡ length buffer
   kept-size = ap length (w .call .buffer) ∙ went .same-size
 
+  -- An allowed call that meets the contracts keeps it: the fields are those given, and those of what is held and left.
   pub kept-call : Kept text (e .outcome .state) (e .buffer) (next text p e)
   unfolding next
   kept-call =

@@ -14,6 +14,7 @@ or-none : (o p : Option End) → orElse o p ≡ none → (o ≡ none) × (p ≡ 
 or-none none p e = (refl, e)
 or-none (some end) p e = let z : _≡_ {A = ℕ} 0 1 = cc in absurd (omega arith)
 
+-- behind units that are no separators the first separator is that of the rest
 pub separator-append : (a b : List ℕ) → separatorIn a ≡ none → separatorIn (a ++ b) ≡ separatorIn b
 unfolding separatorIn
 separator-append [] b e = refl
@@ -26,6 +27,7 @@ unfolding separatorIn
 stop-none none u l e q = ap (λ (o : Option End). orElse o (separatorIn l)) q ∙ e
 stop-none (some end) u l e q = refl
 
+-- the units before the first separator are no separators
 pub units-plain : (block : List ℕ) → separatorIn (unitsIn block) ≡ none
 unfolding unitsIn separatorIn
 units-plain [] = refl
@@ -60,6 +62,7 @@ split-with u block end none q e later =
 split-with u block end (some end′) q e later =
     record { unit = u; behind = block; is-end = q ∙ e; parts = ap (λ (o : Option End). stopAt o (u ∷ unitsIn block) ++ (u ∷ block)) (sym q) }
 
+-- a block that has a separator is the units before it, the separator, and what is behind it
 pub split : (block : List ℕ) (end : End) → separatorIn block ≡ some end → Split block end
 unfolding separatorIn
 split [] end e = let z : _≡_ {A = ℕ} 0 1 = cc in absurd (omega arith)
@@ -71,6 +74,7 @@ unfoldable pub begin : List ℕ → List Field → List Field
 begin [] fields = fields
 begin (u ∷ units) fields = prepend u (begin units fields)
 
+-- units that are no separators, before a text, begin the first of its fields
 pub fields-begin : (units text : List ℕ) → separatorIn units ≡ none → fieldsOf (units ++ text) ≡ begin units (fieldsOf text)
 unfolding fieldsOf separatorIn begin
 fields-begin [] text e = refl

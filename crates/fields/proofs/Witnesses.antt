@@ -20,8 +20,8 @@ use Rattle.fields.specs.declared.Answer.{Answer}
 use Rattle.fields.specs.declared.Answer.the-variants.{Field as FieldFound, Incomplete, Refused}
 use Rattle.fields.specs.declared.Held.{Held}
 use Rattle.fields.specs.Fields.{Field, separator, prepend, fieldsOf, stopAt, unitsIn, orElse, separatorIn, endIn, fieldLimit, AllWithin, fresh, refusal, Called, readWith, foundCall, heldCall, refusedCall, acceptedCall, fieldCall, isAccepted, readBy}
-use Rattle.fields.specs.Cuttings.{Entry, Shown, Meets, AllMeet, Progress, opened, next, play, Allowed, AllAllowed, Trace, NoneRefused}
-use Rattle.fields.specs.Examples.{rows, AllHold}
+use Rattle.fields.specs.Cuttings.{Entry, Shown, EntryMeets, AllMeet, Progress, opened, next, play, Allowed, AllAllowed, Trace, NoneRefused}
+use Rattle.fields.specs.Examples.{rows, FieldRowsHold}
 use Rattle.fields.proofs.FieldLaws.{separator-append, units-plain, begin, fields-begin}
 use Rattle.fields.proofs.CallLaws.{units-taken, short, too-long, invalid, over-limit, accepted}
 use Rattle.fields.proofs.EveryCutting.{drop-past, shownOf, separator-read, Kept, kept-start, kept-call, kept-size, every-cutting}
@@ -42,7 +42,7 @@ answering state buffer block last =
       part = shownOf (fieldCall (state .count) buffer block last .answer) (fieldCall (state .count) buffer block last .buffer) block;
     }
 
-answering-meets : (state : Held) (buffer block : List ℕ) (last : Bool) → Meets state buffer (answering state buffer block last)
+answering-meets : (state : Held) (buffer block : List ℕ) (last : Bool) → EntryMeets state buffer (answering state buffer block last)
 unfolding answering
 answering-meets state buffer block last =
     record {
@@ -50,7 +50,7 @@ answering-meets state buffer block last =
       part = shown-self (fieldCall (state .count) buffer block last .answer) (fieldCall (state .count) buffer block last .buffer) block;
     }
 
-pub every-call-answered : (state : Held) (buffer block : List ℕ) (last : Bool) → (e : Entry) × (e .block ≡ block) × (e .last ≡ last) × Meets state buffer e
+pub every-call-answered : (state : Held) (buffer block : List ℕ) (last : Bool) → (e : Entry) × (e .block ≡ block) × (e .last ≡ last) × EntryMeets state buffer e
 unfolding answering
 every-call-answered state buffer block last = (answering state buffer block last, refl, refl, answering-meets state buffer block last)
 
@@ -186,6 +186,7 @@ one-by-one (u ∷ left) text state buffer p k here within room =
     (omega (arith, kept-size text state buffer p e left k here (λ q. absurd (false≢true q)) met)) in
     (e ∷ later .0, ((left, here, λ q. absurd (false≢true q)), later .1), (met, later .2), later .3)
 
+-- Every text whose fields are within the limit has a list of calls that gives all of its fields.
 pub all-given : (text buffer : List ℕ) → AllWithin (fieldsOf text) → fieldLimit ≤ length buffer → (es : List Entry) × Trace text buffer es × (play text opened es .given ≡ fieldsOf text)
 all-given text buffer within room =
     let (es, allowed, met, finished) = one-by-one text text fresh buffer opened (kept-start text buffer) refl within room in
@@ -222,6 +223,6 @@ every-refusal FieldTooLong =
     one = omega arith
 
 -- ---- the worked texts
-pub rows-hold : AllHold rows
+pub rows-hold : FieldRowsHold rows
 unfolding fieldsOf separator prepend
 rows-hold = (refl, (refl, (refl, (refl, (refl, (refl, (refl, tt)))))))

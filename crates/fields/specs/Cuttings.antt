@@ -1,4 +1,4 @@
--- Document 02, CR 1: lists of calls on one text, and the one claim over every list.
+-- Document 02, CR 1: lists of calls on one text, and the one claim over every list. docs/RULES.md, "Fields".
 use mathlib.Core.Bool.{Bool, true, false, _&&_, _||_}
 use mathlib.Core.List.{List, [], _∷_, _++_}
 use mathlib.Core.Path.{_≡_}
@@ -28,15 +28,16 @@ Shown (Incomplete read) buffer block part = Unit {0}
 Shown (Refused refusal) buffer block part = Unit {0}
 
 -- The contracts of the program, for the state and the buffer before the call: the definitions that they cite, and nothing else.
-pub record Meets (state : Held) (buffer : List ℕ) (e : Entry) : Type 0 where
+pub record EntryMeets (state : Held) (buffer : List ℕ) (e : Entry) : Type 0 where
   pub call : Answered (fieldCall (state .count) buffer (e .block) (e .last)) (e .outcome) (e .buffer)
   pub part : Shown (e .outcome .answer) (e .buffer) (e .block) (e .part)
 
 -- Each call gets state and buffer as the call before left them, and its results meet the contracts.
 unfoldable pub AllMeet : Held → (buffer : List ℕ) → List Entry → Type 0
 AllMeet state buffer [] = Unit {0}
-AllMeet state buffer (e ∷ es) = Meets state buffer e × AllMeet (e .outcome .state) (e .buffer) es
+AllMeet state buffer (e ∷ es) = EntryMeets state buffer e × AllMeet (e .outcome .state) (e .buffer) es
 
+-- the field that a call gave, with what ended it, or none
 abbrev pub givenBy : Answer → (part : List ℕ) → List Field
 givenBy (FieldFound found) part = record { units = part; end = found .end } ∷ []
 givenBy (Incomplete read) part = []
@@ -48,9 +49,11 @@ pub record Progress : Type 0 where
   pub given : List Field
   pub finished : Bool
 
+-- before the first call: nothing read, no field given
 abbrev pub opened : Progress
 opened = record { position = 0; given = []; finished = false }
 
+-- one call more: the units it read and the field it gave are added, and whether the text is finished with it
 unfoldable pub next : (text : List ℕ) → Progress → Entry → Progress
 next text p e =
     record {
@@ -59,6 +62,7 @@ next text p e =
       finished = p .finished || (isAccepted (e .outcome .answer) && (e .last && eqb (p .position + readBy (e .outcome .answer)) (length text)));
     }
 
+-- how far a list is after all of its calls
 unfoldable pub play : (text : List ℕ) → Progress → List Entry → Progress
 play text p [] = p
 play text p (e ∷ es) = play text (next text p e) es
@@ -68,6 +72,7 @@ play text p (e ∷ es) = play text (next text p e) es
 unfoldable pub Allowed : (text : List ℕ) → Progress → Entry → Type 0
 Allowed text p e = (rest : List ℕ) × (drop (p .position) text ≡ e .block ++ rest) × (e .last ≡ true → rest ≡ [])
 
+-- every call of a list is allowed where it stands
 unfoldable pub AllAllowed : (text : List ℕ) → Progress → List Entry → Type 0
 AllAllowed text p [] = Unit {0}
 AllAllowed text p (e ∷ es) = Allowed text p e × AllAllowed text (next text p e) es

@@ -16,6 +16,7 @@ field units end = record { units = units; end = end }
 abbrev row : List ℕ → List Field → Row
 row text fields = record { text = text; fields = fields }
 
+-- texts with their fields: none, separators alone, a last field without a separator, a character before a bar
 abbrev pub rows : List Row
 rows =
     row [] []
@@ -28,6 +29,7 @@ rows =
     ∷ row (0x4E00 ∷ 0x7C ∷ []) (field (0x4E00 ∷ []) Bar ∷ [])
     ∷ []
 
-abbrev pub AllHold : List Row → Type 0
-AllHold [] = Unit {0}
-AllHold (r ∷ rs) = (fieldsOf (r .text) ≡ r .fields) × AllHold rs
+-- the fields of each text are those of its row
+abbrev pub FieldRowsHold : List Row → Type 0
+FieldRowsHold [] = Unit {0}
+FieldRowsHold (r ∷ rs) = (fieldsOf (r .text) ≡ r .fields) × FieldRowsHold rs

@@ -1,4 +1,4 @@
--- Document 02, CR 1: the fields of a text, and one call that gives the next field.
+-- Document 02, CR 1: the fields of a text, and one call that gives the next field. docs/RULES.md, "Fields".
 use mathlib.Core.Bool.{Bool, true, false, _&&_}
 use mathlib.Core.List.{List, [], _∷_, _++_}
 use mathlib.Core.Option.{Option, none, some}
@@ -36,6 +36,7 @@ unfoldable pub prepend : (unit : ℕ) → List Field → List Field
 prepend unit [] = record { units = unit ∷ []; end = Text } ∷ []
 prepend unit (f ∷ fields) = record { units = unit ∷ f .units; end = f .end } ∷ fields
 
+-- a unit in front of the fields behind it: it begins the next field or, as a separator, ends one that has no units
 abbrev pub before : (unit : ℕ) → Option End → List Field → List Field
 before unit none fields = prepend unit fields
 before unit (some end) fields = record { units = []; end = end } ∷ fields
@@ -45,30 +46,34 @@ unfoldable pub fieldsOf : (text : List ℕ) → List Field
 fieldsOf [] = []
 fieldsOf (unit ∷ text) = before unit (separator unit) (fieldsOf text)
 
--- The fields of a list up to one that the text's end ended: those that a separator ended.
+-- whether the text's end ended a field
 abbrev pub isText : End → Bool
 isText Bar = false
 isText LineFeed = false
 isText Text = true
 
+-- The fields of a list up to one that the text's end ended: those that a separator ended.
 unfoldable pub separated : List Field → List Field
 separated [] = []
 separated (f ∷ fields) = pick (isText (f .end)) [] (f ∷ separated fields)
 
 -- ---- one call
--- The next field's units in a block: those before its first separator, if it has one.
+-- no units where a separator stands, else these
 abbrev pub stopAt : Option End → List ℕ → List ℕ
 stopAt none units = units
 stopAt (some end) units = []
 
+-- The next field's units in a block: those before its first separator, or all of them.
 unfoldable pub unitsIn : (block : List ℕ) → List ℕ
 unitsIn [] = []
 unitsIn (unit ∷ block) = stopAt (separator unit) (unit ∷ unitsIn block)
 
+-- the first of two ends that is there
 abbrev pub orElse : Option End → Option End → Option End
 orElse none other = other
 orElse (some end) other = some end
 
+-- the first separator in a block, if it has one
 unfoldable pub separatorIn : (block : List ℕ) → Option End
 separatorIn [] = none
 separatorIn (unit ∷ block) = orElse (separator unit) (separatorIn block)
@@ -91,12 +96,13 @@ abbrev pub fresh : Held
 fresh = record { count = 0 }
 
 -- The numbers of the refusals.
-abbrev pub numberOf : Refusal → ℕ
-numberOf BufferTooShort = 20
-numberOf BlockTooLong = 11
-numberOf InvalidState = 27
-numberOf FieldTooLong = 21
+abbrev pub refusalNumber : Refusal → ℕ
+refusalNumber BufferTooShort = 20
+refusalNumber BlockTooLong = 11
+refusalNumber InvalidState = 27
+refusalNumber FieldTooLong = 21
 
+-- a check that holds, and the next one, or the refusal
 abbrev pub check : Refusal → Bool → Option Refusal → Option Refusal
 check refusal holds next = pick holds next (some refusal)
 
@@ -140,13 +146,16 @@ foundCall held buffer units end =
 unfoldable pub heldCall : (held : ℕ) → (buffer block : List ℕ) → Called
 heldCall held buffer block = record { answer = Incomplete (length block); held = held + length block; buffer = overFrom held buffer block }
 
+-- A refused call changes neither the units held nor the buffer.
 unfoldable pub refusedCall : (held : ℕ) → (buffer : List ℕ) → Refusal → Called
 refusedCall held buffer refusal = record { answer = Refused refusal; held = held; buffer = buffer }
 
+-- an accepted call: the field, if something ends it, or the block held
 abbrev pub acceptedCall : (held : ℕ) → (buffer block : List ℕ) → Option End → Called
 acceptedCall held buffer block none = heldCall held buffer block
 acceptedCall held buffer block (some end) = foundCall held buffer (unitsIn block) end
 
+-- a call that was refused, or the accepted one
 abbrev pub unlessRefused : (held : ℕ) → (buffer : List ℕ) → Option Refusal → Called → Called
 unlessRefused held buffer none call = call
 unlessRefused held buffer (some refusal) call = refusedCall held buffer refusal
@@ -161,12 +170,13 @@ pub record Answered (c : Called) (r : Outcome) (after : List ℕ) : Type 0 where
   pub state : r .state .count ≡ c .held
   pub buffer : after ≡ c .buffer
 
--- What was read, and what of it was a field.
+-- whether a call was accepted
 abbrev pub isAccepted : Answer → Bool
 isAccepted (FieldFound found) = true
 isAccepted (Incomplete read) = true
 isAccepted (Refused refusal) = false
 
+-- the units of the block that a call read
 abbrev pub readBy : Answer → ℕ
 readBy (FieldFound found) = found .read
 readBy (Incomplete read) = read

@@ -10,6 +10,7 @@ use Rattle.fields.specs.declared.End.{End}
 use Rattle.fields.specs.declared.End.the-variants.{Bar, LineFeed}
 use Rattle.fields.specs.Fields.{unitsIn}
 
+-- whether a unit is a bar or a line feed, as the program asks it
 abbrev pub isSeparator : (unit : ℕ) → Bool
 isSeparator unit = eqb unit 0x7C || eqb unit 0x0A
 

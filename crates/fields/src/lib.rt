@@ -1,12 +1,18 @@
-// Cuts a text of UTF-16 units that is met in blocks into fields. A field is shown from the block, or from a lent buffer where it
-// began in an earlier block. (Document 02, CR 1.)
+// Cuts a text of UTF-16 units that is met in blocks into fields, at bars and line feeds. A field is shown from the block, or from a lent
+// buffer where it began in an earlier block. (Document 02, CR 1; docs/RULES.md, "Fields".)
+//
+// In the order of use: `Held::fresh` is the state before the first block; `next_field` gives the next field of a block and what ended
+// it, or holds the block; `field` shows the units of a field that was found.
+//
+//     let outcome = fields::next_field(state, buffer, block, last);    // buffer: &mut [u16], at least 256
+//     state = outcome.state;                                           // then again on the block behind what was read
 ghost use mathlib.Core.Path.{_≡_};
 ghost use mathlib.Core.Bool.{_&&_};
 ghost use Prim.Native.Nat.{_+_, _≤_};
 ghost use lib.Dec.{ltb};
 ghost use lib.ListN.{length, take};
 ghost use denote.Ref.{ptr};
-ghost use Rattle.fields.specs.Fields.{unitsIn, numberOf, fresh, overFrom, readWith, foundCall, heldCall, fieldCall, Answered, front, ShownAs};
+ghost use Rattle.fields.specs.Fields.{unitsIn, refusalNumber, fresh, overFrom, readWith, foundCall, heldCall, fieldCall, Answered, front, ShownAs};
 ghost use Rattle.fields.specs.Steps.{isSeparator, endOf, Passed, Scanned};
 ghost use Rattle.convert.specs.Runs.{pieceLimit};
 use convert::Run;
@@ -70,7 +76,7 @@ pub struct Outcome {
 impl Refusal {
     // The number that the documents give the refusal.
     pub fn number(self) -> u8
-        ensures { λ r. ⌜ r ≡ numberOf self ⌝ }
+        ensures { λ r. ⌜ r ≡ refusalNumber self ⌝ }
     {
         match self {
             Refusal::BufferTooShort => 20,
@@ -97,6 +103,7 @@ const BAR: u16 = 0x7C;
 
 const LINE_FEED: u16 = 0x0A;
 
+// Whether a unit is a bar or a line feed.
 fn is_separator(unit: u16) -> bool
     ensures { λ r. ⌜ r ≡ isSeparator unit ⌝ }
 {
@@ -175,6 +182,7 @@ fn lay(buffer: &mut [u16], held: usize, block: &[u16], size: usize)
     }
 }
 
+// The units of the block that a field takes: its own, and one for the separator that ended it.
 fn read_with(end: End, size: usize) -> usize
     requires { ⌜ size ≤ pieceLimit ⌝ }
     ensures { λ r. ⌜ r ≡ readWith end size ⌝ }
@@ -196,6 +204,7 @@ fn ends_text(last: bool, count: usize) -> bool
     false
 }
 
+// The result of a refused call: its refusal, and the state it was handed.
 fn refused(refusal: Refusal, state: Held) -> Outcome
     ensures { λ r. ⌜ (r .answer ≡ Answer.Refused refusal) × (r .state .count ≡ state .count) ⌝ }
 {

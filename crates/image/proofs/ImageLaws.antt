@@ -13,10 +13,12 @@ use Rattle.codepage.specs.declared.Numbers.{Numbers}
 use Rattle.image.specs.declared.Sizes.{Sizes}
 use Rattle.image.specs.declared.Loaded.the-variants.{Table, NotAnImage}
 use Rattle.codepage.specs.Lent.{over}
+use Rattle.codepage.proofs.ShapeLaws.{and-left, and-right}
 use Rattle.image.specs.Image.{two, numbersOf, sizesOf, singlesAt, pairsAt, indexAt, blocksAt, endOf, part, units, zerosKept, fit, isImage, roomsOf, tablesOf, notAnImage, loadOf, LoadedAs}
 
 -- ---- a loop that lays elements over a table
 module _ (elements before : List ℕ) where
+  -- one turn: the next element takes its place
   pub lay-turn : (table : List ℕ) (i value : ℕ) → table ≡ take i elements ++ drop i before → i < length elements → i < length before → value ≡ getD elements i 0
       → set table i value ≡ take (i + 1) elements ++ drop (i + 1) before
   lay-turn table i value so-far h k e =
@@ -28,6 +30,7 @@ module _ (elements before : List ℕ) where
       ∙ ap (λ (r : List ℕ). r ++ drop (suc i) before) (sym (take-suc elements i 0 h))
       ∙ ap (λ (n : ℕ). take n elements ++ drop n before) (sym (add-one i))
 
+  -- the end: all elements are laid over the table, and beyond them it is as before
   pub lay-end : (table : List ℕ) (i : ℕ) → table ≡ take i elements ++ drop i before → i ≡ length elements → table ≡ over before elements
   unfolding over
   lay-end table i so-far e =
@@ -57,10 +60,12 @@ units-at (low ∷ high ∷ bytes) (suc i) h =
 
 -- ---- a part of the bytes
 module _ (bytes : List ℕ) (place count : ℕ) (inside : place + count ≤ length bytes) where
+  -- a part that lies in the bytes has as many bytes as it asks for
   pub part-length : length (part bytes place count) ≡ count
   unfolding part
   part-length = length-take-le count (drop place bytes) (omega (arith, length-drop place bytes))
 
+  -- and at each of its places the byte that stands there
   pub part-at : (i : ℕ) → i < count → getD bytes (place + i) 0 ≡ getD (part bytes place count) i 0
   unfolding part
   part-at i h = sym (getD-take count (drop place bytes) i 0 h ∙ getD-drop place bytes i 0)
@@ -78,18 +83,11 @@ part-unit bytes place count i inside h =
     ∙ ap (λ (x : ℕ). getD (part bytes place (2 * count)) (2 * i) 0 + 256 * x) high
     ∙ units-at (part bytes place (2 * count)) i (omega arith)
 
+-- a part of elements of two bytes has so many of them
 pub part-units-length : (bytes : List ℕ) (place count : ℕ) → place + 2 * count ≤ length bytes → length (units (part bytes place (2 * count))) ≡ count
 part-units-length bytes place count inside = units-length (part bytes place (2 * count)) count (part-length bytes place (2 * count) inside)
 
 -- ---- what is known of an image
-and-left : (a b : Bool) → (a && b) ≡ true → a ≡ true
-and-left true b e = refl
-and-left false b e = e
-
-and-right : (a b : Bool) → (a && b) ≡ true → b ≡ true
-and-right true b e = e
-and-right false b e = cc
-
 pub record Fit (sizes rooms : Sizes) : Type 0 where
   pub classes : sizes .classes ≤ rooms .classes
   pub singles : sizes .singles ≤ rooms .singles
@@ -120,6 +118,7 @@ pub record Known (bytes : List ℕ) (sizes rooms : Sizes) : Type 0 where
   pub fits : Fit sizes rooms
   pub whole : length bytes ≡ 28 + sizes .classes + 2 * sizes .singles + 2 * sizes .pairs + sizes .index + 2 * sizes .blocks
 
+-- an image has a whole head
 pub image-head : (bytes : List ℕ) (rooms : Sizes) → isImage bytes rooms ≡ true → 28 ≤ length bytes
 unfolding isImage
 image-head bytes rooms h =
@@ -129,6 +128,7 @@ image-head bytes rooms h =
     let e : Bool = eqb (length bytes) (endOf (sizesOf bytes)) in
     leb-true _ _ (and-left a b (and-left (a && b) d (and-left (a && b && d) e h)))
 
+-- the tables of an image fit, and it has exactly the bytes that its sizes ask for
 pub image-known : (bytes : List ℕ) (sizes rooms : Sizes) → isImage bytes rooms ≡ true → sizes ≡ sizesOf bytes → Known bytes sizes rooms
 unfolding isImage endOf blocksAt indexAt pairsAt singlesAt
 image-known bytes sizes rooms h s =
@@ -144,6 +144,7 @@ image-known bytes sizes rooms h s =
 
 -- ---- the answers of reading an image
 module _ (bytes classes singles pairs index blocks : List ℕ) where
+  -- bytes that are no image: no table is changed
   pub refused : isImage bytes (roomsOf classes singles pairs index blocks) ≡ false
       → LoadedAs (loadOf bytes (roomsOf classes singles pairs index blocks)) NotAnImage classes classes singles singles pairs pairs index index blocks blocks
   unfolding loadOf notAnImage over
@@ -158,6 +159,7 @@ module _ (bytes classes singles pairs index blocks : List ℕ) where
         lent-blocks = refl;
       })
 
+  -- an image: each table has its elements laid over it
   pub accepted : (classes′ singles′ pairs′ index′ blocks′ : List ℕ) (numbers : Numbers) (sizes : Sizes)
       → isImage bytes (roomsOf classes singles pairs index blocks) ≡ true
       → numbers ≡ numbersOf bytes

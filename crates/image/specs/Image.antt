@@ -5,7 +5,7 @@ use mathlib.Core.Path.{_≡_}
 use Prim.Native.Nat.{ℕ, _+_, _*_}
 use lib.Dec.{leb, eqb}
 use lib.ListN.{length, take, drop}
-use Rattle.codepage.specs.CodePage.{pick, entry}
+use Rattle.codepage.specs.CodePage.{pick, entryAt}
 use Rattle.codepage.specs.Lent.{over}
 use Rattle.codepage.specs.declared.Numbers.{Numbers}
 use Rattle.image.specs.declared.Sizes.{Sizes}
@@ -14,18 +14,21 @@ use Rattle.image.specs.declared.Loaded.the-variants.{Table, NotAnImage}
 
 -- numbers of two and of four bytes
 unfoldable pub two : (bytes : List ℕ) → (place : ℕ) → ℕ
-two bytes place = entry bytes place + 256 * entry bytes (place + 1)
+two bytes place = entryAt bytes place + 256 * entryAt bytes (place + 1)
 
+-- a number of four bytes at a place, low byte first
 unfoldable pub four : (bytes : List ℕ) → (place : ℕ) → ℕ
 four bytes place = two bytes place + 65536 * two bytes (place + 2)
 
 -- The head: page (2 bytes), default byte (1), zero (1), default unit (2), zero (2), then five sizes of 4 bytes each.
 unfoldable pub numbersOf : (bytes : List ℕ) → Numbers
-numbersOf bytes = record { page = two bytes 0; «default_byte» = entry bytes 2; «default_unit» = two bytes 4 }
+numbersOf bytes = record { page = two bytes 0; «default_byte» = entryAt bytes 2; «default_unit» = two bytes 4 }
 
+-- the two places of the head that must be 0 are 0
 unfoldable pub zerosKept : (bytes : List ℕ) → Bool
-zerosKept bytes = eqb (entry bytes 3) 0 && eqb (two bytes 6) 0
+zerosKept bytes = eqb (entryAt bytes 3) 0 && eqb (two bytes 6) 0
 
+-- the sizes that the head names: how many elements each table has
 unfoldable pub sizesOf : (bytes : List ℕ) → Sizes
 sizesOf bytes =
     record {
@@ -40,12 +43,15 @@ sizesOf bytes =
 unfoldable pub singlesAt : Sizes → ℕ
 singlesAt s = 28 + s .classes
 
+-- where pairs begin, behind the singles
 unfoldable pub pairsAt : Sizes → ℕ
 pairsAt s = singlesAt s + 2 * s .singles
 
+-- where index begins, behind the pairs
 unfoldable pub indexAt : Sizes → ℕ
 indexAt s = pairsAt s + 2 * s .pairs
 
+-- where blocks begin, behind index
 unfoldable pub blocksAt : Sizes → ℕ
 blocksAt s = indexAt s + s .index
 
@@ -76,6 +82,7 @@ fit sizes rooms =
 unfoldable pub isImage : (bytes : List ℕ) → (rooms : Sizes) → Bool
 isImage bytes rooms = leb 28 (length bytes) && zerosKept bytes && fit (sizesOf bytes) rooms && eqb (length bytes) (endOf (sizesOf bytes))
 
+-- how many elements each lent table has room for
 abbrev pub roomsOf : (classes singles pairs index blocks : List ℕ) → Sizes
 roomsOf classes singles pairs index blocks =
     record {
@@ -87,7 +94,7 @@ roomsOf classes singles pairs index blocks =
     }
 
 -- What reading an image gives: its answer, and the elements of each table.
-pub record Loading : Type 0 where
+pub record LoadedImage : Type 0 where
   pub answer : Loaded
   pub classes : List ℕ
   pub singles : List ℕ
@@ -95,7 +102,8 @@ pub record Loading : Type 0 where
   pub index : List ℕ
   pub blocks : List ℕ
 
-unfoldable pub tablesOf : (bytes : List ℕ) → Sizes → Loading
+-- what an image gives: the numbers and sizes of its head, and the elements of its tables
+unfoldable pub tablesOf : (bytes : List ℕ) → Sizes → LoadedImage
 tablesOf bytes s =
     record {
       answer = Table (numbersOf bytes) s;
@@ -106,14 +114,16 @@ tablesOf bytes s =
       blocks = units (part bytes (blocksAt s) (2 * s .blocks));
     }
 
-unfoldable pub notAnImage : Loading
+-- what bytes give that are no image, or whose tables do not fit: nothing is laid into the lent tables
+unfoldable pub notAnImage : LoadedImage
 notAnImage = record { answer = NotAnImage; classes = []; singles = []; pairs = []; index = []; blocks = [] }
 
-unfoldable pub loadOf : (bytes : List ℕ) → (rooms : Sizes) → Loading
+-- What reading some bytes gives, with so much room in the lent tables.
+unfoldable pub loadOf : (bytes : List ℕ) → (rooms : Sizes) → LoadedImage
 loadOf bytes rooms = pick (isImage bytes rooms) (tablesOf bytes (sizesOf bytes)) notAnImage
 
 -- The promise of reading: the answer, and each lent table before and after.
-pub record LoadedAs (l : Loading) (r : Loaded) (classes classes′ singles singles′ pairs pairs′ index index′ blocks blocks′ : List ℕ) : Type 0 where
+pub record LoadedAs (l : LoadedImage) (r : Loaded) (classes classes′ singles singles′ pairs pairs′ index index′ blocks blocks′ : List ℕ) : Type 0 where
   pub answer : r ≡ l .answer
   pub lent-classes : classes′ ≡ over classes (l .classes)
   pub lent-singles : singles′ ≡ over singles (l .singles)

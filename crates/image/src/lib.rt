@@ -1,4 +1,9 @@
-// A table image: a table set as bytes, read into lent tables. (docs/CONSOLE.md, "A table image".)
+// A table image, a table set as bytes, read into lent tables. (docs/CONSOLE.md, "A table image".) A tool for programs that take their
+// tables from a file: the box has its tables in flash. Its refusal has no number of document 01.
+//
+//     let loaded = image::load(bytes, classes, singles, pairs, index, blocks);
+//
+// `Loaded::Table(numbers, sizes)`: the fronts of the lent tables, `sizes` long, hold the image's. Else they are as before.
 ghost use mathlib.Core.Path.{_≡_};
 ghost use Prim.Native.Nat.{_+_, _*_, _≤_, _<_, _^_};
 ghost use lib.ListN.{length};

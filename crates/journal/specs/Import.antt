@@ -1,4 +1,5 @@
 -- Document 02, CR 1: a list of run calls, and a list of field calls on what they wrote.
+-- docs/RULES.md, "Lists of calls" and "Fields".
 use mathlib.Core.Bool.{Bool, true, false}
 use mathlib.Core.List.{List, [], _∷_, _++_}
 use mathlib.Core.Logic.{_⊎_}
@@ -14,6 +15,7 @@ use Rattle.fields.specs.Cuttings.{Entry, Progress, opened as begun, play as cut
 unfoldable pub written : Setting → List RunEntry → List ℕ
 written s es = play s (opened s) (callsOf es) .joined
 
+-- whether the run calls have ended the run
 unfoldable pub isEnded : Setting → List RunEntry → Bool
 isEnded s es = play s (opened s) (callsOf es) .ended
 
@@ -35,6 +37,7 @@ nightText = 0x82 ∷ 0x7C ∷ 0x7C ∷ []
 abbrev pub nightLine : List ℕ
 nightLine = 0x44 ∷ 9 ∷ 0x37 ∷ 9 ∷ 0x35 ∷ 0x35 ∷ 0x35 ∷ 9 ∷ 0x38 ∷ 0x32 ∷ 9 ∷ 0x30 ∷ 9 ∷ 0x31 ∷ 9 ∷ 0x30 ∷ 9 ∷ 0x6F ∷ 0x6E ∷ 0x0A ∷ []
 
+-- its calls: the piece 82, line writing, line reading, and 7C 7C marked last
 abbrev pub night : List Call
 night = feeding (0x82 ∷ []) false (room 9) ∷ saving (room 44) ∷ loading nightLine ∷ feeding (0x7C ∷ 0x7C ∷ []) true (room 9) ∷ []
 

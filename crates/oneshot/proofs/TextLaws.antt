@@ -11,8 +11,8 @@ use lib.ListN.{length, length-append, take, drop}
 use denote.Ref.{RefT, ptr, now}
 use lib.Seq.{take-at}
 use borrow.Author.Tests.{leb-true, le-leb, ltb-true, ltb-false, eq-eqb, ne-eqb}
-use Rattle.codepage.specs.CodePage.{CodePage, pick, entry, GoodShape, firstFault, isGood}
-use Rattle.codepage.specs.Reading.{Code, sizeOf, callCodes, waitingUnit}
+use Rattle.codepage.specs.CodePage.{CodePage, pick, entryAt, GoodShape, firstFault, isGood}
+use Rattle.codepage.specs.Reading.{Code, sizeOf, callCodes, leftPending}
 use Rattle.codepage.proofs.ShapeLaws.{shape-exact}
 use Rattle.engine.specs.declared.Direction.{Direction}
 use Rattle.engine.specs.declared.Direction.the-variants.{Decoding, Encoding}
@@ -21,7 +21,7 @@ use Rattle.oneshot.specs.declared.Totals.{Totals}
 use Rattle.oneshot.specs.declared.Converted.{Converted}
 use Rattle.engine.specs.declared.progress.Progress.{Progress}
 use Rattle.engine.specs.Policies.{policyAllowed}
-use Rattle.engine.specs.Engine.{Effect, Converter, Room, limit, endless, fits, less, Fed, halt, after, stopAt, takeWhen, takeCode, takeCodes, feedFrom}
+use Rattle.engine.specs.Engine.{Effect, Converter, Room, limit, endless, fits, roomLeft, Fed, halt, after, stopAt, takeWhen, takeCode, takeCodes, feedFrom}
 use Rattle.convert.specs.Runs.{pieceLimit}
 use Rattle.convert.specs.Calls.{check}
 use Rattle.codepage.specs.Lent.{over}
@@ -33,6 +33,7 @@ use Rattle.engine.proofs.EngineLaws.{shape-from}
 use Rattle.convert.proofs.CallLaws.{index-high}
 
 -- ---- one of a few numbers
+-- one of three numbers that is neither of the first two is the third
 pub third : (n a b c : ℕ) → (n ≡ a) ⊎ ((n ≡ b) ⊎ (n ≡ c)) → (n ≡ a → ⊥) → (n ≡ b → ⊥) → c ≡ n
 third n a b c (inl e) p q = absurd (p e)
 third n a b c (inr (inl e)) p q = absurd (q e)
@@ -46,11 +47,13 @@ named-text true false b₃ h = inl refl
 named-text true true false h = inr (inl refl)
 named-text true true true h = absurd (h refl)
 
+-- the number of a refusal is 10, 11 or 17
 pub text-named : (direction : Direction) (policy : Policy) (p : CodePage) (count n : ℕ) → n ≡ textRefusal direction policy p count → (n ≡ 0 → ⊥) → (n ≡ 10) ⊎ ((n ≡ 11) ⊎ (n ≡ 17))
 unfolding textRefusal
 text-named direction policy p count n e h =
     subst (λ (k : ℕ). (k ≡ 10) ⊎ ((k ≡ 11) ⊎ (k ≡ 17))) (sym e) (named-text (policyAllowed direction policy) (isGood (firstFault p)) (leb count pieceLimit) (λ z. h (e ∙ z)))
 
+-- What the three checks say of an accepted call: digits allowed, a good shape, a text of at most 65,536 units.
 pub record TextAccepted (direction : Direction) (policy : Policy) (p : CodePage) (count : ℕ) : Type 0 where
   pub policy-allowed : policyAllowed direction policy ≡ true
   pub good : GoodShape p
@@ -62,6 +65,7 @@ three-pass true false b₃ e = absurd (omega arith)
 three-pass true true false e = absurd (omega arith)
 three-pass true true true e = (refl, refl, refl)
 
+-- a call that no check refuses passed all three
 pub text-accepted : (direction : Direction) (policy : Policy) (p : CodePage) (count : ℕ) → textRefusal direction policy p count ≡ 0 → TextAccepted direction policy p count
 unfolding textRefusal
 text-accepted direction policy p count e =
@@ -72,8 +76,9 @@ text-accepted direction policy p count e =
 pub decode-text-needs : (policy : Policy) (p : CodePage) (count : ℕ) → TextAccepted Decoding policy p count → DecodeSizes (p .classes) (p .singles) (p .pairs)
 decode-text-needs policy p count a = record { all-classes = a .good .classes; all-singles = a .good .singles; all-pairs = a .good .pairs; no-low-lead = a .good .low }
 
+-- what the encode loop requires of an accepted call: digits, the index, and a block for each of its numbers
 pub encode-text-needs : (policy : Policy) (p : CodePage) (count : ℕ) → TextAccepted Encoding policy p count
-    → (policyAllowed Encoding policy ≡ true) × ((length (p .index) ≡ 256) × ((high : ℕ) → 256 * entry (p .index) high + 256 ≤ length (p .blocks)))
+    → (policyAllowed Encoding policy ≡ true) × ((length (p .index) ≡ 256) × ((high : ℕ) → 256 * entryAt (p .index) high + 256 ≤ length (p .blocks)))
 encode-text-needs policy p count a = (
   a .policy-allowed,
   (a .good .index, λ high. index-high (p .index) (length (p .blocks)) high (a .good .index) (a .good .number) (omega (arith, a .good .blocks))),
@@ -87,6 +92,7 @@ one-of (suc (suc zero)) h e = inr (inl refl)
 one-of (suc (suc (suc zero))) h e = inr (inr refl)
 one-of (suc (suc (suc (suc n)))) h e = absurd (omega arith)
 
+-- a text as a whole comes to 0, 2 or 3, never to 1: it is marked last, so no unit is left pending
 pub text-answer : (direction : Direction) (policy : Policy) (p : CodePage) (room : Room) (text : List ℕ) (s : Progress) → s ≡ summary (textFed direction policy p room text)
     → (s .answer ≡ 0) ⊎ ((s .answer ≡ 2) ⊎ (s .answer ≡ 3))
 unfolding textFed summary
@@ -102,14 +108,15 @@ never-code n k f true h e = omega arith
 never-code n k f false h e = h e
 
 never-codes : (v : Converter) (ks : List Code) (waiting : Option ℕ) → takeCodes v endless ks waiting .answer ≡ 2 → ⊥
-unfolding takeCodes takeCode fits less halt
+unfolding takeCodes takeCode fits roomLeft halt
 never-codes v [] none e = omega arith
 never-codes v [] (some c) e = omega arith
 never-codes v (k ∷ ks) waiting e = never-code (sizeOf k) (v .does k) _ (v .does k .stops) (never-codes v ks waiting) e
 
+-- with room that never ends no code fails to fit: the answer is not 2
 pub never-full : (v : Converter) (last : Bool) (p : Option ℕ) (l : List ℕ) → feedFrom v last endless p l .answer ≡ 2 → ⊥
 unfolding feedFrom
-never-full v last p l e = never-codes v (callCodes (v .reader) last p l) (waitingUnit (v .reader) last p l) e
+never-full v last p l e = never-codes v (callCodes (v .reader) last p l) (leftPending (v .reader) last p l) e
 
 -- ---- room for all, or not
 ample-take : (s : Bool) (n room : ℕ) (k : Effect) (f g : Fed) → length (takeWhen s true n k g .output) ≤ room → (length (g .output) ≤ room - length (k .writes) → f ≡ g) → takeWhen s (leb (length (k .writes)) room) n k f ≡ takeWhen s true n k g
@@ -120,14 +127,14 @@ ample-take false n room k f g h e =
     rw (le-leb (length (k .writes)) room (omega arith)) (ap (after n (k .writes) (k .flag)) (e (omega arith)))
 
 ample-codes : (v : Converter) (room : ℕ) (ks : List Code) (waiting : Option ℕ) → length (takeCodes v endless ks waiting .output) ≤ room → takeCodes v (limit room) ks waiting ≡ takeCodes v endless ks waiting
-unfolding takeCodes takeCode fits less
+unfolding takeCodes takeCode fits roomLeft
 ample-codes v room [] waiting h = refl
 ample-codes v room (k ∷ ks) waiting h = ample-take (v .does k .stops) (sizeOf k) room (v .does k) _ _ h (ample-codes v (room - length (v .does k .writes)) ks waiting)
 
 -- with room for what all of it needs, the conversion is the whole reading
 pub ample : (v : Converter) (last : Bool) (room : ℕ) (p : Option ℕ) (l : List ℕ) → length (feedFrom v last endless p l .output) ≤ room → feedFrom v last (limit room) p l ≡ feedFrom v last endless p l
 unfolding feedFrom
-ample v last room p l h = ample-codes v room (callCodes (v .reader) last p l) (waitingUnit (v .reader) last p l) h
+ample v last room p l h = ample-codes v room (callCodes (v .reader) last p l) (leftPending (v .reader) last p l) h
 
 scant-take : (s : Bool) (n room : ℕ) (k : Effect) (f g : Fed) → room < length (takeWhen s true n k g .output) → (room - length (k .writes) < length (g .output) → f .answer ≡ 2) → takeWhen s (leb (length (k .writes)) room) n k f .answer ≡ 2
 unfolding takeWhen after stopAt halt
@@ -139,14 +146,14 @@ scant-take false n room k f g h e = by-fit (leb (length (k .writes)) room) refl
     by-fit false q = refl
 
 scant-codes : (v : Converter) (room : ℕ) (ks : List Code) (waiting : Option ℕ) → room < length (takeCodes v endless ks waiting .output) → takeCodes v (limit room) ks waiting .answer ≡ 2
-unfolding takeCodes takeCode fits less halt
+unfolding takeCodes takeCode fits roomLeft halt
 scant-codes v room [] waiting h = absurd (omega arith)
 scant-codes v room (k ∷ ks) waiting h = scant-take (v .does k .stops) (sizeOf k) room (v .does k) _ _ h (scant-codes v (room - length (v .does k .writes)) ks waiting)
 
 -- with less, a code does not fit
 pub scant : (v : Converter) (last : Bool) (room : ℕ) (p : Option ℕ) (l : List ℕ) → room < length (feedFrom v last endless p l .output) → feedFrom v last (limit room) p l .answer ≡ 2
 unfolding feedFrom
-scant v last room p l h = scant-codes v room (callCodes (v .reader) last p l) (waitingUnit (v .reader) last p l) h
+scant v last room p l h = scant-codes v room (callCodes (v .reader) last p l) (leftPending (v .reader) last p l) h
 
 -- where all codes fitted, the conversion is the whole reading
 pub fitted : (v : Converter) (room : ℕ) (l : List ℕ) → (feedFrom v true (limit room) none l .answer ≡ 2 → ⊥) → feedFrom v true (limit room) none l ≡ feedFrom v true endless none l
@@ -167,11 +174,13 @@ answer-is v room l = by-room (ltb room (length (feedFrom v true endless none l .
 
 -- ---- the promises
 module _ (direction : Direction) (policy : Policy) (p : CodePage) (text : List ℕ) where
+  -- A refused call, with the refusal's number, no totals and the output untouched, keeps the promise.
   pub converted-refused : (n : ℕ) (r : Converted) (before : List ℕ) → n ≡ textRefusal direction policy p (length text) → (n ≡ 0 → ⊥) → (convertedNumber r ≡ n) × (convertedTotals r ≡ none)
       → ConvertedAs (textOf direction policy p text (length before)) r before before
   unfolding textOf refusedText over
   converted-refused n r before e z w = rw (← e, ne-eqb _ _ z) (record { number = w .0; totals = w .1; lent = refl })
 
+  -- An accepted call whose conversion and count are what the rules give, and whose answer has their totals, keeps the promise.
   pub converted-accepted : (whole made : Progress) (r : Converted) (before after : List ℕ) → textRefusal direction policy p (length text) ≡ 0
       → whole ≡ summary (textFed direction policy p endless text) → made ≡ summary (textFed direction policy p (limit (length before)) text)
       → after ≡ over before (textFed direction policy p (limit (length before)) text .output) → (convertedNumber r ≡ made .answer) × (convertedTotals r ≡ some (totalsBy whole made))
@@ -211,9 +220,11 @@ module _ (direction : Direction) (policy : Policy) (p : CodePage) (text : List �
   unfolding over
   front-is = rw (done .lent) (take-at (given .output) (drop (length (given .output)) before) (totals .written) (sym count-is))
 
+  -- the front that is handed back has as many units as were written
   pub filled-count : totals .written ≡ length (take (totals .written) after)
   filled-count = count-is ∙ sym (ap length front-is)
 
+  -- The front of that length, with number, flags, read and need of the answer, keeps the promise of the filled part.
   pub filled-as : (lent part : RefT (List ℕ)) (number : ℕ) → ptr part ≡ ptr lent → now part ≡ take (totals .written) after → number ≡ convertedNumber r
       → FilledAs given lent part number (totals .flags) (totals .read) (totals .need)
   filled-as lent part number place front n =

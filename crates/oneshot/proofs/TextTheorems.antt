@@ -15,7 +15,7 @@ use Rattle.engine.specs.declared.Direction.{Direction}
 use Rattle.engine.specs.declared.Policy.{Policy}
 use Rattle.engine.specs.Engine.{limit, endless, Fed, feedFrom, feed, whole}
 use Rattle.convert.specs.Runs.{fresh, startOf}
-use Rattle.convert.specs.Calls.{refusal, Called, readOf, runAfter, fedBy, acceptedCall, runCall}
+use Rattle.convert.specs.Calls.{refusal, Called, unitsRead, runAfter, fedBy, acceptedCall, runCall}
 use Rattle.engine.specs.Engine.{converterOf, readerOf, defaultOf}
 use Rattle.oneshot.specs.declared.Totals.{Totals}
 use Rattle.oneshot.specs.Texts.{textRefusal, Text, answerOf, acceptedText, textFed, textOf, totalsOrNone}
@@ -77,7 +77,7 @@ module _ (direction : Direction) (policy : Policy) (p : CodePage) (text : List �
 
   as-accepted : AsCall (acceptedText (textFed direction policy p endless text) (textFed direction policy p (limit room) text) room)
       (acceptedCall (fresh direction (p .page) policy) text true (textFed direction policy p (limit room) text))
-  unfolding acceptedText acceptedCall runAfter readOf textFed
+  unfolding acceptedText acceptedCall runAfter unitsRead textFed
   as-accepted =
       let f = feedFrom (converterOf direction p policy) true (limit room) none text in
       let used : f .used - 0 ≡ f .used = omega arith in

@@ -1,5 +1,5 @@
 -- Document 02, CR 10 (and document 01, "What the box does" and "One call of a run"): a text as a whole, in one call. With empty
--- room it only counts.
+-- room it only counts. docs/RULES.md, "A whole text in one call".
 use mathlib.Core.Bool.{Bool, true, false}
 use mathlib.Core.List.{List, [], _∷_}
 use mathlib.Core.Option.{Option, none, some}
@@ -48,16 +48,18 @@ acceptedText whole made room =
       output = made .output;
     }
 
+-- a refused call: its number, no totals, nothing written
 unfoldable pub refusedText : ℕ → Text
 refusedText number = record { number = number; totals = none; output = [] }
 
+-- THE CALL: refused, or converted in the room, with flags and need of the same text with room that never ends.
 unfoldable pub textOf : Direction → Policy → CodePage → (text : List ℕ) → (room : ℕ) → Text
 textOf direction policy p text room =
     pick (eqb (textRefusal direction policy p (length text)) 0)
     (acceptedText (textFed direction policy p endless text) (textFed direction policy p (limit room) text) room)
     (refusedText (textRefusal direction policy p (length text)))
 
--- the number and values of each case of the answers
+-- the number of each case of the answer
 abbrev pub convertedNumber : Converted → ℕ
 convertedNumber (converted.All totals) = 0
 convertedNumber (converted.OutputFull totals) = 2
@@ -66,6 +68,7 @@ convertedNumber converted.BadPolicy = 17
 convertedNumber converted.BadShape = 10
 convertedNumber converted.TooLong = 11
 
+-- flags, read, need and written of each case of the answer; a refusal has none
 abbrev pub convertedTotals : Converted → Option Totals
 convertedTotals (converted.All totals) = some totals
 convertedTotals (converted.OutputFull totals) = some totals

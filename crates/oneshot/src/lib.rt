@@ -1,12 +1,18 @@
-// A text as a whole, converted in one call; with empty room it is only counted. (Document 02, CR 10; document 01, "What the box
-// does" and "One call of a run".)
+// A whole text converted in one call; with empty room it is only counted. (Document 02, CR 10; docs/RULES.md, "A whole text in one
+// call".)
+//
+// `decode_text` and `encode_text` answer with flags, what was read and written, and the need: how much room all of the text needs.
+// `decode_filled` and `encode_filled` also hand back the part of the lent output that was filled.
+//
+//     let counted = oneshot::decode_text(policy, numbers, classes, singles, pairs, index, blocks, text, &mut []);
+//     let need = counted.totals().need;
 ghost use mathlib.Core.Path.{_≡_};
 ghost use mathlib.Core.Option.{none, some};
 ghost use mathlib.Core.Logic.{_⊎_};
 ghost use mathlib.Core.Bool.{true};
 ghost use Prim.Native.Nat.{ℕ, _+_, _*_, _≤_};
 ghost use lib.ListN.{length};
-ghost use Rattle.codepage.specs.CodePage.{codePage, entry};
+ghost use Rattle.codepage.specs.CodePage.{codePage, entryAt};
 ghost use Rattle.codepage.specs.Reading.{decoder, encoder};
 ghost use Rattle.engine.specs.declared.Direction.the-variants.{Decoding, Encoding};
 ghost use Rattle.engine.specs.Policies.{policyAllowed};
@@ -20,9 +26,9 @@ use engine::Direction;
 use engine::Policy;
 use engine::policies;
 use engine::progress::Progress;
-use loops::counter;
-use loops::decoder;
-use loops::encoder;
+use engine_loops::counter;
+use engine_loops::decoder;
+use engine_loops::encoder;
 
 // What a text gave: the flags of its whole reading, the units read, the units of output that it needs, and those written.
 pub struct Totals {
@@ -74,6 +80,7 @@ fn text_refusal(
     0
 }
 
+// The answer of a refused call, by its number; it has no totals.
 fn refused_conversion(number: u8) -> Converted
     requires { ⌜ ((number ≡ 10) ⊎ ((number ≡ 11) ⊎ (number ≡ 17))) ⌝ }
     ensures { λ r. ⌜ (convertedNumber r ≡ number) × (convertedTotals r ≡ none) ⌝ }
@@ -85,6 +92,7 @@ fn refused_conversion(number: u8) -> Converted
     }
 }
 
+// Flags and need of the whole reading, read and written of the conversion.
 fn totals_by(whole: Progress, made: Progress) -> Totals
     ensures { λ r. ⌜ r ≡ totalsBy whole made ⌝ }
 {
@@ -111,6 +119,7 @@ fn accepted_conversion(whole: Progress, made: Progress) -> Converted
     Converted::Stopped(totals)
 }
 
+// The totals of a refused call: zeros.
 fn no_totals() -> Totals
     ensures { λ r. ⌜ r ≡ totalsOrNone none ⌝ }
 {
@@ -182,7 +191,7 @@ fn whole_encoded(
 ) -> Progress
     requires { ⌜ policyAllowed Encoding policy ≡ true ⌝ }
     requires { ⌜ length (now index) ≡ 256 ⌝ }
-    requires { ⌜ ((high : ℕ) → 256 * entry (now index) high + 256 ≤ length (now blocks)) ⌝ }
+    requires { ⌜ ((high : ℕ) → 256 * entryAt (now index) high + 256 ≤ length (now blocks)) ⌝ }
     ensures { λ r. ⌜ ((room : ℕ) → made ≡ summary (feedFrom (converter (encoder (now (index .entry)) (now (blocks .entry))) policy default) true (limit room) none (now (text .entry))) → r ≡ summary (feedFrom (converter (encoder (now (index .entry)) (now (blocks .entry))) policy default) true endless none (now (text .entry)))) ⌝ }
 {
     if made.answer != 2 {

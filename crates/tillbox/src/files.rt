@@ -3,9 +3,9 @@ ghost use Rattle.io.specs.Counts.{Counts};
 use crate::options::later;
 use convert::Policy;
 use libc::STDERR_FILENO;
-use till::job;
-use till::job::Ending;
-use till::job::Job;
+use tillbox_jobs::job;
+use tillbox_jobs::job::Ending;
+use tillbox_jobs::job::Job;
 
 // Puts an argument at the front of a buffer and answers its length. Where it is 0 the reason was said.
 fn name_at(at: usize, buffer: &mut [u8]) -> usize
@@ -21,6 +21,7 @@ fn name_at(at: usize, buffer: &mut [u8]) -> usize
     count
 }
 
+// The fourth name, of a job that saves, and the job itself.
 fn with_checkpoint(job: Job, first: usize, table: &[u8], input: &[u8], output: &[u8]) -> Ending {
     if !job.saves {
         return job::convert_files(job, table, input, output, b"");
@@ -33,6 +34,7 @@ fn with_checkpoint(job: Job, first: usize, table: &[u8], input: &[u8], output: &
     job::convert_files(job, table, input, output, &name[..count])
 }
 
+// The third name, the output's, and the rest.
 fn with_output(job: Job, first: usize, table: &[u8], input: &[u8]) -> Ending {
     let mut name = io::buffer();
     let count = name_at(later(first, 2), &mut name);
@@ -42,6 +44,7 @@ fn with_output(job: Job, first: usize, table: &[u8], input: &[u8]) -> Ending {
     with_checkpoint(job, first, table, input, &name[..count])
 }
 
+// The second name, the input's, and the rest.
 fn with_input(job: Job, first: usize, table: &[u8]) -> Ending {
     let mut name = io::buffer();
     let count = name_at(later(first, 1), &mut name);
@@ -61,15 +64,17 @@ pub fn with_table(job: Job, first: usize) -> Ending {
     with_input(job, first, &name[..count])
 }
 
+// The third name, of the records file, and the import itself.
 fn import_output(policy: Policy, first: usize, table: &[u8], input: &[u8]) -> Ending {
     let mut name = io::buffer();
     let count = name_at(later(first, 2), &mut name);
     if count == 0 {
         return Ending::Failed;
     }
-    till_import::job::import_files(policy, table, input, &name[..count])
+    tillbox_import::job::import_files(policy, table, input, &name[..count])
 }
 
+// The second name, the journal's, and the rest.
 fn import_input(policy: Policy, first: usize, table: &[u8]) -> Ending {
     let mut name = io::buffer();
     let count = name_at(later(first, 1), &mut name);

@@ -10,8 +10,8 @@ use convert::Direction;
 use convert::Policy;
 use libc::STDERR_FILENO;
 use libc::STDOUT_FILENO;
-use till::job;
-use till::job::Ending;
+use tillbox_jobs::job;
+use tillbox_jobs::job::Ending;
 
 // The last word.
 fn say_ending(ending: Ending) {
@@ -32,6 +32,7 @@ fn misused(what: &[u8]) -> Ending {
     Ending::Failed
 }
 
+// `decode` and `encode`: the words before the names, and three files or, with a checkpoint, four.
 fn convert_files(direction: Direction) -> Ending {
     let chosen = options::chosen();
     if !chosen.valid {
@@ -89,6 +90,7 @@ fn import_policy(chosen: Options) -> Policy {
     Policy::replacing()
 }
 
+// `import`: a policy, if one is asked for, and three files.
 fn import_files() -> Ending {
     let chosen = options::chosen();
     if !chosen.valid {
@@ -104,6 +106,7 @@ fn import_files() -> Ending {
     files::import_table(import_policy(chosen), first)
 }
 
+// `shape`: the shape report of one table image.
 fn print_shape() -> Ending {
     if os::arg_count() != 3 {
         return misused(b"one name of a file is asked for");

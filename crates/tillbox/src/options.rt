@@ -55,6 +55,7 @@ fn digit_value(byte: u8) -> u8 {
     byte - b'0'
 }
 
+// The policy of three characters, if each is a decimal digit.
 fn digits_of(a: u8, b: u8, c: u8) -> Parsed {
     let single = digit_value(a);
     let pair = digit_value(b);

@@ -12,6 +12,7 @@ pub fn put(fd: i32) {
     put_ending(fd);
 }
 
+// The commands, a line each.
 fn put_commands(fd: i32) {
     io::write_all(
         fd,
@@ -27,6 +28,7 @@ fn put_commands(fd: i32) {
     io::write_all(fd, b"  tillbox help\n\n");
 }
 
+// The files, and what the digits of a policy do.
 fn put_words(fd: i32) {
     io::write_all(
         fd,
@@ -50,6 +52,7 @@ fn put_words(fd: i32) {
     );
 }
 
+// What an import makes, and where it ends.
 fn put_import(fd: i32) {
     io::write_all(
         fd,
@@ -66,6 +69,7 @@ fn put_import(fd: i32) {
     io::write_all(fd, b"if none is named.\n\n");
 }
 
+// What a preview makes.
 fn put_preview(fd: i32) {
     io::write_all(
         fd,
@@ -74,6 +78,7 @@ fn put_preview(fd: i32) {
     io::write_all(fd, b"characters were replaced.\n\n");
 }
 
+// What a checkpoint is for, and the word `last`.
 fn put_checkpoints(fd: i32) {
     io::write_all(
         fd,
@@ -94,6 +99,7 @@ fn put_checkpoints(fd: i32) {
     io::write_all(fd, b"of a character waits in the checkpoint.\n\n");
 }
 
+// Where messages go, and the last word.
 fn put_ending(fd: i32) {
     io::write_all(
         fd,

@@ -9,7 +9,7 @@ use native.Mathlib.Omega.{arith}
 use lib.Dec.{leb, eqb}
 use lib.ListN.{length, take, drop, replicate, length-append, length-take, length-drop, length-replicate, take-append-drop}
 use borrow.Author.Tests.{eqb-true, eqb-false, eq-eqb, ne-eqb, leb-true, leb-false, lt-ltb}
-use Rattle.codepage.specs.Reading.{waitingUnits}
+use Rattle.codepage.specs.Reading.{asUnits}
 use Rattle.codepage.specs.CodePage.{CodePage, GoodShape, pick, firstFault, isGood}
 use Rattle.codepage.proofs.ShapeLaws.{shape-exact}
 use Rattle.engine.specs.declared.Direction.{Direction}
@@ -19,7 +19,7 @@ use Rattle.convert.specs.declared.Pending.{Pending}
 use Rattle.convert.specs.declared.Run.{Run}
 use Rattle.engine.specs.Engine.{Converter, converter, limit, Fed, feedFrom}
 use Rattle.convert.specs.Runs.{pieceLimit, readLimit, validRun, fresh}
-use Rattle.convert.specs.Calls.{leadIn, refusal, Called, pendingUnit, pendingCount, readOf, endedAfter, fedBy, acceptedCall, runCall}
+use Rattle.convert.specs.Calls.{leadIn, refusal, Called, pendingUnit, pendingCount, unitsRead, endedAfter, fedBy, acceptedCall, runCall}
 use Rattle.engine.specs.Engine.{converterOf}
 use Rattle.engine.proofs.EngineLaws.{Waits, Shape}
 use Rattle.engine.proofs.BoundLaws.{roomy, widest, bounded-of}
@@ -48,7 +48,7 @@ module _ (s : Setting) (h : Proper s) (good : GoodShape (s .tables)) (own : s .p
   given : Fed
   given = fedBy (s .direction) (m .run) (s .tables) piece last enough
 
-  formed : Shape (converterOf (s .direction) (s .tables) (m .run .policy)) last (waitingUnits (pendingUnit (m .run .pending)) ++ piece) given
+  formed : Shape (converterOf (s .direction) (s .tables) (m .run .policy)) last (asUnits (pendingUnit (m .run .pending)) ++ piece) given
   unfolding given
   formed = feed-shape (s .direction) (m .run) (s .tables) piece last enough (accepted-facts (s .direction) (m .run) (s .tables) (length piece) accepted)
 
@@ -56,7 +56,7 @@ module _ (s : Setting) (h : Proper s) (good : GoodShape (s .tables)) (own : s .p
   unfolding given fedBy
   not-full =
       roomy (widest (s .direction)) (converterOf (s .direction) (s .tables) (m .run .policy)) (bounded-of (s .direction) (s .tables) (m .run .policy)) last enough (pendingUnit (m .run .pending)) piece
-      (widen (s .direction) (length (waitingUnits (pendingUnit (m .run .pending)))) (length piece) (count-le-one (m .run .pending)))
+      (widen (s .direction) (length (asUnits (pendingUnit (m .run .pending)))) (length piece) (count-le-one (m .run .pending)))
     where
       widen : (d : Direction) (a n : ℕ) → a ≤ 1 → widest d * (a + n) ≤ widest d * (1 + n)
       widen Decoding a n q = omega arith
@@ -86,7 +86,7 @@ module _ (s : Setting) (h : Proper s) (good : GoodShape (s .tables)) (own : s .p
   unfolding joinedBy
   ended-then = ap (λ (x : Model). x .ended) next-is
 
-  position-then : next s m call .position ≡ m .position + readOf (m .run .pending) (length piece) (given .answer) (given .used)
+  position-then : next s m call .position ≡ m .position + unitsRead (m .run .pending) (length piece) (given .answer) (given .used)
   unfolding joinedBy acceptedCall
   position-then = ap (λ (x : Model). x .position) next-is
 
@@ -111,9 +111,9 @@ module _ (s : Setting) (h : Proper s) (good : GoodShape (s .tables)) (own : s .p
   ends-or-reads : (next s m call .ended ≡ true) ⊎ ((next s m call .ended ≡ false) × (next s m call .position ≡ m .position + length piece))
   ends-or-reads = by-end (next s m call .ended) refl
     where
-      reads-all : next s m call .ended ≡ false → (n : ℕ) → given .answer ≡ n → readOf (m .run .pending) (length piece) (given .answer) (given .used) ≡ length piece
-      reads-all e zero q = unfold readOf in rw (ne-eqb (given .answer) 1 (λ z. omega arith)) (omega (arith, formed .all q, length-append (waitingUnits (pendingUnit (m .run .pending))) piece))
-      reads-all e (suc zero) q = unfold readOf in rw (eq-eqb (given .answer) 1 q)
+      reads-all : next s m call .ended ≡ false → (n : ℕ) → given .answer ≡ n → unitsRead (m .run .pending) (length piece) (given .answer) (given .used) ≡ length piece
+      reads-all e zero q = unfold unitsRead in rw (ne-eqb (given .answer) 1 (λ z. omega arith)) (omega (arith, formed .all q, length-append (asUnits (pendingUnit (m .run .pending))) piece))
+      reads-all e (suc zero) q = unfold unitsRead in rw (eq-eqb (given .answer) 1 q)
       reads-all e (suc (suc zero)) q = absurd (not-full q)
       reads-all e (suc (suc (suc zero))) q = absurd (true≢false (sym (ended-then ∙ unfold endedAfter in rw (eq-eqb (given .answer) 3 q)) ∙ e))
       reads-all e (suc (suc (suc (suc n)))) q = absurd (omega (arith, formed .known))

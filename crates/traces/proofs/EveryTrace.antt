@@ -33,6 +33,7 @@ front-is before ys after n e q = rw e (take-at ys (drop (length ys) before) n (s
 said-path : (a b : Said) → a .number ≡ b .number → a .read ≡ b .read → a .output ≡ b .output → a .run ≡ b .run → a ≡ b
 said-path a b p q r t = λ i. record { number = p i; read = q i; output = r i; run = t i }
 
+-- a result that meets its contract is seen as what the model says, with the same run in hand
 pub meets-says : (s : Setting) (hand : Run) (c : Call) (r : Result) → Meets s hand c r → observed r ≡ says s hand c
 unfolding observed says
 meets-says s hand (feeding piece last before) (fed r after) w =
@@ -95,6 +96,7 @@ next-run s m c ok =
     pick-run (isAccepted (says s (m .run) c .number)) m (acceptedBy m c (says s (m .run) c))
     ∙ pick-same (isAccepted (says s (m .run) c .number)) _ _ (accepted-run s m c ok) (m .run)
 
+-- the program's run in hand and the model's stay the same over a call that is allowed
 pub hand-next : (s : Setting) (m : Model) (hand : Run) (c : Call) (r : Result) → hand ≡ m .run → Allowed s m c → Meets s hand c r → handAfter hand r ≡ next s m c .run
 unfolding handAfter
 hand-next s m hand c r e ok w =
@@ -107,6 +109,7 @@ module _ (s : Setting) (h : Proper s) where
     pub kept : Kept s (play s m (callsOf es))
     pub in-hand : handAtEnd hand es ≡ play s m (callsOf es) .run
 
+  -- Over a list of allowed calls whose results meet the contracts, all agree with the model, at each call and at the end.
   pub over-list : (es : List Entry) (m : Model) (hand : Run) → hand ≡ m .run → Kept s m → AllAllowed s m (callsOf es) → AllMeet s hand es → Over m hand es
   unfolding AllAgree AllAllowed AllMeet play handAtEnd
   over-list [] m hand e g ok w = record { agrees = tt; kept = g; in-hand = e }

@@ -48,6 +48,7 @@ unfolding AllAllowed play
 kept-play s h [] m g ok = g
 kept-play s h (c ∷ cs) m g ok = kept-play s h cs (next s m c) (kept-next s h m g c (ok .0)) (ok .1)
 
+-- after an allowed list from the start, the run in hand fits position, joined output and end, and so does the run of each note
 pub kept-list : (s : Setting) → Proper s → (cs : List Call) → AllAllowed s (opened s) cs → Kept s (play s (opened s) cs)
 kept-list s h cs ok = kept-play s h cs (opened s) (kept-start s h) ok
 
@@ -127,6 +128,7 @@ pub record Played (s : Setting) (hand : Run) (cs : List Call) : Type 0 where
   pub calls : callsOf entries ≡ cs
   pub met : AllMeet s hand entries
 
+-- every list of calls has results that meet the contracts, whatever run is in hand
 pub results-exist : (s : Setting) (hand : Run) (cs : List Call) → Played s hand cs
 unfolding AllMeet
 results-exist s hand [] = record { entries = []; calls = refl; met = tt }
@@ -183,10 +185,12 @@ module _ (s : Setting) (h : Proper s) (m : Model) (g : Kept s m) (good : GoodSha
       stepping : (isGood (firstFault (s .tables)) && eqb (s .page) (s .tables .page)) ≡ true
       stepping = rw (shape-exact (s .tables) .1 good, eq-eqb (s .page) (s .tables .page) own)
 
+  -- what is pending is a lead of these tables, or a unit: check 14 passes
   pub lead-pending : (d : Direction) → s .direction ≡ d → leadIn (s .tables .classes) (m .run .pending) ≡ true
   lead-pending Decoding e = lead-of (s .tables) (s .policy) (m .run .pending) (subst (λ (d : Direction). Waits (converterOf d (s .tables) (s .policy)) (pendingUnit (m .run .pending))) e (reads-so-far .waits))
   lead-pending Encoding e = no-lead (s .tables .classes) (m .run .pending) (valid-in (m .run) Encoding (sym e ∙ g .fair .direction) (valid-facts (m .run) (g .fair .valid)))
 
+  -- what the run has read, the piece and the rest behind it have the text's length together, which check 16 needs
   pub left-text : (piece rest : List ℕ) → drop (m .position) (s .text) ≡ piece ++ rest → m .run .read + (length piece + length rest) ≡ length (s .text)
   left-text piece rest begins = omega (arith, reads-so-far .inside, g .fair .read, length-drop (m .position) (s .text), ap length begins, length-append piece rest)
 

@@ -11,7 +11,7 @@ use lib.ListN.{length, take, drop, length-append}
 use lib.Seq.{take-at}
 use borrow.Author.Tests.{eqb-true, leb-true, ltb-true, ltb-false, eq-eqb, ne-eqb, lt-ltb, le-ltb}
 use Rattle.codepage.specs.CodePage.{CodePage, pick, firstFault, isGood}
-use Rattle.codepage.proofs.ShapeLaws.{shape-exact}
+use Rattle.codepage.proofs.ShapeLaws.{shape-exact, and-left, and-right}
 use Rattle.engine.specs.declared.Direction.{Direction}
 use Rattle.engine.specs.declared.Direction.the-variants.{Decoding, Encoding}
 use Rattle.engine.specs.declared.Policy.{Policy}
@@ -23,12 +23,11 @@ use Rattle.convert.specs.Runs.{readLimit, mostWritten, validRun, fresh, startOf
 use Rattle.convert.specs.Calls.{refusal, Called, pendingUnit, pendingCount, finalUnit, pendingAfter, endedAfter, runAfter, fedBy, acceptedCall, refusedCall, runCall}
 use Rattle.codepage.specs.Lent.{over}
 use Rattle.engine.specs.Engine.{converterOf}
-use Rattle.engine.proofs.EffectLaws.{and-left, and-right}
 use Rattle.engine.proofs.EngineLaws.{uncut, after-none, Shape}
 use Rattle.engine.proofs.CodeLaws.{whole-is-feed}
 use Rattle.convert.proofs.CallLaws.{Valid, valid-facts, Accepted, accepted-facts, refusal-named, feed-shape}
 use Rattle.convert.proofs.RunLaws.{start-kept, call-kept, refused-same}
-use Rattle.checkpoint.specs.Line.{lineOf, runOf, sameBytes, CarriedFits, writeOf, readOf, loaded}
+use Rattle.checkpoint.specs.Line.{lineOf, runOf, sameBytes, PendingFits, writeOf, readOf, loaded}
 use Rattle.checkpoint.proofs.LineLaws.{representable, write-read, one-line-one-run}
 use Rattle.traces.specs.Model.{Setting, Call, feeding, saving, loading, Note, Model, opened, Said, saidOfCall, says, isAccepted, inHand, notedBeside, joinedBy, notedBy, setBackTo, acceptedBy, next, Allowed, wholeOf}
 use Rattle.traces.specs.Traces.{AllBelow, widthOf, Proper}
@@ -44,6 +43,7 @@ pub record Idle (run : Run) (joined : List ℕ) : Type 0 where
   pub joined-none : joined ≡ []
   pub going : run .ended ≡ false
 
+-- where the whole reading takes steps, what the run has done of it; where it takes none, that no call was accepted
 abbrev pub Doing : Bool → Setting → Run → List ℕ → Type 0
 Doing true s run joined = Reads (converterOf (s .direction) (s .tables) (s .policy)) (s .text) run joined
 Doing false s run joined = Idle run joined
@@ -54,7 +54,7 @@ pub record Fair (s : Setting) (run : Run) (position : ℕ) (joined : List ℕ) (
   pub direction : s .direction ≡ run .direction
   pub page : run .page ≡ s .page
   pub policy : run .policy ≡ s .policy
-  pub carried : CarriedFits (run .pending)
+  pub pending : PendingFits (run .pending)
   pub read : run .read ≡ position
   pub written : run .written ≡ length joined
   pub end : run .ended ≡ ended
@@ -70,17 +70,17 @@ below-front : (n : ℕ) (xs ys : List ℕ) → AllBelow n (xs ++ ys) → AllBelo
 below-front n [] ys h = tt
 below-front n (x ∷ xs) ys h = (h .0, below-front n xs ys (h .1))
 
-final-fits : (direction : Direction) (pending : Pending) (piece : List ℕ) → CarriedFits pending → AllBelow (2 ^ widthOf direction) piece → CarriedFits (finalUnit direction pending piece)
+final-fits : (direction : Direction) (pending : Pending) (piece : List ℕ) → PendingFits pending → AllBelow (2 ^ widthOf direction) piece → PendingFits (finalUnit direction pending piece)
 final-fits direction pending [] c h = c
 final-fits Decoding pending (a ∷ piece) c h = final-fits Decoding (Byte a) piece (h .0) (h .1)
 final-fits Encoding pending (a ∷ piece) c h = final-fits Encoding (High a) piece (h .0) (h .1)
 
-pending-fits : (direction : Direction) (pending : Pending) (piece : List ℕ) (answer used : ℕ) → CarriedFits pending → AllBelow (2 ^ widthOf direction) piece
-    → CarriedFits (pendingAfter direction pending piece answer used)
+pending-fits : (direction : Direction) (pending : Pending) (piece : List ℕ) (answer used : ℕ) → PendingFits pending → AllBelow (2 ^ widthOf direction) piece
+    → PendingFits (pendingAfter direction pending piece answer used)
 unfolding pendingAfter
 pending-fits direction pending piece answer used c h = by-test (eqb answer 1) (eqb used 0)
   where
-    by-test : (t₁ t₂ : Bool) → CarriedFits (pick t₁ (finalUnit direction pending piece) (pick t₂ pending Nothing))
+    by-test : (t₁ t₂ : Bool) → PendingFits (pick t₁ (finalUnit direction pending piece) (pick t₂ pending Nothing))
     by-test true t₂ = final-fits direction pending piece c h
     by-test false true = c
     by-test false false = tt
@@ -93,7 +93,7 @@ fair-start s h =
       direction = refl;
       page = refl;
       policy = refl;
-      carried = tt;
+      pending = tt;
       read = refl;
       written = refl;
       end = refl;
@@ -141,11 +141,11 @@ module _ (s : Setting) (h : Proper s) (run : Run) (position : ℕ) (joined : Lis
   valid-then : validRun (acceptedCall run piece last given .run) ≡ true
   valid-then = subst (λ (c : Called). validRun (c .run) ≡ true) call-is (call-kept (s .direction) run (s .tables) piece last room accepted)
 
-  carried-then : CarriedFits (acceptedCall run piece last given .run .pending)
+  pending-then : PendingFits (acceptedCall run piece last given .run .pending)
   unfolding acceptedCall runAfter
-  carried-then =
+  pending-then =
       let n : ℕ = 2 ^ widthOf (run .direction) in
-      pending-fits (run .direction) (run .pending) piece (given .answer) (given .used) (g .carried)
+      pending-fits (run .direction) (run .pending) piece (given .answer) (given .used) (g .pending)
       (below-front n piece rest
       (subst (λ (l : List ℕ). AllBelow n l) begins (below-drop n position (s .text) (subst (λ (d : Direction). AllBelow (2 ^ widthOf d) (s .text)) (g .direction) (h .units)))))
 
@@ -157,7 +157,7 @@ module _ (s : Setting) (h : Proper s) (run : Run) (position : ℕ) (joined : Lis
         direction = g .direction;
         page = g .page;
         policy = g .policy;
-        carried = carried-then;
+        pending = pending-then;
         read = ap (λ (n : ℕ). n + acceptedCall run piece last given .read) (g .read);
         written = ap (λ (n : ℕ). n + length (given .output)) (g .written) ∙ sym (length-append joined (given .output));
         end = refl;
@@ -178,9 +178,11 @@ module _ (s : Setting) (h : Proper s) (run : Run) (position : ℕ) (joined : Lis
   answer-low = rw (eq-eqb (refusal (s .direction) run (s .tables) (length piece)) 0 accepted) (feed-shape (s .direction) run (s .tables) piece last room facts .known)
 
 -- ---- the notes
+-- what was noted beside a line fits the run of that line
 abbrev pub NoteFair : Setting → Note → Type 0
 NoteFair s n = (run : Run) × (lineOf run ≡ n .line) × Fair s run (n .position) (n .joined) (n .ended)
 
+-- each note is beside the line of a run that fits what was noted
 abbrev pub AllFair : Setting → List Note → Type 0
 AllFair s [] = Unit {0}
 AllFair s (n ∷ notes) = NoteFair s n × AllFair s notes
@@ -208,10 +210,12 @@ found-beside s line (n ∷ notes) h = by-test (sameBytes line (n .line)) refl (f
     by-test false e q = q
 
 -- ---- one call of a list
+-- What every call of a list keeps: the run in hand fits position, joined output and end, and so does the run of each note.
 pub record Kept (s : Setting) (m : Model) : Type 0 where
   pub fair : Fair s (m .run) (m .position) (m .joined) (m .ended)
   pub notes : AllFair s (m .notes)
 
+-- before the first call it holds: a fresh run, nothing joined, nothing noted
 pub kept-start : (s : Setting) → Proper s → Kept s (opened s)
 unfolding opened
 kept-start s h = record { fair = fair-start s h; notes = tt }
@@ -250,7 +254,7 @@ module _ (s : Setting) (h : Proper s) (m : Model) (g : Kept s m) where
   -- the run of a line that was noted
   noted-run : (line : List ℕ) (n : Note) (run : Run) → line ≡ n .line → NoteFair s n → runOf line ≡ some run → Fair s run (n .position) (n .joined) (n .ended)
   noted-run line n run e (r, l, f) q =
-      let back : runOf line ≡ some r = ap runOf (e ∙ sym l) ∙ write-read r (representable r (f .valid) (omega (arith, h .page, f .page)) (f .carried)) (f .valid) in
+      let back : runOf line ≡ some r = ap runOf (e ∙ sym l) ∙ write-read r (representable r (f .valid) (omega (arith, h .page, f .page)) (f .pending)) (f .valid) in
       let same : r ≡ run = cc in
       subst (λ (x : Run). Fair s x (n .position) (n .joined) (n .ended)) same f
 
@@ -297,6 +301,7 @@ module _ (s : Setting) (run : Run) (position : ℕ) (joined : List ℕ) (ended :
   begins-by true q d false e = (_, ap (λ (f : Fed). f .output) (whole-steps s q) ∙ ap (λ (f : Fed). f .output) (d .going e))
   begins-by false q d e z = ([], ap (λ (f : Fed). f .output) (whole-idle s q) ∙ sym (append-nil joined ∙ d .joined-none))
 
+  -- The joined output is a beginning of the whole reading's.
   pub fair-begins : (ys : List ℕ) × (wholeOf s .output ≡ joined ++ ys)
   fair-begins = begins-by (isGood (firstFault (s .tables)) && eqb (s .page) (s .tables .page)) refl (g .doing) (run .ended) refl
 
@@ -308,6 +313,7 @@ module _ (s : Setting) (run : Run) (position : ℕ) (joined : List ℕ) (ended :
       (o, sym (ap (λ (f : Fed). f .flags) w ∙ d .over e .1), sym (ap (λ (f : Fed). f .used) w ∙ d .over e .2), g .written ∙ ap length o)
   whole-by false q d e = absurd (true≢false (sym e ∙ d .going))
 
+  -- Once ended, the joined output, the flags and the totals are those of the whole reading.
   pub fair-whole : ended ≡ true → (joined ≡ wholeOf s .output) × (run .flags ≡ wholeOf s .flags) × (run .read ≡ wholeOf s .used) × (run .written ≡ length (wholeOf s .output))
   fair-whole e = whole-by (isGood (firstFault (s .tables)) && eqb (s .page) (s .tables .page)) refl (g .doing) (g .end ∙ e)
 
@@ -321,7 +327,7 @@ front-of s run position joined ended f =
 pub notes-alike : (s : Setting) → Proper s → (n k : Note) → NoteFair s n → NoteFair s k → n .line ≡ k .line → (n .position ≡ k .position) × (n .joined ≡ k .joined) × (n .ended ≡ k .ended)
 notes-alike s h n k (a, la, f) (b, lb, g) e =
     let same : a ≡ b =
-    one-line-one-run a b (representable a (f .valid) (omega (arith, h .page, f .page)) (f .carried)) (f .valid) (representable b (g .valid) (omega (arith, h .page, g .page)) (g .carried)) (g .valid)
+    one-line-one-run a b (representable a (f .valid) (omega (arith, h .page, f .page)) (f .pending)) (f .valid) (representable b (g .valid) (omega (arith, h .page, g .page)) (g .pending)) (g .valid)
     (la ∙ e ∙ sym lb) in (
       sym (f .read) ∙ ap (λ (r : Run). r .read) same ∙ g .read,
       front-of s a _ _ _ f ∙ ap (λ (r : Run). take (r .written) (wholeOf s .output)) same ∙ sym (front-of s b _ _ _ g),

@@ -24,8 +24,8 @@ abbrev pub ownPage : CodePage → Direction → Policy → List ℕ → Setting
 ownPage p direction policy text = record { tables = p; direction = direction; page = p .page; policy = policy; text = text }
 
 -- the joined output of a list
-abbrev pub joinedBy : Setting → List Entry → List ℕ
-joinedBy s es = play s (opened s) (callsOf es) .joined
+abbrev pub joinedOutput : Setting → List Entry → List ℕ
+joinedOutput s es = play s (opened s) (callsOf es) .joined
 
 -- A list that ended: its calls are allowed, its results meet the contracts, and the model has ended.
 pub record Done (s : Setting) (es : List Entry) : Type 0 where
@@ -44,7 +44,7 @@ unfolding wholeOf
 whole-own p good direction policy text = rw (shape-exact p .1 good, eq-eqb (p .page) (p .page) refl)
 
 module _ (p : CodePage) (good : GoodShape p) (direction : Direction) (policy : Policy) (text : List ℕ) (es : List Entry) (done : Done (ownPage p direction policy text) es) where
-  joined-whole : joinedBy (ownPage p direction policy text) es ≡ whole (readerOf direction p) policy (defaultOf direction p) text .output
+  joined-whole : joinedOutput (ownPage p direction policy text) es ≡ whole (readerOf direction p) policy (defaultOf direction p) text .output
   joined-whole =
       every-trace (ownPage p direction policy text) (done .proper) (done .start) es (done .trace) .at-end .all-of-it (done .ended) .0 ∙ ap (λ (f : Fed). f .output) (whole-own p good direction policy text)
 
@@ -54,9 +54,9 @@ module _ (p : CodePage) (good : GoodShape p) (direction : Direction) (policy : P
 
 -- UNITS RETURN through any two lists of calls: encoded by one, decoded by the other.
 pub units-return-by-calls : (p : CodePage) → GoodShape p → (text : List ℕ) → UnitsReturn p text → (encoding decoding : Policy) (es fs : List Entry) (e : Done (ownPage p Encoding encoding text) es)
-    (d : Done (ownPage p Decoding decoding (joinedBy (ownPage p Encoding encoding text) es)) fs)
-    → (joinedBy (ownPage p Decoding decoding (joinedBy (ownPage p Encoding encoding text) es)) fs ≡ text) × (flagsBy (ownPage p Encoding encoding text) es e ≡ 0)
-    × (flagsBy (ownPage p Decoding decoding (joinedBy (ownPage p Encoding encoding text) es)) fs d ≡ 0)
+    (d : Done (ownPage p Decoding decoding (joinedOutput (ownPage p Encoding encoding text) es)) fs)
+    → (joinedOutput (ownPage p Decoding decoding (joinedOutput (ownPage p Encoding encoding text) es)) fs ≡ text) × (flagsBy (ownPage p Encoding encoding text) es e ≡ 0)
+    × (flagsBy (ownPage p Decoding decoding (joinedOutput (ownPage p Encoding encoding text) es)) fs d ≡ 0)
 units-return-by-calls p good text h encoding decoding es fs e d =
     let b = joined-whole p good Encoding encoding text es e in
     let r = returns-units p text h encoding decoding (p .defaultByte) (p .defaultUnit) in (
@@ -67,9 +67,9 @@ units-return-by-calls p good text h encoding decoding es fs e d =
 
 -- BYTES RETURN through any two lists of calls: decoded by one, encoded by the other.
 pub bytes-return-by-calls : (p : CodePage) → GoodShape p → (text : List ℕ) → BytesReturn p text → (decoding encoding : Policy) (es fs : List Entry) (d : Done (ownPage p Decoding decoding text) es)
-    (e : Done (ownPage p Encoding encoding (joinedBy (ownPage p Decoding decoding text) es)) fs)
-    → (joinedBy (ownPage p Encoding encoding (joinedBy (ownPage p Decoding decoding text) es)) fs ≡ text) × (flagsBy (ownPage p Decoding decoding text) es d ≡ 0)
-    × (flagsBy (ownPage p Encoding encoding (joinedBy (ownPage p Decoding decoding text) es)) fs e ≡ 0)
+    (e : Done (ownPage p Encoding encoding (joinedOutput (ownPage p Decoding decoding text) es)) fs)
+    → (joinedOutput (ownPage p Encoding encoding (joinedOutput (ownPage p Decoding decoding text) es)) fs ≡ text) × (flagsBy (ownPage p Decoding decoding text) es d ≡ 0)
+    × (flagsBy (ownPage p Encoding encoding (joinedOutput (ownPage p Decoding decoding text) es)) fs e ≡ 0)
 bytes-return-by-calls p good text h decoding encoding es fs d e =
     let u = joined-whole p good Decoding decoding text es d in
     let r = returns-bytes p text h decoding encoding (p .defaultUnit) (p .defaultByte) in (

@@ -10,13 +10,13 @@ use lib.ListN.{length, getD, take, drop, length-append, length-drop, drop-of-len
 use lib.Seq.{drop-append-le, drop-append-add, drop-drop, drop-cons, drop-append-seam}
 use lib.Bits.{bitOr, or-zero-r}
 use borrow.Author.Tests.{eqb-true, eqb-false, eq-eqb, ne-eqb}
-use Rattle.codepage.specs.Reading.{waitingUnits}
+use Rattle.codepage.specs.Reading.{asUnits}
 use Rattle.codepage.specs.CodePage.{pick}
 use Rattle.convert.specs.declared.Pending.{Pending}
 use Rattle.convert.specs.declared.Pending.the-variants.{Nothing, Byte, High}
 use Rattle.convert.specs.declared.Run.{Run}
 use Rattle.engine.specs.Engine.{Converter, limit, endless, Fed, halt, after, feedFrom, feed}
-use Rattle.convert.specs.Calls.{pendingUnit, pendingCount, finalUnit, readOf, pendingAfter, endedAfter, runAfter, acceptedCall}
+use Rattle.convert.specs.Calls.{pendingUnit, pendingCount, finalUnit, unitsRead, pendingAfter, endedAfter, runAfter, acceptedCall}
 use Rattle.engine.proofs.EngineLaws.{uncut, after-none, after-after, Cut, cut, Shape, shape-from, Waits, feed-wait, feed-end}
 use Rattle.convert.proofs.CallLaws.{pendingUnits, count-le-one, final-unit}
 
@@ -66,7 +66,7 @@ module _ (v : Converter) (text : List ℕ) (run : Run) (joined piece rest : List
 
   -- the run after the call
   abbrev read′ : ℕ
-  read′ = readOf (run .pending) (length piece) (f .answer) (f .used)
+  read′ = unitsRead (run .pending) (length piece) (f .answer) (f .used)
 
   abbrev pending′ : Pending
   pending′ = pendingAfter (run .direction) (run .pending) piece (f .answer) (f .used)
@@ -111,7 +111,7 @@ module _ (v : Converter) (text : List ℕ) (run : Run) (joined piece rest : List
       let n : f .used + 1 ≡ length (pendingUnits (run .pending) ++ piece) = formed .holds e .0 in
       let unit : ℕ = getD (pendingUnits (run .pending) ++ piece) (f .used) 0 in
       let final : pendingUnit (finalUnit (run .direction) (run .pending) piece) ≡ some unit = final-unit (run .direction) (run .pending) piece (f .used) n in
-      let one : pendingCount (finalUnit (run .direction) (run .pending) piece) ≡ 1 = ap (λ (o : Option ℕ). length (waitingUnits o)) final in
+      let one : pendingCount (finalUnit (run .direction) (run .pending) piece) ≡ 1 = ap (λ (o : Option ℕ). length (asUnits o)) final in
       record {
         units-left =
             ap (λ (l : List ℕ). l ++ rest)
@@ -119,7 +119,7 @@ module _ (v : Converter) (text : List ℕ) (run : Run) (joined piece rest : List
             ∙ ap (λ (l : List ℕ). unit ∷ l) (drop-of-length-le (pendingUnits (run .pending) ++ piece) {i = suc (f .used)} (omega arith)))
             ∙ ap (λ (l : List ℕ). unit ∷ l)
             (sym (drop-append-seam piece rest) ∙ ap (drop (length piece)) (sym whole-piece) ∙ drop-drop (length piece) (run .read) text)
-            ∙ ap (λ (o : Option ℕ). waitingUnits o ++ drop (run .read + length piece) text) (sym final);
+            ∙ ap (λ (o : Option ℕ). asUnits o ++ drop (run .read + length piece) text) (sym final);
         taken = omega (arith, count, g .behind, one);
         inside = omega (arith, left-text);
         behind = omega (arith, count, one);
@@ -127,7 +127,7 @@ module _ (v : Converter) (text : List ℕ) (run : Run) (joined piece rest : List
       }
 
   left : (t₁ t₂ : Bool) → eqb (f .answer) 1 ≡ t₁ → eqb (f .used) 0 ≡ t₂ → Left pending′ read′
-  unfolding pendingAfter readOf
+  unfolding pendingAfter unitsRead
   left true t₂ e₁ e₂ = rw e₁ (left-wait (eqb-true _ _ e₁))
   left false true e₁ e₂ =
       let z : f .used - pendingCount (run .pending) ≡ 0 = omega (arith, eqb-true (f .used) 0 e₂) in
@@ -150,7 +150,7 @@ module _ (v : Converter) (text : List ℕ) (run : Run) (joined piece rest : List
   Ended = (uncut v text .output ≡ joined ++ f .output) × (uncut v text .flags ≡ bitOr (run .flags) (f .flags)) × (uncut v text .used ≡ run .read + read′)
 
   ended-stop : f .answer ≡ 3 → Ended
-  unfolding after pendingAfter readOf
+  unfolding after pendingAfter unitsRead
   ended-stop e =
       let u : uncut v text ≡ after (run .read - pendingCount (run .pending)) joined (run .flags) f =
       g .going going ∙ ap (after (run .read - pendingCount (run .pending)) joined (run .flags)) (law .stopped e) in
@@ -185,6 +185,7 @@ module _ (v : Converter) (text : List ℕ) (run : Run) (joined piece rest : List
   unfolding endedAfter
   not-stopped e q = true≢false (sym (rw (eq-eqb (f .answer) 3 q)) ∙ e)
 
+  -- What the run and the joined output say of the whole reading before an accepted call, they say after it.
   pub call-reads : Reads v text (acceptedCall run piece last (feedFrom v last (limit room) (pendingUnit (run .pending)) piece) .run) (joined ++ feedFrom v last (limit room) (pendingUnit (run .pending)) piece .output)
   unfolding acceptedCall runAfter f
   call-reads =

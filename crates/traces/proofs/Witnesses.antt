@@ -16,7 +16,7 @@ use Rattle.engine.specs.declared.Policy.{Policy}
 use Rattle.convert.specs.declared.Run.{Run}
 use Rattle.convert.specs.Runs.{readLimit, fresh, startOf}
 use Rattle.convert.specs.Calls.{Called, refusal, refusedCall}
-use Rattle.convert.specs.Sample.{samplePage, room, Row, rows, AllHold as RowsHold}
+use Rattle.convert.specs.Sample.{samplePage, room, Row, rows, RowsHold}
 use Rattle.convert.proofs.Computing.{callRules}
 use Rattle.convert.proofs.SampleRows.{sample-good, rows-hold}
 use Rattle.convert.proofs.RefusalLaws.{refusals-exact}
@@ -26,7 +26,7 @@ use Rattle.checkpoint.proofs.Computing.{lineRules}
 use Rattle.checkpoint.proofs.LineLaws.{sample-saved, sample-restored}
 use Rattle.traces.specs.Model.{Setting, Call, feeding, saving, loading, Model, Said, opened, says, play, next, Allowed, AllAllowed}
 use Rattle.traces.specs.Traces.{Entry, AllBelow, widthOf, Meets, observed, AllMeet, handAfter, handAtEnd, callsOf, Proper, Trace}
-use Rattle.traces.specs.Examples.{onSample, interruptedText, interruptedLine, interrupted, encodingOnSample, cutPairText, cutPairLine, cutPair, MeetsNumber, Example, calling, line, sixteenRows, AllHold}
+use Rattle.traces.specs.Examples.{onSample, interruptedText, interruptedLine, interrupted, encodingOnSample, cutPairText, cutPairLine, cutPair, MeetsNumber, Example, calling, line, sixteenRows, ExamplesHold}
 use Rattle.traces.proofs.ModelLaws.{kept-start}
 use Rattle.traces.proofs.ListLaws.{Played, result-exists, results-exist, fresh-started, TraceOf, traces-exist}
 use Rattle.traces.proofs.EveryTrace.{meets-says, over-list}
@@ -92,11 +92,11 @@ cut-pair-kept =
     }
 
 -- ---- THE SIXTEEN ROWS: one list, one claim.
-sixteen-from : (rs : List Row) (es : List Example) → RowsHold rs → AllHold es → AllHold (map calling rs ++ es)
+sixteen-from : (rs : List Row) (es : List Example) → RowsHold rs → ExamplesHold es → ExamplesHold (map calling rs ++ es)
 sixteen-from [] es h g = g
 sixteen-from (r ∷ rs) es h g = (h .0, sixteen-from rs es (h .1) g)
 
-pub sixteen-rows : AllHold sixteenRows
+pub sixteen-rows : ExamplesHold sixteenRows
 unfolding lineRules
 sixteen-rows = sixteen-from rows (line sampleRun sampleLine ∷ []) rows-hold ((sample-saved, sample-restored, refl), tt)
 

@@ -1,5 +1,5 @@
 -- Worked lists on the sample page: a run whose line drops inside a two-byte character, one whose line drops inside a pair of
--- surrogates, a list for each number that a list can meet, and the sixteen rows of document 01.
+-- surrogates, a list for each number that a list can meet, and the sixteen rows of document 01. docs/RULES.md, "Lists of calls".
 use mathlib.Core.Bool.{Bool, true, false}
 use mathlib.Core.List.{List, [], _∷_, _++_, map}
 use mathlib.Core.Option.{Option, none, some}
@@ -29,6 +29,7 @@ interruptedText = 0x41 ∷ 0x82 ∷ 0x7C ∷ 0x42 ∷ []
 abbrev pub interruptedLine : List ℕ
 interruptedLine = 0x44 ∷ 9 ∷ 0x37 ∷ 9 ∷ 0x35 ∷ 0x35 ∷ 0x35 ∷ 9 ∷ 0x38 ∷ 0x32 ∷ 9 ∷ 0x30 ∷ 9 ∷ 0x32 ∷ 9 ∷ 0x31 ∷ 9 ∷ 0x6F ∷ 0x6E ∷ 0x0A ∷ []
 
+-- its calls: the piece up to 82, line writing, line reading, and the rest marked last
 abbrev pub interrupted : List Call
 interrupted = feeding (0x41 ∷ 0x82 ∷ []) false (room 9) ∷ saving (room 44) ∷ loading interruptedLine ∷ feeding (0x7C ∷ 0x42 ∷ []) true (room 9) ∷ []
 
@@ -44,6 +45,7 @@ cutPairText = 0x0041 ∷ 0xD83D ∷ 0xDE00 ∷ 0x0042 ∷ []
 abbrev pub cutPairLine : List ℕ
 cutPairLine = 0x45 ∷ 9 ∷ 0x37 ∷ 9 ∷ 0x35 ∷ 0x35 ∷ 0x35 ∷ 9 ∷ 0x44 ∷ 0x38 ∷ 0x33 ∷ 0x44 ∷ 9 ∷ 0x30 ∷ 9 ∷ 0x32 ∷ 9 ∷ 0x31 ∷ 9 ∷ 0x6F ∷ 0x6E ∷ 0x0A ∷ []
 
+-- its calls: the piece up to D83D, line writing, line reading, and the rest marked last
 abbrev pub cutPair : List Call
 cutPair = feeding (0x0041 ∷ 0xD83D ∷ []) false (room 9) ∷ saving (room 44) ∷ loading cutPairLine ∷ feeding (0xDE00 ∷ 0x0042 ∷ []) true (room 9) ∷ []
 
@@ -65,9 +67,11 @@ abbrev pub Holds : Example → Type 0
 Holds (calling r) = RowHolds r
 Holds (line run bytes) = (writeOf run 26 ≡ record { number = 0; line = bytes }) × (readOf bytes ≡ record { number = 0; run = some run }) × (length bytes ≡ 26)
 
-abbrev pub AllHold : List Example → Type 0
-AllHold [] = Unit {0}
-AllHold (e ∷ es) = Holds e × AllHold es
+-- every row of a list holds
+abbrev pub ExamplesHold : List Example → Type 0
+ExamplesHold [] = Unit {0}
+ExamplesHold (e ∷ es) = Holds e × ExamplesHold es
 
+-- rows 1 to 15 as run calls on the sample page, and row 16 as its line
 abbrev pub sixteenRows : List Example
 sixteenRows = map calling rows ++ (line sampleRun sampleLine ∷ [])

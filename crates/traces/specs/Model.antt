@@ -1,5 +1,5 @@
 -- Document 01, "The lists of demand 3": the calls of a list, and the reference model (document 01: the plain book), which is
--- kept from the calls alone.
+-- kept from the calls alone. docs/RULES.md, "Lists of calls".
 use mathlib.Core.Bool.{Bool, true, false, _&&_}
 use mathlib.Core.List.{List, [], _∷_, _++_}
 use mathlib.Core.Logic.{_⊎_}
@@ -59,12 +59,15 @@ pub record Said : Type 0 where
   pub output : List ℕ
   pub run : Option Run
 
+-- what a run call says: all of it, with the run after it
 abbrev pub saidOfCall : Called → Said
 saidOfCall c = record { number = c .number; read = c .read; output = c .output; run = some (c .run) }
 
+-- what line writing says: its number, and the line as what was written; it returns no run
 abbrev pub saidOfSaving : Saving → Said
 saidOfSaving w = record { number = w .number; read = 0; output = w .line; run = none }
 
+-- what line reading says: its number and, if the line was read, its run
 abbrev pub saidOfLoading : Loading → Said
 saidOfLoading l = record { number = l .number; read = 0; output = []; run = l .run }
 
@@ -116,6 +119,7 @@ unfoldable pub setBackTo : Model → Said → Option Note → Model
 setBackTo m a none = m
 setBackTo m a (some n) = record { run = inHand (m .run) (a .run); position = n .position; joined = n .joined; ended = n .ended; notes = m .notes }
 
+-- what an accepted call of each sort changes in the model
 unfoldable pub acceptedBy : Model → Call → Said → Model
 acceptedBy m (feeding piece last lent) a = joinedBy m last a
 acceptedBy m (saving lent) a = notedBy m a
@@ -125,6 +129,7 @@ acceptedBy m (loading line) a = setBackTo m a (notedBeside line (m .notes))
 unfoldable pub next : Setting → Model → Call → Model
 next s m c = pick (isAccepted (says s (m .run) c .number)) (acceptedBy m c (says s (m .run) c)) m
 
+-- the model after a list of calls
 unfoldable pub play : Setting → Model → List Call → Model
 play s m [] = m
 play s m (c ∷ cs) = play s (next s m c) cs
@@ -136,6 +141,7 @@ Allowed s m (feeding piece last lent) = (rest : List ℕ) × (drop (m .position)
 Allowed s m (saving lent) = Unit {0}
 Allowed s m (loading line) = ((n : Note) × (notedBeside line (m .notes) ≡ some n)) ⊎ (readOf line .number ≡ 18)
 
+-- every call of a list is allowed where it stands, by the model of the calls before it
 unfoldable pub AllAllowed : Setting → Model → List Call → Type 0
 AllAllowed s m [] = Unit {0}
 AllAllowed s m (c ∷ cs) = Allowed s m c × AllAllowed s (next s m c) cs

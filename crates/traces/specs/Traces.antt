@@ -1,4 +1,5 @@
 -- Document 01, "The lists of demand 3": what the program returned for each call of a list, and the one claim over all of it.
+-- docs/RULES.md, "Lists of calls".
 use mathlib.Core.Bool.{Bool, true, false}
 use mathlib.Core.List.{List, [], _∷_, _++_}
 use mathlib.Core.Option.{Option, none, some}
@@ -25,6 +26,7 @@ pub data Result : Type 0 where
   saved : Written → (lent : List ℕ) → Result
   loaded : Restored → Result
 
+-- A call of a list, and what the program returned for it.
 pub record Entry : Type 0 where
   pub call : Call
   pub result : Result
@@ -52,6 +54,7 @@ observed (loaded r) = saidOfLoading (restoredAs r)
 unfoldable pub handAfter : Run → Result → Run
 handAfter hand r = pick (isAccepted (observed r .number)) (inHand hand (observed r .run)) hand
 
+-- the run in hand after a list
 unfoldable pub handAtEnd : Run → List Entry → Run
 handAtEnd hand [] = hand
 handAtEnd hand (e ∷ es) = handAtEnd (handAfter hand (e .result)) es
@@ -61,15 +64,18 @@ unfoldable pub AllMeet : Setting → (hand : Run) → List Entry → Type 0
 AllMeet s hand [] = Unit {0}
 AllMeet s hand (e ∷ es) = Meets s hand (e .call) (e .result) × AllMeet s (handAfter hand (e .result)) es
 
+-- the calls of a list, without their results
 abbrev pub callsOf : List Entry → List Call
 callsOf [] = []
 callsOf (e ∷ es) = e .call ∷ callsOf es
 
+-- the lent output before a call; line reading has none
 abbrev pub lentBefore : Call → List ℕ
 lentBefore (feeding piece last lent) = lent
 lentBefore (saving lent) = lent
 lentBefore (loading line) = []
 
+-- the lent output after a call; line reading has none
 abbrev pub lentAfter : Result → List ℕ
 lentAfter (fed r lent) = lent
 lentAfter (saved r lent) = lent
@@ -93,13 +99,14 @@ Alike (loading line) (feeding piece′ last′ lent′) = ⊥
 Alike (loading line) (saving lent′) = ⊥
 Alike (loading line) (loading line′) = line ≡ line′
 
--- the first n calls of two lists are alike; their answers, written output and runs are equal
+-- the first n calls of two lists are alike
 abbrev pub AlikeFor : ℕ → List Entry → List Entry → Type 0
 AlikeFor zero es fs = Unit {0}
 AlikeFor (suc n) [] fs = ⊥
 AlikeFor (suc n) (e ∷ es) [] = ⊥
 AlikeFor (suc n) (e ∷ es) (f ∷ fs) = Alike (e .call) (f .call) × AlikeFor n es fs
 
+-- in both lists the first n results are seen alike: number, units read, what was written, and the run
 abbrev pub SameFor : ℕ → List Entry → List Entry → Type 0
 SameFor zero es fs = Unit {0}
 SameFor (suc n) [] fs = Unit {0}
@@ -140,6 +147,7 @@ abbrev pub AllBelow : ℕ → List ℕ → Type 0
 AllBelow n [] = Unit {0}
 AllBelow n (a ∷ text) = (a < n) × AllBelow n text
 
+-- the bits of a unit of input: 8 in decoding, 16 in encoding
 abbrev pub widthOf : Direction → ℕ
 widthOf Decoding = 8
 widthOf Encoding = 16

@@ -4,7 +4,7 @@ use Rattle.oneshot.proofs.whole_decoded.Statement.{statement}
 use Rattle.oneshot.proofs.whole_decoded.Tie as tie
 use Rattle.oneshot.proofs.whole_decoded.Reads as reads
 use Rattle.oneshot.proofs.whole_decoded.Lts as lts
-use Rattle.loops.proofs.counter.count_decoded.Reads as count-decoded-reads
+use Rattle.engine_loops.proofs.counter.count_decoded.Reads as count-decoded-reads
 
 -- src/lib.rt:165:9
 returns : tie.Need-returns

@@ -4,7 +4,7 @@ use Rattle.oneshot.proofs.whole_encoded.Statement.{statement}
 use Rattle.oneshot.proofs.whole_encoded.Tie as tie
 use Rattle.oneshot.proofs.whole_encoded.Reads as reads
 use Rattle.oneshot.proofs.whole_encoded.Lts as lts
-use Rattle.loops.proofs.counter.count_encoded.Reads as count-encoded-reads
+use Rattle.engine_loops.proofs.counter.count_encoded.Reads as count-encoded-reads
 
 -- src/lib.rt:185:9
 returns : tie.Need-returns

@@ -1,5 +1,5 @@
 use mathlib.Core.Path.{sym}
-use Rattle.checkpoint.specs.Line.{hexPair, hexCarried}
+use Rattle.checkpoint.specs.Line.{hexPair, hexPending}
 use Rattle.checkpoint.proofs.PlaceLaws.{read-then}
 use borrow.Author.Needs.{needs}
 use Rattle.checkpoint.proofs.reader.byte_at.Statement.{statement}
@@ -9,7 +9,7 @@ pair-at-requires : tie.Need-pair-at-requires
 pair-at-requires c κs = search needs
 
 returns : tie.Need-returns
-unfolding hexCarried
+unfolding hexPending
 returns c = sym (read-then hexPair _ _ _ _ _ (c .pair-at .ensures))
 
 pub byte-at-spec : {M : Type 1} → statement M

@@ -1,5 +1,5 @@
 use mathlib.Core.Path.{_∙_, sym}
-use Rattle.checkpoint.specs.Line.{hexPair, hexCarried}
+use Rattle.checkpoint.specs.Line.{hexPair, hexPending}
 use Rattle.checkpoint.proofs.PlaceLaws.{read-then}
 use borrow.Author.Needs.{needs}
 use Rattle.checkpoint.proofs.reader.unit_at.Statement.{statement}
@@ -24,7 +24,7 @@ add-unit : tie.Need-add-unit
 add-unit c = search needs
 
 returns : tie.Need-returns
-unfolding hexCarried
+unfolding hexPending
 returns c = sym (read-then hexPair _ _ _ _ _ (c .before .before .before .pair-at .ensures) ∙ read-then hexPair _ _ _ _ _ (c .before .before .pair-at2 .ensures))
 
 pub unit-at-spec : {M : Type 1} → statement M

@@ -10,8 +10,8 @@ cast-decimal-len c = search needs
 decimal-len-requires : tie.Need-decimal-len-requires
 decimal-len-requires c κs = search needs
 
-carried-len-requires : tie.Need-carried-len-requires
-carried-len-requires c κs = search needs
+pending-len-requires : tie.Need-pending-len-requires
+pending-len-requires c κs = search needs
 
 cast-decimal-len-2 : tie.Need-cast-decimal-len-2
 cast-decimal-len-2 c = search needs
@@ -49,8 +49,8 @@ add-result-6 c = search needs
 returns : tie.Need-returns
 returns c =
     let at-decimal-len2 = c .before .before .before in
-    let at-carried-len = at-decimal-len2 .before .before in
-    let at-decimal-len = at-carried-len .before in
+    let at-pending-len = at-decimal-len2 .before .before in
+    let at-decimal-len = at-pending-len .before in
     let entry = at-decimal-len .before .before in
     omega (
       arith,
@@ -60,7 +60,7 @@ returns c =
       at-decimal-len2 .decimal-len2 .ensures .0,
       c .before .before .decimal-len3 .ensures .0,
       c .before .decimal-len4 .ensures .0,
-      at-carried-len .carried-len .ensures .0,
+      at-pending-len .pending-len .ensures .0,
       c .closing-len .ensures .0,
     )
 
@@ -70,7 +70,7 @@ line-len-spec =
     (tie.spec
     cast-decimal-len
     decimal-len-requires
-    carried-len-requires
+    pending-len-requires
     cast-decimal-len-2
     decimal-len-requires-2
     decimal-len-requires-3

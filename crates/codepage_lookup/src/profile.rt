@@ -1,0 +1,254 @@
+// What a call finds out about a page once, so that its loops ask less of each code. These are no public calls.
+ghost use mathlib.Core.Path.{_≡_};
+ghost use mathlib.Core.Bool.{true, false};
+ghost use Prim.Native.Nat.{ℕ, _+_, _*_, _≤_, _<_};
+ghost use lib.Count.{ones, trailingZeros};
+ghost use lib.ListN.{length};
+ghost use Rattle.codepage.specs.CodePage.{entryAt, isSingle, isLead, leadsBelow};
+ghost use Rattle.codepage.specs.Reading.{byteAlone, unitAlone};
+ghost use Rattle.codepage.specs.Marks.{NoLowLead};
+ghost use Rattle.codepage_lookup.specs.Profile.{leadBits, onesBelow, blockOf, isRun, LeadsAt, NoCodes};
+use codepage::Lookup;
+use codepage::marks;
+
+// The lead bytes of a page as bits: byte 80 is the lowest of `low`, C0 the lowest of `high`.
+pub struct Leads {
+    pub low: u64,
+    pub high: u64,
+}
+
+// 0 for the class of a single byte, else another number.
+fn single_mark(class: u8) -> u8
+    ensures { λ r. ⌜ (r ≡ 0 → isSingle class ≡ true) ⌝ }
+{
+    (class & 0xFB) ^ 1
+}
+
+// Whether the bytes below `to` are all single.
+fn singles_below(classes: &[u8], to: usize) -> bool
+    requires { ⌜ to ≤ length (now classes) ⌝ }
+    ensures { λ r. ⌜ (r ≡ true → (byte : ℕ) → byte < to → isSingle (entryAt (now (classes .entry)) byte) ≡ true) ⌝ }
+{
+    let mut mark: u8 = 0;
+    let mut i: usize = 0;
+    while i < to {
+        mark = marks::larger(mark, single_mark(classes[i]));
+        i += 1;
+    }
+    mark == 0
+}
+
+// Whether every byte is single. Where the first lead bytes of most pages stand is looked at first.
+pub fn only_singles(classes: &[u8]) -> bool
+    requires { ⌜ length (now classes) ≡ 256 ⌝ }
+    ensures { λ r. ⌜ (r ≡ true → (byte : ℕ) → byte < 256 → isSingle (entryAt (now (classes .entry)) byte) ≡ true) ⌝ }
+{
+    if !singles_below(&classes[128..192], 64) {
+        return false;
+    }
+    singles_below(classes, 256)
+}
+
+// Whether 128 entries from a place on are 0, 1, 2 and so on.
+fn counts_up(table: &[u16], from: usize) -> bool
+    requires { ⌜ from + 128 ≤ length (now table) ⌝ }
+    ensures { λ r. ⌜ (r ≡ true → (k : ℕ) → k < 128 → entryAt (now (table .entry)) (from + k) ≡ k) ⌝ }
+{
+    let mut mark: u16 = 0;
+    let mut i: u16 = 0;
+    while i < 128 {
+        mark = mark | (table[from + (i as usize)] ^ i);
+        i += 1;
+    }
+    mark == 0
+}
+
+// Whether every byte below 80 is a single whose character is itself.
+pub fn plain_bytes(classes: &[u8], singles: &[u16]) -> bool
+    requires { ⌜ (length (now classes) ≡ 256) × (length (now singles) ≡ 256) ⌝ }
+    ensures { λ r. ⌜ (r ≡ true → (byte : ℕ) → byte < 0x80 → (isLead (entryAt (now (classes .entry)) byte) ≡ false) × (byteAlone (now (classes .entry)) (now (singles .entry)) byte ≡ Lookup.Found byte)) ⌝ }
+{
+    if !singles_below(classes, 128) {
+        return false;
+    }
+    counts_up(singles, 0)
+}
+
+// Whether the code of every unit below 80 is itself.
+pub fn plain_units(index: &[u8], blocks: &[u16]) -> bool
+    requires { ⌜ length (now index) ≡ 256 ⌝ }
+    requires { ⌜ ((high : ℕ) → 256 * entryAt (now index) high + 256 ≤ length (now blocks)) ⌝ }
+    ensures { λ r. ⌜ (r ≡ true → (unit : ℕ) → unit < 0x80 → unitAlone (now (index .entry)) (now (blocks .entry)) unit ≡ Lookup.Found unit) ⌝ }
+{
+    counts_up(blocks, 256 * (index[0] as usize))
+}
+
+// Whether the 256 entries of a block are all none.
+fn is_empty(blocks: &[u16], from: usize) -> bool
+    requires { ⌜ from + 256 ≤ length (now blocks) ⌝ }
+    ensures { λ r. ⌜ (r ≡ true → (k : ℕ) → k < 256 → entryAt (now (blocks .entry)) (from + k) ≡ 0xFFFF) ⌝ }
+{
+    let mut mark: u16 = 0xFFFF;
+    let mut i: usize = 0;
+    while i < 256 {
+        mark = mark & blocks[from + i];
+        i += 1;
+    }
+    mark == 0xFFFF
+}
+
+// Whether a block is empty, where another is known to be: they are mostly one.
+fn is_empty_too(blocks: &[u16], known: u8, block: u8) -> bool
+    requires { ⌜ 256 * block + 256 ≤ length (now blocks) ⌝ }
+    requires { ⌜ ((k : ℕ) → k < 256 → entryAt (now blocks) (256 * known + k) ≡ 0xFFFF) ⌝ }
+    ensures { λ r. ⌜ (r ≡ true → (k : ℕ) → k < 256 → entryAt (now (blocks .entry)) (256 * block + k) ≡ 0xFFFF) ⌝ }
+{
+    if block == known {
+        return true;
+    }
+    is_empty(blocks, 256 * (block as usize))
+}
+
+// Whether no surrogate has an entry that is a code: the blocks of the high halves D8 to DF are empty.
+fn no_surrogate_codes(index: &[u8], blocks: &[u16]) -> bool
+    requires { ⌜ length (now index) ≡ 256 ⌝ }
+    requires { ⌜ ((high : ℕ) → 256 * entryAt (now index) high + 256 ≤ length (now blocks)) ⌝ }
+    ensures { λ r. ⌜ (r ≡ true → (half : ℕ) → 0xD8 ≤ half → half ≤ 0xDF → (k : ℕ) → k < 256 → entryAt (now (blocks .entry)) (256 * entryAt (now (index .entry)) half + k) ≡ 0xFFFF) ⌝ }
+{
+    let first = index[0xD8];
+    if !is_empty(blocks, 256 * (first as usize)) {
+        return false;
+    }
+    let mut half: usize = 0xD9;
+    while half < 0xE0 {
+        if !is_empty_too(blocks, first, index[half]) {
+            return false;
+        }
+        half += 1;
+    }
+    true
+}
+
+// Whether `code_of` may be asked of every unit of a piece, whose units are not over `bound`.
+pub fn codes_asked(bound: u16, index: &[u8], blocks: &[u16], piece: &[u16]) -> bool
+    requires { ⌜ length (now index) ≡ 256 ⌝ }
+    requires { ⌜ ((high : ℕ) → 256 * entryAt (now index) high + 256 ≤ length (now blocks)) ⌝ }
+    requires { ⌜ ((k : ℕ) → entryAt (now piece) k ≤ bound) ⌝ }
+    ensures { λ r. ⌜ (r ≡ true → NoCodes (now (index .entry)) (now (blocks .entry)) (now (piece .entry))) ⌝ }
+{
+    if bound < 0xD800 {
+        return true;
+    }
+    no_surrogate_codes(index, blocks)
+}
+
+// The lead bytes among two, as bits: the first is the lower.
+fn two_bits(classes: &[u8], from: usize) -> u64
+    requires { ⌜ from + 2 ≤ length (now classes) ⌝ }
+    ensures { λ r. ⌜ r ≡ leadBits (now (classes .entry)) from 2 ⌝ }
+{
+    (marks::lead_mark(classes[from]) as u64) + 2 * (marks::lead_mark(classes[from + 1]) as u64)
+}
+
+// The lead bytes among four.
+fn four_bits(classes: &[u8], from: usize) -> u64
+    requires { ⌜ from + 4 ≤ length (now classes) ⌝ }
+    ensures { λ r. ⌜ r ≡ leadBits (now (classes .entry)) from 4 ⌝ }
+{
+    two_bits(classes, from) + 4 * two_bits(classes, from + 2)
+}
+
+// The lead bytes of a page, met from the last on.
+pub fn leads_of(classes: &[u8]) -> Leads
+    requires { ⌜ length (now classes) ≡ 256 ⌝ }
+    requires { ⌜ NoLowLead (now classes) ⌝ }
+    ensures { λ r. ⌜ LeadsAt (now (classes .entry)) r ⌝ }
+{
+    let mut low: u64 = 0;
+    let mut high: u64 = 0;
+    let mut i: usize = 256;
+    while 128 < i {
+        i -= 4;
+        high = (high << 4) + (low >> 60);
+        low = (low << 4) + four_bits(classes, i);
+    }
+    Leads { low, high }
+}
+
+// How many ones a word has.
+fn ones_of(word: u64) -> usize
+    ensures { λ r. ⌜ (r ≡ ones word) × (r ≤ 64) ⌝ }
+{
+    u64::count_ones(word) as usize
+}
+
+// How many ones of a word stand below a place: those at it and above are shifted out.
+fn ones_below(word: u64, place: u8) -> usize
+    requires { ⌜ place < 64 ⌝ }
+    ensures { λ r. ⌜ (r ≡ onesBelow word place) × (r ≤ 64) ⌝ }
+{
+    let below = (word << (63 - place)) << 1;
+    ones_of(below)
+}
+
+// The block of a lead byte: the number of ones below its own.
+pub fn block_counted(leads: Leads, lead: u8) -> usize
+    requires { ⌜ 0x80 ≤ lead ⌝ }
+    ensures { λ r. ⌜ r ≡ blockOf leads lead ⌝ }
+{
+    if lead < 0xC0 {
+        return ones_below(leads.low, lead - 0x80);
+    }
+    ones_of(leads.low) + ones_below(leads.high, lead - 0xC0)
+}
+
+// Whether the ones of a word stand side by side.
+fn is_run(word: u64) -> bool
+    ensures { λ r. ⌜ r ≡ isRun word ⌝ }
+{
+    if word == 0 {
+        return true;
+    }
+    u64::leading_zeros(word) + u64::count_ones(word) + u64::trailing_zeros(word) == 64
+}
+
+// Whether those of both words do.
+fn are_runs(leads: Leads) -> bool
+    ensures { λ r. ⌜ (r ≡ true → (isRun (leads .low) ≡ true) × (isRun (leads .high) ≡ true)) ⌝ }
+{
+    if !is_run(leads.low) {
+        return false;
+    }
+    is_run(leads.high)
+}
+
+// How far a byte stands behind the first one of a word, whose lowest bit is that of the byte `from`.
+fn distance(lead: u8, from: usize, word: u64) -> usize
+    requires { ⌜ from + trailingZeros 64 word ≤ lead ⌝ }
+    ensures { λ r. ⌜ r + (from + trailingZeros 64 word) ≡ lead ⌝ }
+{
+    (lead as usize) - from - (u64::trailing_zeros(word) as usize)
+}
+
+// The block of a lead byte where the ones of both words stand side by side: a distance, past the ones of the low word.
+fn block_in_runs(classes: &[u8], leads: Leads, lead: u8) -> usize
+    requires { ⌜ (length (now classes) ≡ 256) × (isLead (entryAt (now classes) lead) ≡ true) × LeadsAt (now classes) leads ⌝ }
+    requires { ⌜ (isRun (leads .low) ≡ true) × (isRun (leads .high) ≡ true) ⌝ }
+    ensures { λ r. ⌜ r ≡ leadsBelow (now (classes .entry)) lead ⌝ }
+{
+    if lead < 0xC0 {
+        return distance(lead, 0x80, leads.low);
+    }
+    ones_of(leads.low) + distance(lead, 0xC0, leads.high)
+}
+
+// The block of a lead byte, in loops: the compiler asks once whether there are gaps. `classes` serve the contract alone.
+pub fn block_of(classes: &[u8], leads: Leads, lead: u8) -> usize
+    requires { ⌜ (length (now classes) ≡ 256) × (isLead (entryAt (now classes) lead) ≡ true) × LeadsAt (now classes) leads ⌝ }
+    ensures { λ r. ⌜ r ≡ leadsBelow (now (classes .entry)) lead ⌝ }
+{
+    if are_runs(leads) {
+        return block_in_runs(classes, leads, lead);
+    }
+    block_counted(leads, lead)
+}

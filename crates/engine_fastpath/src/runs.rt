@@ -1,0 +1,263 @@
+// Runs of codes that have characters: as many as come one after the other and fit, in loops that ask little of each.
+ghost use mathlib.Core.Path.{_≡_};
+ghost use mathlib.Core.Bool.{true};
+ghost use Prim.Native.Nat.{ℕ, _+_, _*_, _/_, _%_, _≤_, _<_};
+ghost use lib.Dec.{leb};
+ghost use lib.ListN.{length};
+ghost use Rattle.codepage.specs.CodePage.{pick, entryAt};
+ghost use Rattle.codepage_lookup.specs.Profile.{LeadsAt, NoCodes};
+ghost use Rattle.codepage.specs.Reading.{bytesOf, decoder, encoder};
+ghost use Rattle.engine.specs.Steps.{DecodeSizes};
+ghost use Rattle.engine_fastpath.specs.Runs.{Ran, SinglesTaken};
+use codepage_lookup::profile::Leads;
+
+// How far a run came: in the piece, and in the output.
+pub struct Place {
+    pub read: usize,
+    pub written: usize,
+}
+
+// The smaller of two numbers: how far a loop goes before it asks again what is left.
+pub fn smaller(a: usize, b: usize) -> usize
+    ensures { λ r. ⌜ (r ≤ a) × (r ≤ b) ⌝ }
+{
+    if a < b {
+        return a;
+    }
+    b
+}
+
+// The next byte of a page that has only singles, if it has a character: how many bytes were taken, 0 or 1.
+fn take_one(singles: &[u16], piece: &[u8], i: usize, out: &mut [u16], w: usize) -> usize
+    requires { ⌜ (length (now singles) ≡ 256) × (i + 1 ≤ length (now piece)) × (w + 1 ≤ length (now out)) ⌝ }
+    ensures { λ r. ⌜ (r ≤ 1) × SinglesTaken (now (singles .entry)) (now (piece .entry)) (now (out .entry)) i w (now (out .exit)) r ⌝ }
+{
+    let at = piece[i] as usize;
+    let unit = singles[at];
+    if unit == 0xFFFF {
+        return 0;
+    }
+    out[w] = unit;
+    1
+}
+
+// The next two bytes: how many were taken.
+fn take_two(singles: &[u16], piece: &[u8], i: usize, out: &mut [u16], w: usize) -> usize
+    requires { ⌜ (length (now singles) ≡ 256) × (i + 2 ≤ length (now piece)) × (w + 2 ≤ length (now out)) ⌝ }
+    ensures { λ r. ⌜ (r ≤ 2) × SinglesTaken (now (singles .entry)) (now (piece .entry)) (now (out .entry)) i w (now (out .exit)) r ⌝ }
+{
+    let taken = take_one(singles, piece, i, out, w);
+    if taken < 1 {
+        return taken;
+    }
+    1 + take_one(singles, piece, i + 1, out, w + 1)
+}
+
+// The next four bytes: how many were taken.
+fn take_four(singles: &[u16], piece: &[u8], i: usize, out: &mut [u16], w: usize) -> usize
+    requires { ⌜ (length (now singles) ≡ 256) × (i + 4 ≤ length (now piece)) × (w + 4 ≤ length (now out)) ⌝ }
+    ensures { λ r. ⌜ (r ≤ 4) × SinglesTaken (now (singles .entry)) (now (piece .entry)) (now (out .entry)) i w (now (out .exit)) r ⌝ }
+{
+    let taken = take_two(singles, piece, i, out, w);
+    if taken < 2 {
+        return taken;
+    }
+    2 + take_two(singles, piece, i + 2, out, w + 2)
+}
+
+// Bytes of a page that has only singles: how many were taken.
+pub fn run_of_singles(
+    singles: &[u16],
+    piece: &[u8],
+    from: usize,
+    at: usize,
+    out: &mut [u16],
+) -> usize
+    requires { ⌜ (length (now singles) ≡ 256) × (from ≤ length (now piece)) × (at ≤ length (now out)) ⌝ }
+    ensures { λ r. ⌜ SinglesTaken (now (singles .entry)) (now (piece .entry)) (now (out .entry)) from at (now (out .exit)) r ⌝ }
+{
+    let n = smaller(piece.len() - from, out.len() - at);
+    let mut k = 0;
+    while 4 <= n - k {
+        let taken = take_four(singles, piece, from + k, out, at + k);
+        if taken < 4 {
+            return k + taken;
+        }
+        k += 4;
+    }
+    k
+}
+
+// Codes of one or two bytes.
+pub fn run_of_codes(
+    leads: Leads,
+    classes: &[u8],
+    singles: &[u16],
+    pairs: &[u16],
+    piece: &[u8],
+    from: usize,
+    at: usize,
+    out: &mut [u16],
+) -> Place
+    requires { ⌜ DecodeSizes (now classes) (now singles) (now pairs) ⌝ }
+    requires { ⌜ LeadsAt (now classes) leads ⌝ }
+    requires { ⌜ (from ≤ length (now piece)) × (at ≤ length (now out)) ⌝ }
+    ensures { λ r. ⌜ Ran (decoder (now (classes .entry)) (now (singles .entry)) (now (pairs .entry))) (now (piece .entry)) (now (out .entry)) from at (now (out .exit)) (r .read) (r .written) ⌝ }
+{
+    let n = smaller((piece.len() - from) / 2, out.len() - at);
+    let mut i = from;
+    let mut k = 0;
+    while k < n {
+        let byte = piece[i];
+        if codepage_lookup::is_lead(classes, byte) {
+            let unit = codepage_lookup::pair_unit(classes, pairs, leads, byte, piece[i + 1]);
+            if unit == 0xFFFF {
+                return Place {
+                    read: i,
+                    written: at + k,
+                };
+            }
+            out[at + k] = unit;
+            i += 2;
+            k += 1;
+        } else {
+            let unit = codepage_lookup::single_unit(classes, singles, byte);
+            if unit == 0xFFFF {
+                return Place {
+                    read: i,
+                    written: at + k,
+                };
+            }
+            out[at + k] = unit;
+            i += 1;
+            k += 1;
+        }
+    }
+    Place {
+        read: i,
+        written: at + k,
+    }
+}
+
+// Units whose codes are one byte: how many were taken.
+fn run_of_bytes(
+    index: &[u8],
+    blocks: &[u16],
+    piece: &[u16],
+    from: usize,
+    at: usize,
+    out: &mut [u8],
+) -> usize
+    requires { ⌜ length (now index) ≡ 256 ⌝ }
+    requires { ⌜ ((high : ℕ) → 256 * entryAt (now index) high + 256 ≤ length (now blocks)) ⌝ }
+    requires { ⌜ (from ≤ length (now piece)) × (at ≤ length (now out)) ⌝ }
+    requires { ⌜ NoCodes (now index) (now blocks) (now piece) ⌝ }
+    ensures { λ r. ⌜ Ran (encoder (now (index .entry)) (now (blocks .entry))) (now (piece .entry)) (now (out .entry)) from at (now (out .exit)) (from + r) (at + r) ⌝ }
+{
+    let n = smaller(piece.len() - from, out.len() - at);
+    let mut k = 0;
+    while k < n {
+        let code = codepage_lookup::code_of(index, blocks, piece[from + k]);
+        if 0x100 <= code {
+            return k;
+        }
+        out[at + k] = code as u8;
+        k += 1;
+    }
+    k
+}
+
+// The first byte of a code.
+fn first_byte(code: u16) -> u8
+    ensures { λ r. ⌜ r ≡ pick (leb code 0xFF) code (code / 256) ⌝ }
+{
+    if code <= 0xFF {
+        return code as u8;
+    }
+    (code / 256) as u8
+}
+
+// The second byte of a code, or what stands in its place where it has none.
+fn second_byte(code: u16, there: u8) -> u8
+    ensures { λ r. ⌜ r ≡ pick (leb code 0xFF) there (code % 256) ⌝ }
+{
+    if code <= 0xFF {
+        return there;
+    }
+    (code % 256) as u8
+}
+
+// How many bytes a code has.
+pub fn byte_count(code: u16) -> usize
+    ensures { λ r. ⌜ r ≡ length (bytesOf code) ⌝ }
+{
+    if code <= 0xFF {
+        return 1;
+    }
+    2
+}
+
+// Units that have codes. Both places of a code are always written, without asking how many bytes it has: what stood in the second
+// one is put back where the code is one byte.
+fn run_of_units(
+    index: &[u8],
+    blocks: &[u16],
+    piece: &[u16],
+    from: usize,
+    at: usize,
+    out: &mut [u8],
+) -> Place
+    requires { ⌜ length (now index) ≡ 256 ⌝ }
+    requires { ⌜ ((high : ℕ) → 256 * entryAt (now index) high + 256 ≤ length (now blocks)) ⌝ }
+    requires { ⌜ (from ≤ length (now piece)) × (at ≤ length (now out)) ⌝ }
+    requires { ⌜ NoCodes (now index) (now blocks) (now piece) ⌝ }
+    ensures { λ r. ⌜ Ran (encoder (now (index .entry)) (now (blocks .entry))) (now (piece .entry)) (now (out .entry)) from at (now (out .exit)) (r .read) (r .written) ⌝ }
+{
+    let n = smaller(piece.len() - from, (out.len() - at) / 2);
+    let mut k = 0;
+    let mut w = at;
+    while k < n {
+        let code = codepage_lookup::code_of(index, blocks, piece[from + k]);
+        if code == 0xFFFF {
+            return Place {
+                read: from + k,
+                written: w,
+            };
+        }
+        let there = out[w + 1];
+        out[w] = first_byte(code);
+        out[w + 1] = second_byte(code, there);
+        w += byte_count(code);
+        k += 1;
+    }
+    Place {
+        read: from + k,
+        written: w,
+    }
+}
+
+// Units that have codes: first those of one byte, which ask less. None are taken where codes may not be asked.
+pub fn run_of_coded(
+    asked: bool,
+    index: &[u8],
+    blocks: &[u16],
+    piece: &[u16],
+    from: usize,
+    at: usize,
+    out: &mut [u8],
+) -> Place
+    requires { ⌜ length (now index) ≡ 256 ⌝ }
+    requires { ⌜ ((high : ℕ) → 256 * entryAt (now index) high + 256 ≤ length (now blocks)) ⌝ }
+    requires { ⌜ (from ≤ length (now piece)) × (at ≤ length (now out)) ⌝ }
+    requires { ⌜ (asked ≡ true → NoCodes (now index) (now blocks) (now piece)) ⌝ }
+    ensures { λ r. ⌜ Ran (encoder (now (index .entry)) (now (blocks .entry))) (now (piece .entry)) (now (out .entry)) from at (now (out .exit)) (r .read) (r .written) ⌝ }
+{
+    if !asked {
+        return Place {
+            read: from,
+            written: at,
+        };
+    }
+    let count = run_of_bytes(index, blocks, piece, from, at, out);
+    run_of_units(index, blocks, piece, from + count, at + count, out)
+}

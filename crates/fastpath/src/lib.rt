@@ -1,6 +1,0 @@
-// The fast paths of the loops of decoding, encoding and counting: plain text taken whole, and runs of codes that have characters.
-// The functions of the modules are inner: the loops call them on tables whose shape was found good. They are no public calls.
-pub mod counted;
-pub mod mixed;
-pub mod plain;
-pub mod runs;

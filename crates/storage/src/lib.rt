@@ -1,4 +1,0 @@
-// Files that a job reads and writes, its checkpoint file, and what is said about them.
-pub mod checkpoints;
-pub mod files;
-pub mod messages;

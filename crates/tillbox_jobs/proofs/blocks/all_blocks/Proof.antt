@@ -1,0 +1,77 @@
+use Prim.Native.Nat.{_-_}
+use native.Mathlib.Omega.{arith}
+use Rattle.tillbox_jobs.proofs.blocks.all_blocks.Statement.{statement}
+use Rattle.tillbox_jobs.proofs.blocks.all_blocks.Tie as tie
+
+abbrev Inv-loop : tie.InvT-loop
+Inv-loop job numbers classes singles pairs index blocks source target total input output checkpoint count run₀ replaced₀ done₀ run replaced done = Unit {0}
+
+abbrev μ-loop : tie.MeasureT-loop
+μ-loop job numbers classes singles pairs index blocks source target total input output checkpoint count run₀ replaced₀ done₀ run replaced done = count - done
+
+block-count-requires : tie.Need-block-count-requires Inv-loop μ-loop
+block-count-requires c κs = tt
+
+loop-holds : tie.Need-loop-holds Inv-loop μ-loop
+loop-holds c = tt
+
+next-block-requires : tie.Need-next-block-requires Inv-loop μ-loop
+next-block-requires c κs = tt
+
+returns : tie.Need-returns Inv-loop μ-loop
+returns c = tt
+
+sum-requires : tie.Need-sum-requires Inv-loop μ-loop
+sum-requires c κs = tt
+
+with-replaced-requires : tie.Need-with-replaced-requires Inv-loop μ-loop
+with-replaced-requires c κs = tt
+
+returns-2 : tie.Need-returns-2 Inv-loop μ-loop
+returns-2 c = tt
+
+add-done : tie.Need-add-done Inv-loop μ-loop
+add-done c = omega arith
+
+on-the-way-requires : tie.Need-on-the-way-requires Inv-loop μ-loop
+on-the-way-requires c κs = tt
+
+broken-requires : tie.Need-broken-requires Inv-loop μ-loop
+broken-requires c κs = tt
+
+returns-3 : tie.Need-returns-3 Inv-loop μ-loop
+returns-3 c = tt
+
+loop-less : tie.Need-loop-less Inv-loop μ-loop
+loop-less c = omega arith
+
+loop-again : tie.Need-loop-again Inv-loop μ-loop
+loop-again c = tt
+
+none-requires : tie.Need-none-requires Inv-loop μ-loop
+none-requires c κs = tt
+
+returns-4 : tie.Need-returns-4 Inv-loop μ-loop
+returns-4 c = tt
+
+pub all-blocks-spec : {M : Type 1} → statement M
+all-blocks-spec =
+    tie.close
+    (tie.spec
+    Inv-loop
+    μ-loop
+    block-count-requires
+    loop-holds
+    next-block-requires
+    returns
+    sum-requires
+    with-replaced-requires
+    returns-2
+    add-done
+    on-the-way-requires
+    broken-requires
+    returns-3
+    loop-less
+    loop-again
+    none-requires
+    returns-4)

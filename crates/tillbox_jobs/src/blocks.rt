@@ -1,0 +1,473 @@
+// The blocks of a job, one after the other. A block has at most 512 units of input, so 1,024 units or 2,048 bytes of room are
+// enough for what one of them gives, with a pending lead byte or high surrogate.
+ghost use Prim.Native.Nat.{_≤_};
+use crate::job::Job;
+use crate::report;
+use crate::stops;
+use crate::stops::Stop;
+use codepage::Numbers;
+use convert::Direction;
+use convert::Outcome;
+use convert::Policy;
+use convert::Run;
+use tillbox_storage::checkpoints;
+use tillbox_storage::files;
+use tillbox_storage::messages;
+
+// The run after some blocks, the code that it was stopped at, how many characters were replaced (where they are counted), and
+// whether something failed; then the reason was said.
+pub struct Turn {
+    pub run: Run,
+    pub stop: Stop,
+    pub replaced: u64,
+    pub failed: bool,
+}
+
+// A block that could not be read or written, or a line that could not be saved.
+fn broken(run: Run) -> Turn {
+    Turn {
+        run,
+        stop: stops::none(),
+        replaced: 0,
+        failed: true,
+    }
+}
+
+// Whether a call with room enough was taken.
+pub fn is_taken(number: u8) -> bool {
+    if number == 2 {
+        return false;
+    }
+    number < 10
+}
+
+// The run after a call that had room enough.
+fn settled(outcome: Outcome, stop: Stop, replaced: u64, path: &[u8]) -> Turn {
+    let answer = outcome.answer;
+    let run = outcome.run;
+    let number = answer.number();
+    if is_taken(number) {
+        return Turn {
+            run,
+            stop,
+            replaced,
+            failed: false,
+        };
+    }
+    messages::refuse(number, path);
+    broken(run)
+}
+
+// The code that a call on a block stopped the run at, if it did.
+pub fn stop_of_decoding(
+    before: Run,
+    numbers: Numbers,
+    classes: &[u8],
+    singles: &[u16],
+    pairs: &[u16],
+    index: &[u8],
+    blocks: &[u16],
+    block: &[u8],
+    outcome: Outcome,
+) -> Stop {
+    let after = outcome.run;
+    if !stops::is_stopped(after) {
+        return stops::none();
+    }
+    stops::stop_in_bytes(
+        before,
+        numbers,
+        classes,
+        singles,
+        pairs,
+        index,
+        blocks,
+        block,
+        outcome.read,
+    )
+}
+
+// The same of a block of units.
+fn stop_of_encoding(
+    before: Run,
+    numbers: Numbers,
+    classes: &[u8],
+    singles: &[u16],
+    pairs: &[u16],
+    index: &[u8],
+    blocks: &[u16],
+    block: &[u16],
+    outcome: Outcome,
+) -> Stop {
+    let after = outcome.run;
+    if !stops::is_stopped(after) {
+        return stops::none();
+    }
+    stops::stop_in_units(
+        before,
+        numbers,
+        classes,
+        singles,
+        pairs,
+        index,
+        blocks,
+        block,
+        outcome.read,
+    )
+}
+
+// A run that goes on with every code without a character skipped.
+fn skipping(run: Run) -> Run {
+    let direction = run.direction;
+    let pending = run.pending;
+    Run {
+        direction,
+        page: run.page,
+        policy: Policy::skipping(),
+        pending,
+        flags: run.flags,
+        read: run.read,
+        written: run.written,
+        ended: run.ended,
+    }
+}
+
+// How many characters of a block are replaced under 555: a byte for each is written more than where they are skipped
+// (`replaced-are-more`).
+fn replaced_in(
+    before: Run,
+    numbers: Numbers,
+    classes: &[u8],
+    singles: &[u16],
+    pairs: &[u16],
+    index: &[u8],
+    blocks: &[u16],
+    block: &[u16],
+    last: bool,
+    written: usize,
+) -> u64 {
+    let mut bytes = [0u8; 2048];
+    let outcome = convert::encode(
+        skipping(before),
+        numbers,
+        classes,
+        singles,
+        pairs,
+        index,
+        blocks,
+        block,
+        last,
+        &mut bytes,
+    );
+    if written < outcome.written {
+        return 0;
+    }
+    (written - outcome.written) as u64
+}
+
+// Decodes a block of `size` bytes.
+fn decode_block(
+    run: Run,
+    numbers: Numbers,
+    classes: &[u8],
+    singles: &[u16],
+    pairs: &[u16],
+    index: &[u8],
+    blocks: &[u16],
+    source: i32,
+    target: i32,
+    size: usize,
+    last: bool,
+    input: &[u8],
+    output: &[u8],
+) -> Turn {
+    let mut block = [0u8; 512];
+    let count = files::read_some(source, size, &mut block);
+    if count < size {
+        files::say_short(source, input);
+        return broken(run);
+    }
+    let mut units = [0u16; 1024];
+    let outcome = convert::decode(
+        run,
+        numbers,
+        classes,
+        singles,
+        pairs,
+        index,
+        blocks,
+        &block[..count],
+        last,
+        &mut units,
+    );
+    let filled = tillbox_layout::front_units(outcome.written, &units);
+    let mut bytes = [0u8; 2048];
+    let length = tillbox_layout::utf16::to_bytes(&units[..filled], &mut bytes);
+    if !files::write(target, &bytes[..length], output) {
+        return broken(run);
+    }
+    let stop = stop_of_decoding(
+        run,
+        numbers,
+        classes,
+        singles,
+        pairs,
+        index,
+        blocks,
+        &block[..count],
+        outcome,
+    );
+    settled(outcome, stop, 0, input)
+}
+
+// Encodes a block of units.
+fn encode_units(
+    job: Job,
+    run: Run,
+    numbers: Numbers,
+    classes: &[u8],
+    singles: &[u16],
+    pairs: &[u16],
+    index: &[u8],
+    blocks: &[u16],
+    target: i32,
+    units: &[u16],
+    last: bool,
+    input: &[u8],
+    output: &[u8],
+) -> Turn {
+    let mut bytes = [0u8; 2048];
+    let outcome = convert::encode(
+        run,
+        numbers,
+        classes,
+        singles,
+        pairs,
+        index,
+        blocks,
+        units,
+        last,
+        &mut bytes,
+    );
+    let written = tillbox_layout::front_bytes(outcome.written, &bytes);
+    if !files::write(target, &bytes[..written], output) {
+        return broken(run);
+    }
+    let stop = stop_of_encoding(
+        run,
+        numbers,
+        classes,
+        singles,
+        pairs,
+        index,
+        blocks,
+        units,
+        outcome,
+    );
+    if !job.counts {
+        return settled(outcome, stop, 0, input);
+    }
+    let replaced = replaced_in(
+        run,
+        numbers,
+        classes,
+        singles,
+        pairs,
+        index,
+        blocks,
+        units,
+        last,
+        written,
+    );
+    settled(outcome, stop, replaced, input)
+}
+
+// Encodes a block of `size` units of a file.
+fn encode_block(
+    job: Job,
+    run: Run,
+    numbers: Numbers,
+    classes: &[u8],
+    singles: &[u16],
+    pairs: &[u16],
+    index: &[u8],
+    blocks: &[u16],
+    source: i32,
+    target: i32,
+    size: usize,
+    last: bool,
+    input: &[u8],
+    output: &[u8],
+) -> Turn
+    requires { ⌜ size ≤ 512 ⌝ }
+{
+    let mut block = [0u8; 1024];
+    let count = files::read_some(source, 2 * size, &mut block);
+    if count < 2 * size {
+        files::say_short(source, input);
+        return broken(run);
+    }
+    let mut units = [0u16; 512];
+    let length = tillbox_layout::utf16::to_units(&block[..count], &mut units);
+    encode_units(
+        job,
+        run,
+        numbers,
+        classes,
+        singles,
+        pairs,
+        index,
+        blocks,
+        target,
+        &units[..length],
+        last,
+        input,
+        output,
+    )
+}
+
+// The next block.
+fn next_block(
+    job: Job,
+    run: Run,
+    numbers: Numbers,
+    classes: &[u8],
+    singles: &[u16],
+    pairs: &[u16],
+    index: &[u8],
+    blocks: &[u16],
+    source: i32,
+    target: i32,
+    total: u64,
+    input: &[u8],
+    output: &[u8],
+) -> Turn {
+    let direction = job.direction;
+    let size = tillbox_layout::block_len(run.read, total);
+    let last = tillbox_layout::is_final(run.read, total) && job.last;
+    match direction {
+        Direction::Decoding => decode_block(
+            run,
+            numbers,
+            classes,
+            singles,
+            pairs,
+            index,
+            blocks,
+            source,
+            target,
+            size,
+            last,
+            input,
+            output,
+        ),
+        Direction::Encoding => encode_block(
+            job,
+            run,
+            numbers,
+            classes,
+            singles,
+            pairs,
+            index,
+            blocks,
+            source,
+            target,
+            size,
+            last,
+            input,
+            output,
+        ),
+    }
+}
+
+// Progress and checkpoints on the way, after `done` blocks. Answers false where a checkpoint could not be written.
+fn on_the_way(
+    job: Job,
+    run: Run,
+    done: u64,
+    target: i32,
+    total: u64,
+    output: &[u8],
+    checkpoint: &[u8],
+) -> bool {
+    if done % 8192 == 0 {
+        report::progress(run, total);
+    }
+    if done % 128 != 0 {
+        return true;
+    }
+    if !job.saves {
+        return true;
+    }
+    checkpoints::save(run, target, output, checkpoint)
+}
+
+// A turn with the characters that all blocks up to it replaced.
+fn with_replaced(turn: Turn, replaced: u64) -> Turn {
+    let run = turn.run;
+    let stop = turn.stop;
+    Turn {
+        run,
+        stop,
+        replaced,
+        failed: turn.failed,
+    }
+}
+
+// All blocks that are left, to the end of the input or of the run.
+pub fn all_blocks(
+    job: Job,
+    run: Run,
+    numbers: Numbers,
+    classes: &[u8],
+    singles: &[u16],
+    pairs: &[u16],
+    index: &[u8],
+    blocks: &[u16],
+    source: i32,
+    target: i32,
+    total: u64,
+    input: &[u8],
+    output: &[u8],
+    checkpoint: &[u8],
+) -> Turn {
+    let count = tillbox_layout::block_count(run.read, total, job.last);
+    let mut run = run;
+    let mut replaced = 0;
+    let mut done = 0;
+    while done < count {
+        let turn = next_block(
+            job,
+            run,
+            numbers,
+            classes,
+            singles,
+            pairs,
+            index,
+            blocks,
+            source,
+            target,
+            total,
+            input,
+            output,
+        );
+        if turn.failed {
+            return turn;
+        }
+        run = turn.run;
+        replaced = tillbox_layout::sum(replaced, turn.replaced);
+        if run.ended {
+            return with_replaced(turn, replaced);
+        }
+        done += 1;
+        if !on_the_way(job, run, done, target, total, output, checkpoint) {
+            return broken(run);
+        }
+    }
+    Turn {
+        run,
+        stop: stops::none(),
+        replaced,
+        failed: false,
+    }
+}

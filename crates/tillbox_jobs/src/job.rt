@@ -1,0 +1,439 @@
+// A job: an input file converted into an output file, whole or from a checkpoint on.
+use crate::blocks;
+use crate::blocks::Turn;
+use crate::report;
+use crate::resume;
+use crate::resume::Beginning;
+use crate::resume::Origin;
+use crate::stops;
+use crate::stops::Stop;
+use crate::tables;
+use codepage::Fault;
+use codepage::Numbers;
+use convert::Direction;
+use convert::Policy;
+use convert::Run;
+use image::Loaded;
+use libc::STDOUT_FILENO;
+use tillbox_storage::checkpoints;
+use tillbox_storage::files;
+use tillbox_storage::messages;
+
+// What is to be done.
+pub struct Job {
+    pub direction: Direction,
+    // The policy of a fresh run, and whether it was asked for.
+    pub policy: Policy,
+    pub asked: bool,
+    // Whether the input is complete, so that its end is the text's end.
+    pub last: bool,
+    // Whether there is a checkpoint file.
+    pub saves: bool,
+    // Whether the characters that are replaced are counted: an encoding under 555 alone.
+    pub counts: bool,
+}
+
+// How a job ended.
+pub enum Ending {
+    // All is read.
+    Done,
+    // The run stopped by its policy.
+    Stopped,
+    // The reason was said.
+    Failed,
+}
+
+// Whether two files have the same name, and says so.
+pub fn named_twice(a: &[u8], b: &[u8]) -> bool {
+    if check::same(a, b) {
+        messages::wrong(a, b"two of the files have this name");
+        return true;
+    }
+    false
+}
+
+// Whether a file that is written has a name of its own.
+fn is_apart(name: &[u8], table: &[u8], input: &[u8], output: &[u8]) -> bool {
+    if named_twice(name, table) {
+        return false;
+    }
+    if named_twice(name, input) {
+        return false;
+    }
+    !named_twice(name, output)
+}
+
+// Whether the checkpoint, and the new file that takes its place, have names of their own.
+fn checkpoint_apart(checkpoint: &[u8], table: &[u8], input: &[u8], output: &[u8]) -> bool {
+    if !is_apart(checkpoint, table, input, output) {
+        return false;
+    }
+    let mut fresh = io::buffer();
+    let count = checkpoints::new_path(checkpoint, &mut fresh);
+    if count == 0 {
+        messages::wrong(checkpoint, b"the name is too long");
+        return false;
+    }
+    is_apart(&fresh[..count], table, input, output)
+}
+
+// Whether no file that is written has the name of another file of the job. Where one has, it was said.
+fn names_apart(job: Job, table: &[u8], input: &[u8], output: &[u8], checkpoint: &[u8]) -> bool {
+    if named_twice(output, table) {
+        return false;
+    }
+    if named_twice(output, input) {
+        return false;
+    }
+    if job.saves {
+        return checkpoint_apart(checkpoint, table, input, output);
+    }
+    true
+}
+
+// Sums up a run: all is read, or it was stopped.
+fn told(run: Run, stop: Stop, checkpoint: &[u8]) -> Ending {
+    report::summary(run, stop, checkpoint);
+    if stops::is_stopped(run) {
+        return Ending::Stopped;
+    }
+    Ending::Done
+}
+
+// The end of a job whose blocks are done: the last line is saved and the run summed up.
+fn finished(job: Job, turn: Turn, target: i32, output: &[u8], checkpoint: &[u8]) -> Ending {
+    let run = turn.run;
+    if turn.failed {
+        return Ending::Failed;
+    }
+    if job.saves {
+        if !checkpoints::save(run, target, output, checkpoint) {
+            return Ending::Failed;
+        }
+        files::sync_folder(checkpoint);
+    }
+    if job.counts {
+        report::preview(run, turn.replaced);
+        return Ending::Done;
+    }
+    let stop = turn.stop;
+    told(run, stop, checkpoint)
+}
+
+// Whether the units that a run reads have two bytes; those that it writes have the other size.
+fn reads_wide(direction: Direction) -> bool {
+    match direction {
+        Direction::Decoding => false,
+        Direction::Encoding => true,
+    }
+}
+
+// Goes to the place in the input where a run stands.
+fn go_to(run: Run, source: i32, input: &[u8]) -> bool {
+    let direction = run.direction;
+    let place = tillbox_layout::place_of(reads_wide(direction), run.read);
+    files::seek(source, place, input)
+}
+
+// The output of a run: taken up where the run stands, or made anew.
+fn open_target(run: Run, resumed: bool, output: &[u8]) -> i32 {
+    if !resumed {
+        return files::make(output);
+    }
+    let direction = run.direction;
+    let place = tillbox_layout::place_of(!reads_wide(direction), run.written);
+    files::take_up(output, place)
+}
+
+// From a run on.
+fn with_run(
+    job: Job,
+    beginning: Beginning,
+    numbers: Numbers,
+    classes: &[u8],
+    singles: &[u16],
+    pairs: &[u16],
+    index: &[u8],
+    blocks: &[u16],
+    source: i32,
+    total: u64,
+    input: &[u8],
+    output: &[u8],
+    checkpoint: &[u8],
+) -> Ending {
+    let run = beginning.run;
+    if !go_to(run, source, input) {
+        return Ending::Failed;
+    }
+    let target = open_target(run, beginning.resumed, output);
+    if target < 0 {
+        return Ending::Failed;
+    }
+    if job.saves {
+        files::sync_folder(output);
+    }
+    let turn = blocks::all_blocks(
+        job,
+        run,
+        numbers,
+        classes,
+        singles,
+        pairs,
+        index,
+        blocks,
+        source,
+        target,
+        total,
+        input,
+        output,
+        checkpoint,
+    );
+    let ending = finished(job, turn, target, output, checkpoint);
+    libc::close(target);
+    ending
+}
+
+// The end of a job whose run had ended before.
+fn nothing_to_do(run: Run, checkpoint: &[u8]) -> Ending {
+    messages::say(b"tillbox: nothing to do: the run of the checkpoint has ended\n");
+    told(run, stops::none(), checkpoint)
+}
+
+// From an input of `total` units on.
+fn with_total(
+    job: Job,
+    numbers: Numbers,
+    classes: &[u8],
+    singles: &[u16],
+    pairs: &[u16],
+    index: &[u8],
+    blocks: &[u16],
+    source: i32,
+    total: u64,
+    input: &[u8],
+    output: &[u8],
+    checkpoint: &[u8],
+) -> Ending {
+    if Run::READ_LIMIT < total {
+        messages::refuse(16, input);
+        return Ending::Failed;
+    }
+    let origin = resume::begin(
+        job,
+        numbers,
+        classes,
+        singles,
+        pairs,
+        index,
+        blocks,
+        total,
+        checkpoint,
+    );
+    match origin {
+        Origin::At(beginning) => with_run(
+            job,
+            beginning,
+            numbers,
+            classes,
+            singles,
+            pairs,
+            index,
+            blocks,
+            source,
+            total,
+            input,
+            output,
+            checkpoint,
+        ),
+        Origin::Finished(run) => nothing_to_do(run, checkpoint),
+        Origin::Failed => Ending::Failed,
+    }
+}
+
+// Whether an input has no half of a unit at its end. Where more may follow, that half waits in the input.
+fn is_complete(job: Job, wide: bool, bytes: u64, input: &[u8]) -> bool {
+    if !job.last {
+        return true;
+    }
+    if tillbox_layout::is_whole(wide, bytes) {
+        return true;
+    }
+    messages::wrong(input, b"an odd number of bytes is no text of UTF-16 units");
+    false
+}
+
+// From an open input on.
+fn with_input(
+    job: Job,
+    numbers: Numbers,
+    classes: &[u8],
+    singles: &[u16],
+    pairs: &[u16],
+    index: &[u8],
+    blocks: &[u16],
+    source: i32,
+    input: &[u8],
+    output: &[u8],
+    checkpoint: &[u8],
+) -> Ending {
+    let direction = job.direction;
+    let size = files::size_of(source, input);
+    if size < 0 {
+        return Ending::Failed;
+    }
+    let wide = reads_wide(direction);
+    let bytes = tillbox_layout::size_of(size);
+    if !is_complete(job, wide, bytes, input) {
+        return Ending::Failed;
+    }
+    let total = tillbox_layout::units_in(wide, bytes);
+    with_total(
+        job,
+        numbers,
+        classes,
+        singles,
+        pairs,
+        index,
+        blocks,
+        source,
+        total,
+        input,
+        output,
+        checkpoint,
+    )
+}
+
+// From a table set on.
+fn with_tables(
+    job: Job,
+    numbers: Numbers,
+    classes: &[u8],
+    singles: &[u16],
+    pairs: &[u16],
+    index: &[u8],
+    blocks: &[u16],
+    table: &[u8],
+    input: &[u8],
+    output: &[u8],
+    checkpoint: &[u8],
+) -> Ending {
+    if !tables::good_shape(table, numbers, classes, singles, pairs, index, blocks) {
+        return Ending::Failed;
+    }
+    let source = files::open_input(input);
+    if source < 0 {
+        return Ending::Failed;
+    }
+    let ending = with_input(
+        job,
+        numbers,
+        classes,
+        singles,
+        pairs,
+        index,
+        blocks,
+        source,
+        input,
+        output,
+        checkpoint,
+    );
+    libc::close(source);
+    ending
+}
+
+// Does a job. `checkpoint` is looked at only where the job saves. What happened is said on standard error.
+pub fn convert_files(
+    job: Job,
+    table: &[u8],
+    input: &[u8],
+    output: &[u8],
+    checkpoint: &[u8],
+) -> Ending {
+    if !names_apart(job, table, input, output, checkpoint) {
+        return Ending::Failed;
+    }
+    let mut classes = [0u8; 300];
+    let mut singles = [0u16; 300];
+    let mut pairs = [0u16; 33024];
+    let mut index = [0u8; 300];
+    let mut blocks = [0u16; 66048];
+    let loaded = tables::load(
+        table,
+        &mut classes,
+        &mut singles,
+        &mut pairs,
+        &mut index,
+        &mut blocks,
+    );
+    match loaded {
+        Loaded::NotAnImage => Ending::Failed,
+        Loaded::Table(numbers, sizes) => {
+            let a = tillbox_layout::front_bytes(sizes.classes, &classes);
+            let b = tillbox_layout::front_units(sizes.singles, &singles);
+            let c = tillbox_layout::front_units(sizes.pairs, &pairs);
+            let d = tillbox_layout::front_bytes(sizes.index, &index);
+            let e = tillbox_layout::front_units(sizes.blocks, &blocks);
+            with_tables(
+                job,
+                numbers,
+                &classes[..a],
+                &singles[..b],
+                &pairs[..c],
+                &index[..d],
+                &blocks[..e],
+                table,
+                input,
+                output,
+                checkpoint,
+            )
+        }
+    }
+}
+
+// The shape report of a table set, in words on standard output.
+fn told_shape(numbers: Numbers, fault: Fault) -> Ending {
+    messages::put(STDOUT_FILENO, b"page ");
+    messages::put_number(STDOUT_FILENO, numbers.page as u64);
+    messages::put(STDOUT_FILENO, b": ");
+    tables::put_fault(STDOUT_FILENO, fault);
+    if let Fault::Good = fault {
+        return Ending::Done;
+    }
+    Ending::Failed
+}
+
+// Writes the shape report of a table image to standard output.
+pub fn print_shape(table: &[u8]) -> Ending {
+    let mut classes = [0u8; 300];
+    let mut singles = [0u16; 300];
+    let mut pairs = [0u16; 33024];
+    let mut index = [0u8; 300];
+    let mut blocks = [0u16; 66048];
+    let loaded = tables::load(
+        table,
+        &mut classes,
+        &mut singles,
+        &mut pairs,
+        &mut index,
+        &mut blocks,
+    );
+    match loaded {
+        Loaded::NotAnImage => Ending::Failed,
+        Loaded::Table(numbers, sizes) => {
+            let a = tillbox_layout::front_bytes(sizes.classes, &classes);
+            let b = tillbox_layout::front_units(sizes.singles, &singles);
+            let c = tillbox_layout::front_units(sizes.pairs, &pairs);
+            let d = tillbox_layout::front_bytes(sizes.index, &index);
+            let e = tillbox_layout::front_units(sizes.blocks, &blocks);
+            let fault = codepage::shape_report(
+                numbers,
+                &classes[..a],
+                &singles[..b],
+                &pairs[..c],
+                &index[..d],
+                &blocks[..e],
+            );
+            told_shape(numbers, fault)
+        }
+    }
+}

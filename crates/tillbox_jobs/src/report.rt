@@ -1,0 +1,206 @@
+// What is said at the end of a job, and on the way of a long one.
+ghost use Prim.Native.Nat.{_<_};
+use crate::stops;
+use crate::stops::Stop;
+use convert::Direction;
+use convert::Pending;
+use convert::Policy;
+use convert::Run;
+use tillbox_storage::messages::say;
+use tillbox_storage::messages::say_hex;
+use tillbox_storage::messages::say_number;
+
+// What a run reads.
+fn say_input_unit(direction: Direction) {
+    match direction {
+        Direction::Decoding => say(b"byte"),
+        Direction::Encoding => say(b"unit"),
+    }
+}
+
+// What it writes.
+fn say_output_unit(direction: Direction) {
+    match direction {
+        Direction::Decoding => say(b"unit"),
+        Direction::Encoding => say(b"byte"),
+    }
+}
+
+// One line for each 4 MiB of a journal.
+pub fn progress(run: Run, total: u64) {
+    let direction = run.direction;
+    say(b"tillbox: read ");
+    say_number(run.read);
+    say(b" of ");
+    say_number(total);
+    say(b" ");
+    say_input_unit(direction);
+    say(b"s\n");
+}
+
+// What a run has read and written.
+fn say_totals(run: Run) {
+    let direction = run.direction;
+    say(b"tillbox: read ");
+    say_number(run.read);
+    say(b" ");
+    say_input_unit(direction);
+    say(b"s, written ");
+    say_number(run.written);
+    say(b" ");
+    say_output_unit(direction);
+    say(b"s\n");
+}
+
+// A flag's name, where it is set, behind the names of lower ones.
+fn say_flag(flags: u8, bit: u8, name: &[u8])
+    requires { ⌜ 0 < bit ⌝ }
+{
+    if flags / bit % 2 == 0 {
+        return;
+    }
+    if flags % bit != 0 {
+        say(b", ");
+    }
+    say(name);
+}
+
+// The flags by name, and as their number.
+pub fn say_flags(flags: u8) {
+    say(b"tillbox: flags: ");
+    if flags == 0 {
+        say(b"none");
+    }
+    say_flag(flags, 1, b"undefined single");
+    say_flag(flags, 2, b"undefined pair");
+    say_flag(flags, 4, b"invalid");
+    say_flag(flags, 8, b"stopped");
+    say(b" (");
+    say_number(flags as u64);
+    say(b")\n");
+}
+
+// What a run reads, in hex: a byte or a unit.
+fn say_input(direction: Direction, unit: u16) {
+    match direction {
+        Direction::Decoding => say_hex((unit % 256) as u8),
+        Direction::Encoding => {
+            say_hex((unit / 256) as u8);
+            say_hex((unit % 256) as u8);
+        }
+    }
+}
+
+// The first half of a character that waits for the other one.
+fn say_half(direction: Direction, unit: u16) {
+    say(b"the ");
+    say_input_unit(direction);
+    say(b" ");
+    say_input(direction, unit);
+    say(b", the first half of a character");
+}
+
+// What a run has pending.
+fn say_pending(pending: Pending) {
+    say(b"tillbox: pending: ");
+    match pending {
+        Pending::Nothing => say(b"nothing"),
+        Pending::Byte(byte) => say_half(Direction::Decoding, byte as u16),
+        Pending::High(unit) => say_half(Direction::Encoding, unit),
+    }
+    say(b"\n");
+}
+
+// The three digits of a policy.
+pub fn say_policy(policy: Policy) {
+    say_number(policy.single as u64);
+    say_number(policy.pair as u64);
+    say_number(policy.invalid as u64);
+}
+
+// A code's kind, by its flag.
+fn say_kind(flag: u8) {
+    match flag {
+        1 => say(b"an undefined single"),
+        2 => say(b"an undefined pair"),
+        _ => say(b"an invalid code"),
+    }
+}
+
+// The units of a code, in hex.
+fn say_code(direction: Direction, stop: Stop) {
+    say_input(direction, stop.first);
+    if stop.size == 2 {
+        say(b" ");
+        say_input(direction, stop.second);
+    }
+}
+
+// Where a run was stopped: the place of the code that did it, its units and its kind, as far as it is known.
+pub fn say_place(run: Run, stop: Stop) {
+    let direction = run.direction;
+    let size = stop.size as u64;
+    if size == 0 || run.read < size {
+        say(b"; the next unread ");
+        say_input_unit(direction);
+        say(b" is at ");
+        say_number(run.read);
+        say(b", counted from 0\n");
+        return;
+    }
+    say(b" at ");
+    say_input_unit(direction);
+    say(b" ");
+    say_number(run.read - size);
+    say(b", counted from 0: ");
+    say_code(direction, stop);
+    say(b", ");
+    say_kind(stop.flag);
+    say(b"\n");
+}
+
+// How to go on where a run was stopped.
+pub fn say_way_on() {
+    say(
+        b"tillbox: to go on, mend the input there, or call again with policy 555, which writes the table's default for such a code\n",
+    );
+}
+
+// Why and where a run was stopped, and what is to be done before it is called again.
+fn say_stop(run: Run, stop: Stop, checkpoint: &[u8]) {
+    let policy = run.policy;
+    say(b"tillbox: stopped by policy ");
+    say_policy(policy);
+    say_place(run, stop);
+    say_way_on();
+    if checkpoint.len() != 0 {
+        say(b"tillbox: the run of the checkpoint has ended: remove ");
+        say(checkpoint);
+        say(b" before you call again\n");
+    }
+}
+
+// The summary of a run, and how to go on where it was stopped. The name of the checkpoint is empty where there is none.
+pub fn summary(run: Run, stop: Stop, checkpoint: &[u8]) {
+    let pending = run.pending;
+    say_totals(run);
+    say_flags(run.flags);
+    say_pending(pending);
+    if stops::is_stopped(run) {
+        say_stop(run, stop, checkpoint);
+    }
+    if run.ended {
+        say(b"tillbox: the run has ended\n");
+    } else {
+        say(b"tillbox: the run goes on\n");
+    }
+}
+
+// The summary of a receipt's preview.
+pub fn preview(run: Run, replaced: u64) {
+    say_totals(run);
+    say(b"tillbox: characters replaced: ");
+    say_number(replaced);
+    say(b"\n");
+    say_flags(run.flags);
+}

@@ -1,0 +1,14 @@
+use Rattle.tillbox_layout.specs.Files.{isWhole}
+use Rattle.tillbox_layout.proofs.is_whole.Statement.{statement}
+use Rattle.tillbox_layout.proofs.is_whole.Tie as tie
+
+returns : tie.Need-returns
+unfolding isWhole
+returns c = rw (c .if1 .taken)
+
+returns-2 : tie.Need-returns-2
+unfolding isWhole
+returns-2 c = rw (c .if1 .left)
+
+pub is-whole-spec : {M : Type 1} → statement M
+is-whole-spec = tie.close (tie.spec returns returns-2)
