@@ -1,2 +1,3 @@
 pub mod TurnedLaws
 pub mod CountLaws
+pub mod WayLaws

@@ -7,10 +7,17 @@ use lib.ListN.{length}
 use Rattle.codepage.specs.CodePage.{entryAt, isSingle}
 use Rattle.codepage.specs.Reading.{decoder}
 use Rattle.engine_fastpath.specs.Runs.{Plain}
+use Rattle.engine_loops.specs.declared.decoder.Way.{Way}
+use Rattle.engine_loops.specs.declared.decoder.Way.the-variants.{Copied, Singles, Codes}
 
--- how a decoding call goes on: 1 its piece was plain and is copied, 2 the page has only singles
-pub record Way (classes singles piece : List ℕ) (pending : Bool) (out : List ℕ) (way : ℕ) (out′ : List ℕ) : Type 0 where
-  pub plain : way ≡ 1 → (pending ≡ false) × ((pairs : List ℕ) → Plain (decoder classes singles pairs) piece out true out′)
-  pub single : way ≡ 2 → (pending ≡ false) × ((byte : ℕ) → byte < 256 → isSingle (entryAt classes byte) ≡ true)
-  pub left : (way ≡ 1 → ⊥) → out′ ≡ out
+-- what is known of each way: the piece was plain and is copied; the page has only singles; or nothing. The output is as before but for
+-- the first.
+abbrev pub OnWay : (classes singles piece : List ℕ) → (pending : Bool) → (out out′ : List ℕ) → Way → Type 0
+OnWay classes singles piece pending out out′ Copied = (pending ≡ false) × ((pairs : List ℕ) → Plain (decoder classes singles pairs) piece out true out′)
+OnWay classes singles piece pending out out′ Singles = (pending ≡ false) × ((byte : ℕ) → byte < 256 → isSingle (entryAt classes byte) ≡ true) × (out′ ≡ out)
+OnWay classes singles piece pending out out′ Codes = out′ ≡ out
+
+-- how a decoding call goes on
+pub record WayFound (classes singles piece : List ℕ) (pending : Bool) (out : List ℕ) (way : Way) (out′ : List ℕ) : Type 0 where
+  pub known : OnWay classes singles piece pending out out′ way
   pub same : length out′ ≡ length out

@@ -12,7 +12,7 @@ ghost use Rattle.codepage_lookup.specs.Profile.{LeadsAt};
 ghost use Rattle.engine.specs.Engine.{Fed, converter};
 ghost use Rattle.engine.specs.Steps.{doesAlone, summary, Took, Ends, DecodeSizes, optional, oneIf, decodeFed};
 ghost use Rattle.engine_fastpath.specs.Words.{PlainPage};
-ghost use Rattle.engine_loops.specs.Ways.{Way};
+ghost use Rattle.engine_loops.specs.Ways.{WayFound};
 ghost use Rattle.engine_loops.specs.Turns.{stepsLeft, Ready, Turned, Advanced, Settled, Closed, Loop};
 use crate::turns;
 use crate::turns::Turn;
@@ -394,21 +394,31 @@ fn decode_codes(
     )
 }
 
-// How a call goes on: 1 not at all, its piece was plain and is copied; 2 by singles; else by codes.
-fn way_of(pending: bool, classes: &[u8], singles: &[u16], piece: &[u8], out: &mut [u16]) -> u8
+// How a call goes on.
+pub enum Way {
+    // Not at all: its piece was plain and is copied.
+    Copied,
+    // By single bytes: the page has no others.
+    Singles,
+    // By codes.
+    Codes,
+}
+
+// Finds out how a call goes on, and copies a plain piece.
+fn way_of(pending: bool, classes: &[u8], singles: &[u16], piece: &[u8], out: &mut [u16]) -> Way
     requires { ⌜ (length (now classes) ≡ 256) × (length (now singles) ≡ 256) ⌝ }
-    ensures { λ r. ⌜ Way (now (classes .entry)) (now (singles .entry)) (now (piece .entry)) pending (now (out .entry)) r (now (out .exit)) ⌝ }
+    ensures { λ r. ⌜ WayFound (now (classes .entry)) (now (singles .entry)) (now (piece .entry)) pending (now (out .entry)) r (now (out .exit)) ⌝ }
 {
     if pending {
-        return 0;
+        return Way::Codes;
     }
     if plain::decode_plain(classes, singles, piece, out) {
-        return 1;
+        return Way::Copied;
     }
     if codepage_lookup::profile::only_singles(classes) {
-        return 2;
+        return Way::Singles;
     }
-    0
+    Way::Codes
 }
 
 // Decodes a piece with the byte that is pending, if one is: what a call gives, by the quickest way that its page and piece allow.
@@ -430,27 +440,25 @@ pub fn decode_loop(
     ensures { λ _. ⌜ now (out .exit) ≡ over (now (out .entry)) (decodeFed (now (classes .entry)) (now (singles .entry)) (now (pairs .entry)) policy default last (length (now (out .entry))) (optional pending lead) (now (piece .entry)) .output) ⌝ }
 {
     let way = way_of(pending, classes, singles, piece, out);
-    if way == 1 {
-        return Progress {
+    match way {
+        Way::Copied => Progress {
             answer: 0,
             used: piece.len(),
             written: piece.len(),
             flags: 0,
-        };
+        },
+        Way::Singles => decode_singles(policy, default, classes, singles, pairs, piece, last, out),
+        Way::Codes => decode_codes(
+            policy,
+            default,
+            classes,
+            singles,
+            pairs,
+            pending,
+            lead,
+            piece,
+            last,
+            out,
+        ),
     }
-    if way == 2 {
-        return decode_singles(policy, default, classes, singles, pairs, piece, last, out);
-    }
-    decode_codes(
-        policy,
-        default,
-        classes,
-        singles,
-        pairs,
-        pending,
-        lead,
-        piece,
-        last,
-        out,
-    )
 }

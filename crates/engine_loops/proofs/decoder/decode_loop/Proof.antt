@@ -1,46 +1,69 @@
 use mathlib.Core.Path.{_∙_, refl}
 use Rattle.engine_fastpath.proofs.PlainLaws.{plain-ends}
 use Rattle.engine_loops.proofs.TurnedLaws.{ends-from, ends-none, ends-both}
+use Rattle.engine_loops.proofs.WayLaws.{way-known}
 use borrow.Author.Needs.{needs}
 use Rattle.engine_loops.proofs.decoder.decode_loop.Statement.{statement}
 use Rattle.engine_loops.proofs.decoder.decode_loop.Tie as tie
 
 way-of-requires : tie.Need-way-of-requires
-way-of-requires c κs = (c .before .before .before .before .before .before .pre .0 .all-classes, c .before .before .before .before .before .before .pre .0 .all-singles)
+way-of-requires c κs = search needs
 
-same-length : tie.Need-same-length
-same-length c = c .before .before .before .way-of .ensures .same
+enum-told : tie.Need-enum-told
+enum-told c = search needs
 
-returns : tie.Need-returns
-returns c =
-    let plain = c .before .before .before .way-of .ensures .plain (c .if1 .taken) in
-    ends-both (ends-none _ _ _ _ _ _ (plain .0) (plain-ends _ _ _ _ (plain .1 _) refl))
+enum-told-2 : tie.Need-enum-told-2
+enum-told-2 c = search needs
 
 decode-singles-requires : tie.Need-decode-singles-requires
 decode-singles-requires c κs =
     let start = c .before .before .before .before .before .before .before .before .before .before .before .before in
-    let way-of = c .before .before .before .before .before .way-of in
-    ((start .pre .0 .all-classes, start .pre .0 .all-singles), way-of .ensures .single (c .before .if2 .taken) .1)
+    let known = way-known (c .before .before .before .before .before .way-of .ensures) (c .before .enum-told2 .given .1) in
+    ((start .pre .0 .all-classes, start .pre .0 .all-singles), known .1)
+
+enum-told-3 : tie.Need-enum-told-3
+enum-told-3 c = search needs
+
+decode-codes-requires : tie.Need-decode-codes-requires
+decode-codes-requires c κs = search needs
+
+same-length : tie.Need-same-length
+same-length c = search needs
+
+returns : tie.Need-returns
+returns c =
+    let known = way-known (c .before .before .before .before .way-of .ensures) (c .enum-told .given .1) in
+    ends-both (ends-none _ _ _ _ _ _ (known .0) (plain-ends _ _ _ _ (known .1 _) refl))
 
 same-length-2 : tie.Need-same-length-2
-same-length-2 c = c .before .before .decode-singles .ensures .same ∙ c .before .before .before .before .before .before .before .before .way-of .ensures .same
+same-length-2 c = search needs
 
 returns-2 : tie.Need-returns-2
 returns-2 c =
-    let way-of = c .before .before .before .before .before .before .before .before .way-of in
-    let if1 = c .before .before .before .before .before .if1 in
-    let if2 = c .before .before .before .before .if2 in
-    let decode-singles = c .before .before .decode-singles in
-    ends-both (ends-none _ _ _ _ _ _ (way-of .ensures .single (if2 .taken) .0) (ends-from _ _ _ _ (way-of .ensures .left (if1 .left)) (decode-singles .ensures)))
-
-decode-codes-requires : tie.Need-decode-codes-requires
-decode-codes-requires c κs = c .before .before .before .before .before .before .before .before .before .before .before .before .pre
+    let known = way-known (c .before .before .before .before .before .before .before .before .way-of .ensures) (c .before .before .before .before .enum-told2 .given .1) in
+    ends-both (ends-none _ _ _ _ _ _ (known .0) (ends-from _ _ _ _ (known .2) (c .before .before .decode-singles .ensures)))
 
 same-length-3 : tie.Need-same-length-3
-same-length-3 c = c .before .before .decode-codes .ensures .same ∙ c .before .before .before .before .before .before .before .before .way-of .ensures .same
+same-length-3 c = search needs
 
 returns-3 : tie.Need-returns-3
-returns-3 c = ends-both (ends-from _ _ _ _ (c .before .before .before .before .before .before .before .before .way-of .ensures .left (c .before .before .before .before .before .if1 .left)) (c .before .before .decode-codes .ensures))
+returns-3 c =
+    let known = way-known (c .before .before .before .before .before .before .before .before .way-of .ensures) (c .before .before .before .before .enum-told3 .given .1) in
+    ends-both (ends-from _ _ _ _ known (c .before .before .decode-codes .ensures))
 
 pub decode-loop-spec : {M : Type 1} → statement M
-decode-loop-spec = tie.close (tie.spec way-of-requires same-length returns decode-singles-requires same-length-2 returns-2 decode-codes-requires same-length-3 returns-3)
+decode-loop-spec =
+    tie.close
+    (tie.spec
+    way-of-requires
+    enum-told
+    enum-told-2
+    decode-singles-requires
+    enum-told-3
+    decode-codes-requires
+    same-length
+    returns
+    same-length-2
+    returns-2
+    same-length-3
+    returns-3)

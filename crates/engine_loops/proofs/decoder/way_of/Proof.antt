@@ -11,7 +11,7 @@ use Rattle.engine_fastpath.proofs.plain.decode_plain.Reads as decode-plain-read
 
 -- src/decoder.rt:147:9
 returns : tie.Need-returns
-returns c = record { plain = λ e. absurd (omega (arith, e)); single = λ e. absurd (omega (arith, e)); left = λ n. refl; same = refl }
+returns c = record { known = refl; same = refl }
 
 -- src/decoder.rt:149:8
 decode-plain-requires : tie.Need-decode-plain-requires
@@ -27,13 +27,7 @@ returns-2 c =
     let start = c .before .before .before .before .before .before .before .before .before .before in
     let if1 = c .before .before .before .before .before .if1 in
     let decode-plain = c .before .before .before .decode-plain in
-    record {
-      plain = λ e. (if1 .left, λ pairs. plain-sure (decode-plain .ensures pairs) (c .if2 .taken));
-      single = λ e. absurd (omega (arith, e));
-      left = λ n. absurd
-          (n refl);
-      same = decode-plain .ensures (start .args .singles .now) .same;
-    }
+    record { known = (if1 .left, λ pairs. plain-sure (decode-plain .ensures pairs) (c .if2 .taken)); same = decode-plain .ensures (start .args .singles .now) .same }
 
 -- src/decoder.rt:152:8
 only-singles-requires : tie.Need-only-singles-requires
@@ -50,13 +44,8 @@ returns-3 c =
     let if1 = c .before .before .before .before .before .before .before .if1 in
     let decode-plain = c .before .before .before .before .before .decode-plain in
     let if2 = c .before .before .if2 in
-    record {
-      plain = λ e. absurd (omega (arith, e));
-      single = λ e. (if1 .left, c .before .only-singles .ensures (c .if3 .taken));
-      left = λ n. decode-plain .ensures
-          (start .args .singles .now) .left (if2 .left);
-      same = decode-plain .ensures (start .args .singles .now) .same;
-    }
+    let plain = decode-plain .ensures (start .args .singles .now) in
+    record { known = (if1 .left, c .before .only-singles .ensures (c .if3 .taken), plain .left (if2 .left)); same = plain .same }
 
 -- src/decoder.rt:142:1
 same-length-3 : tie.Need-same-length-3
@@ -68,13 +57,8 @@ returns-4 c =
     let start = c .before .before .before .before .before .before .before .before .before .before .before .before in
     let decode-plain = c .before .before .before .before .before .decode-plain in
     let if2 = c .before .before .if2 in
-    record {
-      plain = λ e. absurd (omega (arith, e));
-      single = λ e. absurd (omega (arith, e));
-      left = λ n. decode-plain .ensures (start .args .singles .now) .left
-          (if2 .left);
-      same = decode-plain .ensures (start .args .singles .now) .same;
-    }
+    let plain = decode-plain .ensures (start .args .singles .now) in
+    record { known = plain .left (if2 .left); same = plain .same }
 
 pub way-of-spec : {M : Type 1} → statement M
 way-of-spec =
