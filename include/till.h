@@ -1,13 +1,13 @@
-/* The C interface of the till converter (crates capi and capi_text). Link the archive that `rt staticlib capi` writes, and for the
- * calls on a whole text that of `rt staticlib capi_text`.
+/* The C interface of the till converter (crates capi, capi_text and capi_lines). Link the archive that `rt staticlib capi` writes, for the
+ * calls on a whole text that of `rt staticlib capi_text`, and for breaks of lines that of `rt staticlib capi_lines`.
  *
  * Every call ends and answers on any numbers and any contents of its slices; none keeps anything between calls, takes memory or
  * does input or output. A slice is a pointer and a number of elements: the pointer is not NULL (also for 0 elements), aligned,
  * and good for that many elements, and a slice that is written overlaps no other. These are the caller's part; nothing checks them.
  *
- * Numbers of answers: 0 all read; 1 all read, a lead byte or a high surrogate is carried; 2 the next code does not fit; 3 stopped
+ * Numbers of answers: 0 all read; 1 all read, a lead byte or a high surrogate is pending; 2 the next code does not fit; 3 stopped
  * by policy digit 0; 10 bad shape; 11 piece over 65,536 units; 12 the run breaks the run rules; 13 run of the other direction or another page;
- * 14 the carried byte is no lead here; 15 the run has ended; 16 read total over 4,294,967,295; 17 start numbers not allowed;
+ * 14 the pending byte is no lead here; 15 the run has ended; 16 read total over 4,294,967,295; 17 start numbers not allowed;
  * 18 not a saved line; 19 the line does not fit the room. 10 and above are refusals. */
 #ifndef TILL_H
 #define TILL_H
@@ -92,6 +92,12 @@ typedef struct {
     uint8_t flags;  /* those of all of the text, also where the room ended */
 } till_text;
 
+/* What a proposal of breaks answers. */
+typedef struct {
+    size_t count;   /* breaks written to the front of the list */
+    uint8_t number; /* 0, or that of the refusal */
+} till_breaks;
+
 /* The parameters of a table set: page, default byte, default unit, and the five tables. */
 #define TILL_TABLES \
     uint16_t page, uint8_t default_byte, uint16_t default_unit, const uint8_t *classes, size_t classes_len, const uint16_t *singles, \
@@ -141,6 +147,14 @@ till_fault till_shape(TILL_TABLES);
  * an earlier block; 1: none is complete, and the block is held. Refusals, with held and the buffer as before: 20 a
  * buffer of under 256 units; 11 a block of over 65,536; 27 a held over 256; 21 the next field has over 256 units. */
 till_field till_next_field(size_t held, uint16_t *buffer, size_t buffer_len, const uint16_t *block, size_t block_len, uint8_t last);
+
+/* Breaks of a byte text of at most 65,536 bytes into lines of at most width bytes, with no code cut. A break is the place, from 0, at
+ * which a line after the first begins; the text's end is not listed. Archive libcapi_lines.a.
+ * Checking: 0 the breaks are acceptable; 10, 11, 30 they are not.
+ * Proposing, each line as long as it can be: 0 and the count of breaks, which stand at the front of out; 10, 11, 31 none exists (a code
+ * is longer than the width), 32 out is too short for them; then out is as it was. */
+uint8_t till_check_breaks(TILL_TABLES, const uint8_t *text, size_t text_len, uint64_t width, const uint64_t *breaks, size_t breaks_len);
+till_breaks till_propose_breaks(TILL_TABLES, const uint8_t *text, size_t text_len, uint64_t width, uint64_t *out, size_t out_len);
 
 #ifdef __cplusplus
 }

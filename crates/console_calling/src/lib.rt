@@ -73,7 +73,7 @@ fn call_run(
     }
 }
 
-// Runs a command on a text in one go, on the tables and texts that are set.
+// Runs a command on a text in one go, or on breaks of the byte text, on the tables and texts that are set.
 fn call_text(
     command: Command,
     line: &[u8],
@@ -109,7 +109,18 @@ fn call_text(
             out,
             at,
         ),
-        _ => Next { state, at },
+        _ => console_breaking::run_breaks(
+            command,
+            line,
+            next,
+            classes,
+            singles,
+            pairs,
+            index,
+            blocks,
+            bytes,
+            out,
+        ),
     }
 }
 

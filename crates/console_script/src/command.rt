@@ -22,10 +22,23 @@ pub enum Command {
     Hold,
     Held,
     Field,
+    Breaks,
+    Propose,
     // A line that is passed over.
     Nothing,
     // A line that is no command.
     Unknown,
+}
+
+// The command that a word names, among those that break the byte text into lines.
+fn named_break(word: &[u8]) -> Command {
+    if words::is_word(word, b"breaks") {
+        return Command::Breaks;
+    }
+    if words::is_word(word, b"propose") {
+        return Command::Propose;
+    }
+    Command::Unknown
 }
 
 // The command that a word names, among those that cut the unit text into fields.
@@ -39,7 +52,7 @@ fn named_field(word: &[u8]) -> Command {
     if words::is_word(word, b"field") {
         return Command::Field;
     }
-    Command::Unknown
+    named_break(word)
 }
 
 // The command that a word names, among those that call the library.

@@ -54,19 +54,14 @@ fn convert_files(direction: Direction) -> Ending {
         last: chosen.last || !saves,
         saves,
         counts: false,
+        width: 0,
     };
     files::with_table(job, first)
 }
 
-// The receipt that the printer would get. It gets through, under 555 by name, and counts what it replaces (CR 4).
-fn preview_receipt() -> Ending {
-    let chosen = options::chosen();
-    if chosen.asked || chosen.last {
-        return misused(
-            b"preview has no words before the names: it encodes the whole ledger, under policy 555",
-        );
-    }
-    let first = chosen.next;
+// The receipt that the printer would get, its lines broken to a width unless that is 0 (CR 12). It gets through, under 555 by name, and
+// counts what it replaces (CR 4).
+fn preview_from(first: usize, width: u64) -> Ending {
     if options::names_from(first) != 3 {
         return misused(b"three names of files are asked for");
     }
@@ -77,8 +72,27 @@ fn preview_receipt() -> Ending {
         last: true,
         saves: false,
         counts: true,
+        width,
     };
     files::with_table(job, first)
+}
+
+// The words of a preview.
+fn preview_receipt() -> Ending {
+    if options::is_word(2, b"width") {
+        let width = options::width_at(3);
+        if width == 0 {
+            return misused(b"a width is a number of 1 to 65,536");
+        }
+        return preview_from(4, width);
+    }
+    let chosen = options::chosen();
+    if chosen.asked || chosen.last {
+        return misused(
+            b"preview takes no policy and no last: it encodes the whole ledger, under policy 555",
+        );
+    }
+    preview_from(chosen.next, 0)
 }
 
 // The policy of an import: the one that was asked for, or 555 by name, so that it gets through a damaged night (CR 4).

@@ -86,6 +86,46 @@ fn policy_at(at: usize) -> Parsed {
     digits_of(word[0], word[1], word[2])
 }
 
+// A number of 1 to 65,536 that some digits spell, with no spare zero, or 0.
+fn width_of(digits: &[u8]) -> u64 {
+    let mut value: u64 = 0;
+    let mut i = 0;
+    while i < digits.len() {
+        let digit = digit_value(digits[i]) as u64;
+        if digit == 10 {
+            return 0;
+        }
+        value = next_value(value, digit);
+        if value == 0 {
+            return 0;
+        }
+        i += 1;
+    }
+    value
+}
+
+// A number with one digit more, or 0 where it is over the greatest width.
+fn next_value(value: u64, digit: u64) -> u64 {
+    if 65536 < value {
+        return 0;
+    }
+    if 9 < digit {
+        return 0;
+    }
+    let sum = 10 * value + digit;
+    if 65536 < sum {
+        return 0;
+    }
+    sum
+}
+
+// The width that an argument spells, or 0.
+pub fn width_at(at: usize) -> u64 {
+    let mut word = [0u8; 6];
+    let count = os::arg(at, &mut word);
+    width_of(&word[..count])
+}
+
 // Takes the word `last`, if it is next.
 fn with_last(options: Options) -> Options {
     let next = options.next;

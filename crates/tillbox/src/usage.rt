@@ -23,7 +23,7 @@ fn put_commands(fd: i32) {
         b"  tillbox encode [last] [policy DDD] TABLE LEDGER RECEIPT [CHECKPOINT]\n",
     );
     io::write_all(fd, b"  tillbox import [policy DDD] TABLE JOURNAL RECORDS\n");
-    io::write_all(fd, b"  tillbox preview TABLE LEDGER RECEIPT\n");
+    io::write_all(fd, b"  tillbox preview [width N] TABLE LEDGER RECEIPT\n");
     io::write_all(fd, b"  tillbox shape TABLE\n");
     io::write_all(fd, b"  tillbox help\n\n");
 }
@@ -75,7 +75,11 @@ fn put_preview(fd: i32) {
         fd,
         b"preview encodes the whole LEDGER under 555 into the bytes that the printer would get, and says how many\n",
     );
-    io::write_all(fd, b"characters were replaced.\n\n");
+    io::write_all(
+        fd,
+        b"characters were replaced. With width N its lines are broken to printed lines of at most N bytes, no character is\n",
+    );
+    io::write_all(fd, b"cut, and each is closed by a line feed.\n\n");
 }
 
 // What a checkpoint is for, and the word `last`.

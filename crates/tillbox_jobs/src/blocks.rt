@@ -8,8 +8,8 @@ use crate::stops::Stop;
 use codepage::Numbers;
 use convert::Direction;
 use convert::Outcome;
-use convert::Policy;
 use convert::Run;
+use tillbox_printing::replaced::replaced_in;
 use tillbox_storage::checkpoints;
 use tillbox_storage::files;
 use tillbox_storage::messages;
@@ -114,55 +114,6 @@ fn stop_of_encoding(
         block,
         outcome.read,
     )
-}
-
-// A run that goes on with every code without a character skipped.
-fn skipping(run: Run) -> Run {
-    let direction = run.direction;
-    let pending = run.pending;
-    Run {
-        direction,
-        page: run.page,
-        policy: Policy::skipping(),
-        pending,
-        flags: run.flags,
-        read: run.read,
-        written: run.written,
-        ended: run.ended,
-    }
-}
-
-// How many characters of a block are replaced under 555: a byte for each is written more than where they are skipped
-// (`replaced-are-more`).
-fn replaced_in(
-    before: Run,
-    numbers: Numbers,
-    classes: &[u8],
-    singles: &[u16],
-    pairs: &[u16],
-    index: &[u8],
-    blocks: &[u16],
-    block: &[u16],
-    last: bool,
-    written: usize,
-) -> u64 {
-    let mut bytes = [0u8; 2048];
-    let outcome = convert::encode(
-        skipping(before),
-        numbers,
-        classes,
-        singles,
-        pairs,
-        index,
-        blocks,
-        block,
-        last,
-        &mut bytes,
-    );
-    if written < outcome.written {
-        return 0;
-    }
-    (written - outcome.written) as u64
 }
 
 // Decodes a block of `size` bytes.

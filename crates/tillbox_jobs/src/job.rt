@@ -15,6 +15,7 @@ use convert::Policy;
 use convert::Run;
 use image::Loaded;
 use libc::STDOUT_FILENO;
+use tillbox_printing::Page;
 use tillbox_storage::checkpoints;
 use tillbox_storage::files;
 use tillbox_storage::messages;
@@ -31,6 +32,8 @@ pub struct Job {
     pub saves: bool,
     // Whether the characters that are replaced are counted: an encoding under 555 alone.
     pub counts: bool,
+    // The width of the printed lines that the lines of a ledger are broken into; 0 where they are not.
+    pub width: u64,
 }
 
 // How a job ended.
@@ -120,6 +123,15 @@ fn finished(job: Job, turn: Turn, target: i32, output: &[u8], checkpoint: &[u8])
     told(run, stop, checkpoint)
 }
 
+// The end of a preview whose lines were broken.
+fn printed(page: Page) -> Ending {
+    if page.failed {
+        return Ending::Failed;
+    }
+    report::printed(page);
+    Ending::Done
+}
+
 // Whether the units that a run reads have two bytes; those that it writes have the other size.
 fn reads_wide(direction: Direction) -> bool {
     match direction {
@@ -168,6 +180,25 @@ fn with_run(
     let target = open_target(run, beginning.resumed, output);
     if target < 0 {
         return Ending::Failed;
+    }
+    if job.width != 0 {
+        let page = tillbox_printing::print_ledger(
+            run,
+            numbers,
+            classes,
+            singles,
+            pairs,
+            index,
+            blocks,
+            job.width,
+            source,
+            target,
+            total,
+            input,
+            output,
+        );
+        libc::close(target);
+        return printed(page);
     }
     if job.saves {
         files::sync_folder(output);

@@ -6,6 +6,7 @@ use convert::Direction;
 use convert::Pending;
 use convert::Policy;
 use convert::Run;
+use tillbox_printing::Page;
 use tillbox_storage::messages::say;
 use tillbox_storage::messages::say_hex;
 use tillbox_storage::messages::say_number;
@@ -41,12 +42,17 @@ pub fn progress(run: Run, total: u64) {
 // What a run has read and written.
 fn say_totals(run: Run) {
     let direction = run.direction;
+    say_sums(direction, run.read, run.written);
+}
+
+// How many units of input were read, and of output written.
+fn say_sums(direction: Direction, read: u64, written: u64) {
     say(b"tillbox: read ");
-    say_number(run.read);
+    say_number(read);
     say(b" ");
     say_input_unit(direction);
     say(b"s, written ");
-    say_number(run.written);
+    say_number(written);
     say(b" ");
     say_output_unit(direction);
     say(b"s\n");
@@ -196,11 +202,30 @@ pub fn summary(run: Run, stop: Stop, checkpoint: &[u8]) {
     }
 }
 
-// The summary of a receipt's preview.
-pub fn preview(run: Run, replaced: u64) {
-    say_totals(run);
+// The summary of a receipt whose lines were broken.
+pub fn printed(page: Page) {
+    let run = page.run;
+    let direction = run.direction;
+    say_sums(direction, run.read, page.written);
+    say(b"tillbox: printed lines: ");
+    say_number(page.printed);
+    say(b"\ntillbox: lines not broken: ");
+    say_number(page.unbroken);
+    say(b"\n");
+    say_replaced(page.replaced);
+    say_flags(run.flags);
+}
+
+// How many characters were replaced.
+fn say_replaced(replaced: u64) {
     say(b"tillbox: characters replaced: ");
     say_number(replaced);
     say(b"\n");
+}
+
+// The summary of a receipt's preview.
+pub fn preview(run: Run, replaced: u64) {
+    say_totals(run);
+    say_replaced(replaced);
     say_flags(run.flags);
 }

@@ -46,6 +46,14 @@ pub fn front_units(count: usize, units: &[u16]) -> usize
     least(count, units.len())
 }
 
+// The same of a list of places.
+pub fn front_places(count: usize, places: &[u64]) -> usize
+    ensures { λ r. ⌜ Front r (now (places .entry)) ⌝ }
+    ensures { λ r. do ⌜ r ≡ min count (← ⟦places.len()⟧ .entry) ⌝ }
+{
+    least(count, places.len())
+}
+
 // A size that the system told.
 pub fn size_of(size: i64) -> u64
     ensures { λ r. ⌜ r ≡ fileSize size ⌝ }

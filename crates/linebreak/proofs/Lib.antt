@@ -1,0 +1,10 @@
+pub mod PlaceLaws
+pub mod RunLaws
+pub mod LineLaws
+pub mod OursLaws
+pub mod LoopLaws
+pub mod CallLaws
+pub mod Theorems
+pub mod AnswerLaws
+pub mod Rows
+pub mod Witnesses
