@@ -439,6 +439,10 @@ def initial_script():
     script.expect("convert D 755 0 0 0", "convert 17 kept")
     script.expect("convert E 555 0 0 5", "convert 10 kept")
     script.expect("standard", "standard 5 5 0")
+    script.expect("breaks 0 0 0", "breaks 10")
+    script.expect("breaks 1 0 1", "?")
+    script.expect("propose 0 0 0 0", "propose 10 kept")
+    script.expect("propose 1 0 1 5", "?")
     script.note("no field buffer, and nothing held")
     script.expect("field 0 0 more", "field 20 0 -")
     script.expect("field 0 0 last", "field 20 0 -")
@@ -452,6 +456,8 @@ def initial_script():
     script.sample()
     script.expect("encode 0 0 more 0", "encode 13 0 0 - kept E 5 1 2 3 - 0 0 0 on")
     script.expect("convert D 555 0 0 0", "convert 0 0 0 0 0 - kept")
+    script.expect("breaks 0 0 0", "breaks 0")
+    script.expect("propose 0 0 0 0", "propose 0 0 kept")
     return script
 
 
@@ -606,6 +612,10 @@ def grammar_script():
         "count", "count D 555 0 0", "count D 555 0 1", "count E 555 0 2", "count D 555 0 1 1",
         # standard
         "standard 550", "standard 5 5 0", "standard x", "standard ", " standard", "Standard", "standards",
+        # breaks and propose
+        "breaks", "breaks 1 0", "breaks 1 0 3", "breaks 1 3 0", "breaks 01 0 2", "breaks 1 0 2 01", "breaks 1 0 2 -",
+        "breaks 18446744073709551616 0 2", "breaks 1 0 2 18446744073709551616", "propose", "propose 1 0 2", "propose 1 0 3 5",
+        "propose 1 0 2 301", "propose 1 0 2 5 5", "propose 01 0 2 5", "propose 18446744073709551616 0 2 5",
         # nothing else is a command
         "quit", "help", "decodes 0 1 last 5", "tables sample.tbl", "policy 555", "shape\tgood",
     )

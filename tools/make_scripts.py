@@ -6,9 +6,9 @@
     make_scripts.py --seed N --lists M --out FOLDER       writes M further lists of each random kind, from seed N, into FOLDER
 
 NAME.out has the answers of second_converter.py. In the fixed scripts (fixed_scripts.py, bad_half_scripts.py,
-surrogate_scripts.py, one_call_scripts.py, standard_scripts.py, field_scripts.py) an expected answer is written by hand, from the
-documents and the readings of them, for every command, and making the scripts fails where second_converter.py answers otherwise. The
-random scripts (random_scripts.py) are the same for the same seed. join_scripts.py joins all scripts for the console.
+surrogate_scripts.py, one_call_scripts.py, standard_scripts.py, field_scripts.py, break_scripts.py) an expected answer is written by
+hand, from the documents and the readings of them, for every command, and making the scripts fails where second_converter.py answers
+otherwise. The random scripts (random_scripts.py) are the same for the same seed. join_scripts.py joins all scripts for the console.
 """
 
 import argparse
@@ -17,6 +17,7 @@ import sys
 import tempfile
 
 import bad_half_scripts
+import break_scripts
 import field_scripts
 import fixed_scripts
 import one_call_scripts
@@ -59,6 +60,7 @@ def scripts_by_hand():
         "standard": standard_scripts.standard_script(),
         "fields": field_scripts.fields_script(),
         "field_cuttings": field_scripts.cuttings_script(),
+        "breaks": break_scripts.breaks_script(),
     }
 
 

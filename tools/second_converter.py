@@ -585,6 +585,87 @@ def field_call(held, hold, block, last):
 
 
 # ---------------------------------------------------------------------------------------------------------------
+# Receipt lines (document 02, CR 12)
+# ---------------------------------------------------------------------------------------------------------------
+
+
+def code_ends(table, text):
+    """Where the codes of a whole text end, in rising order; no policy is asked."""
+    ends = []
+    place = 0
+    while place < len(text):
+        second = text[place + 1] if place + 1 < len(text) else None
+        place += read_code(table, text[place], second).size
+        ends.append(place)
+    return ends
+
+
+def is_acceptable(table, text, width, breaks):
+    """A proposal is accepted "exactly if the breaks rise strictly, each line has 1 to width bytes, and no code is cut"."""
+    # "An empty text takes the empty proposal."
+    if len(text) == 0:
+        return len(breaks) == 0
+    if any(first >= second for first, second in zip(breaks, breaks[1:])):
+        return False
+    # "Breaks are inner places; the text's end is not listed."
+    if any(place <= 0 or place >= len(text) for place in breaks):
+        return False
+    starts, ends = [0, *breaks], [*breaks, len(text)]
+    if any(not 1 <= end - start <= width for start, end in zip(starts, ends)):
+        return False
+    uncut = set(code_ends(table, text))
+    return all(place in uncut for place in breaks)
+
+
+def own_breaks(table, text, width):
+    """ "acceptable ones, each line from the first on as long as it can be"; None if no acceptable breaks exist: a code is longer
+    than a line."""
+    breaks = []
+    line_start = code_start = 0
+    for end in code_ends(table, text):
+        if end - code_start > width:
+            return None
+        if end - line_start > width:
+            breaks.append(code_start)
+            line_start = code_start
+        code_start = end
+    return breaks
+
+
+def break_refusal(table, text):
+    """ "Refusals, after 10 and 11" """
+    if not shape_is_good(table):
+        return 10
+    if len(text) > PIECE_LIMIT:
+        return 11
+    return None
+
+
+def breaks_call(table, text, width, breaks):
+    """Checks a proposal: 0, or a refusal, of which "30 proposal not acceptable" is the last."""
+    refusal = break_refusal(table, text)
+    if refusal is not None:
+        return refusal
+    return 0 if is_acceptable(table, text, width, breaks) else 30
+
+
+def propose_call(table, text, width, out):
+    """Writes our breaks to the front of out and answers their number as ('breaks', n), or refuses: "31 none exists; 32 the lent
+    break list is too short for ours, untouched"."""
+    refusal = break_refusal(table, text)
+    if refusal is not None:
+        return refusal
+    breaks = own_breaks(table, text, width)
+    if breaks is None:
+        return 31
+    if len(breaks) > len(out):
+        return 32
+    for number, place in enumerate(breaks):
+        out[number] = place
+    return ("breaks", len(breaks))
+
+
+# ---------------------------------------------------------------------------------------------------------------
 # The console: the command language of docs/CONSOLE.md, and the decisions of docs/CONSOLE-NOTES.md
 # ---------------------------------------------------------------------------------------------------------------
 
@@ -594,6 +675,8 @@ UNITS_ROOM_LIMIT = 66000
 BYTES_ROOM_LIMIT = 140000
 FILE_NAME_LIMIT = 4000
 HOLD_LIMIT = 300
+BREAKS_LIMIT = 300
+NUMBER_LIMIT = 2**64 - 1
 
 BYTE_FILL = 0xEE
 UNIT_FILL = 0xEEEE
@@ -715,7 +798,7 @@ class Console:
         self.run = Run(DECODING, 0, (0, 0, 0), None, 0, 0, 0, False)
         self.hold = []
         self.held = 0
-        # each command with the number of words after its name
+        # each command with the number of words after its name, or the numbers that it may have
         self.commands = {
             b"table": (1, self.do_table),
             b"shape": (0, self.do_shape),
@@ -734,6 +817,8 @@ class Console:
             b"held": (1, self.do_held),
             b"field": (3, self.do_field),
             b"standard": (0, self.do_standard),
+            b"breaks": (range(3, 3 + BREAKS_LIMIT + 1), self.do_breaks),
+            b"propose": (4, self.do_propose),
         }
 
     def answer(self, line):
@@ -747,7 +832,7 @@ class Console:
             if words[0] not in self.commands or b"" in words:
                 raise NotACommand
             count, command = self.commands[words[0]]
-            if len(words) != 1 + count:
+            if len(words) - 1 not in (count if isinstance(count, range) else (count,)):
                 raise NotACommand
             return command(*words[1:])
         except NotACommand:
@@ -808,8 +893,8 @@ class Console:
             (number_word(single, 255), number_word(pair, 255), number_word(invalid, 255)),
             carried_word(direction, carried),
             number_word(flags, 255),
-            number_word(read, 2**64 - 1),
-            number_word(written, 2**64 - 1),
+            number_word(read, NUMBER_LIMIT),
+            number_word(written, NUMBER_LIMIT),
             choice_word(word, {b"on": False, b"over": True}),
         )
         return f"run {run_text(self.run)}"
@@ -879,7 +964,7 @@ class Console:
         return f"hold {len(self.hold)}"
 
     def do_held(self, count):
-        self.held = number_word(count, 2**64 - 1)
+        self.held = number_word(count, NUMBER_LIMIT)
         return f"held {self.held}"
 
     def do_field(self, start, count, mark):
@@ -900,6 +985,23 @@ class Console:
     def do_standard(self):
         """CR 4: "the digits of the standard policy". """
         return "standard " + " ".join(str(digit) for digit in STANDARD)
+
+    def do_breaks(self, width, start, count, *breaks):
+        width = number_word(width, NUMBER_LIMIT)
+        text = self.part_of(self.byte_text, start, count)
+        breaks = [number_word(place, NUMBER_LIMIT) for place in breaks]
+        return f"breaks {breaks_call(self.table, text, width, breaks)}"
+
+    def do_propose(self, width, start, count, size):
+        width = number_word(width, NUMBER_LIMIT)
+        text = self.part_of(self.byte_text, start, count)
+        out = [UNIT_FILL] * number_word(size, BREAKS_LIMIT)
+        proposed = propose_call(self.table, text, width, out)
+        if proposed in (10, 11, 31, 32):
+            return f"propose {proposed} {kept_text(out, 0, UNIT_FILL)}"
+        total = proposed[1]
+        words = [total, *out[:total], kept_text(out, total, UNIT_FILL)]
+        return "propose 0 " + " ".join(str(word) for word in words)
 
 
 def script_lines(script):

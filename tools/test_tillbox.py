@@ -136,7 +136,7 @@ def test_help_goes_to_standard_output():
         "tillbox decode [last] [policy DDD] TABLE JOURNAL LEDGER [CHECKPOINT]\n",
         "tillbox encode [last] [policy DDD] TABLE LEDGER RECEIPT [CHECKPOINT]\n",
         "tillbox import [policy DDD] TABLE JOURNAL RECORDS\n",
-        "  tillbox preview TABLE LEDGER RECEIPT\n",
+        "  tillbox preview [width N] TABLE LEDGER RECEIPT\n",
         "tillbox shape TABLE\n",
         # the standard, and what gets through
         "550",
@@ -147,7 +147,16 @@ def test_help_goes_to_standard_output():
             raise AssertionError(f"help without {part!r}")
 
 
-NO_WORDS = "preview has no words before the names: it encodes the whole ledger, under policy 555"
+NO_WORDS = "preview takes no policy and no last: it encodes the whole ledger, under policy 555"
+NO_WIDTH = "a width is a number of 1 to 65,536"
+
+
+def misused(words, text):
+    """A call that fails for its words says what is wrong with them, and how to call."""
+    said = tillbox(*words, word="failed")
+    equal(said.split("\n")[0], f"tillbox: error: {text}", f"first line of {words}")
+    if "  tillbox preview [width N] TABLE LEDGER RECEIPT\n" not in said:
+        raise AssertionError(f"{words} does not say how to call")
 
 
 def test_misuse_says_how_to_call():
@@ -173,10 +182,20 @@ def test_misuse_says_how_to_call():
         (["preview", "last", "policy", "555", "a.tbl", "ledger", "receipt"], NO_WORDS),
         (["preview", "policy", "555", "last", "a.tbl", "ledger", "receipt"], NO_WORDS),
     ]:
-        said = tillbox(*words, word="failed")
-        equal(said.split("\n")[0], f"tillbox: error: {text}", f"first line of {words}")
-        if "  tillbox preview TABLE LEDGER RECEIPT\n" not in said:
-            raise AssertionError(f"{words} does not say how to call")
+        misused(words, text)
+
+
+def test_misuse_of_width():
+    for words, text in [
+        (["preview", "width", "5", "a.tbl", "ledger"], "three names of files are asked for"),
+        (["preview", "width", "5", "a.tbl", "ledger", "receipt", "checkpoint"], "three names of files are asked for"),
+        (["preview", "width", "a.tbl", "ledger", "receipt"], NO_WIDTH),
+        *((["preview", "width", width, "a.tbl", "ledger", "receipt"], NO_WIDTH) for width in (
+            "0", "65537", "01", "00", "065536", "+1", "-1", "1x", "x1", "", " 1", "1 ", "1.0", "0x5", "65,536", "655360", "99999",
+            "4294967297", "18446744073709551617", "9" * 40, "\uff15",
+        )),
+    ]:
+        misused(words, text)
 
 
 def test_empty_name():
@@ -1335,6 +1354,242 @@ def test_preview_that_can_not_write():
     write("ledger", units_text(*[0x61] * 30000))
     says = ["error: cannot write receipt: File too large"]
     tillbox("preview", "cp932.tbl", "ledger", "receipt", word="failed", says=says, limit=20000)
+
+
+# ---------------------------------------------------------------------------------------------------------------
+# Preview with a width
+# ---------------------------------------------------------------------------------------------------------------
+
+TOO_MANY_BYTES = "it has over 65,536 bytes"
+TOO_MANY_LINES = "it would be over 8,193 printed lines"
+
+
+def too_wide(width):
+    return f"it has a code of over {width} bytes"
+
+
+def broken(read_total, written, lines, replaced=0, flags="none", whole=()):
+    """What a preview with a width says; whole has the lines that are not broken, each as its number, from 1, and why."""
+    totals, *rest = previewed(read_total, written, replaced, flags)
+    told = [f"line {number} is not broken: {why}" for number, why in whole]
+    return [*told, totals, f"printed lines: {lines}", f"lines not broken: {len(whole)}", *rest]
+
+
+def preview_lines(width, table, text, lines, replaced=0, flags="none", whole=()):
+    """Previews a text of units or letters at a width; `lines` has the printed lines by hand, each without the line feed that
+    closes it."""
+    units = units_text(*text) if isinstance(text, tuple) else text.encode("utf-16le")
+    receipt = b"".join(line + b"\n" for line in lines)
+    write("ledger", units)
+    # an older receipt is made anew
+    write("receipt", b"an older and longer receipt" * 3)
+    says = broken(len(units) // 2, len(receipt), len(lines), replaced, flags, whole)
+    tillbox("preview", "width", str(width), table, "ledger", "receipt", says=says)
+    equal(read("receipt"), receipt, f"the receipt of {text[:20]!r} at width {width}")
+
+
+WIDE = b"\x81\x40"  # 3000 on the sample page
+
+
+def test_preview_breaks_lines():
+    # one byte and two bytes a character, at every width from 1 to what needs no break
+    text = "A\u3000B\u3000\n"
+    preview_lines(1, "sample.tbl", text, [b"A" + WIDE + b"B" + WIDE], whole=[(1, too_wide(1))])
+    preview_lines(2, "sample.tbl", text, [b"A", WIDE, b"B", WIDE])
+    preview_lines(3, "sample.tbl", text, [b"A" + WIDE, b"B" + WIDE])
+    preview_lines(4, "sample.tbl", text, [b"A" + WIDE + b"B", WIDE])
+    preview_lines(5, "sample.tbl", text, [b"A" + WIDE + b"B", WIDE])
+    for width in (6, 7, 65536):
+        preview_lines(width, "sample.tbl", text, [b"A" + WIDE + b"B" + WIDE])
+    text = "\u3000\u3000\u3000A\nBC\u3000\n"
+    preview_lines(2, "sample.tbl", text, [WIDE, WIDE, WIDE, b"A", b"BC", WIDE])
+    preview_lines(3, "sample.tbl", text, [WIDE, WIDE, WIDE + b"A", b"BC", WIDE])
+    preview_lines(4, "sample.tbl", text, [WIDE + WIDE, WIDE + b"A", b"BC" + WIDE])
+    preview_lines(5, "sample.tbl", text, [WIDE + WIDE, WIDE + b"A", b"BC" + WIDE])
+    # by Python's codec
+    text = "日本 \U0001f600\n"
+    preview_lines(4, "cp932.tbl", text, ["日本".encode("cp932"), b" ?"], replaced=1, flags="undefined single")
+    preview_lines(5, "cp932.tbl", text, ["日本 ".encode("cp932"), b"?"], replaced=1, flags="undefined single")
+    preview_lines(3, "cp1252.tbl", "Caf\u00e9 12\n", [b"Caf", b"\xe9 1", b"2"])
+
+
+def test_preview_closes_every_line():
+    for text, lines in (
+        ("", []),
+        ("\n", [b""]),
+        ("\n\n", [b"", b""]),
+        ("A", [b"A"]),
+        ("A\n", [b"A"]),
+        ("AB", [b"A", b"B"]),
+        ("AB\n", [b"A", b"B"]),
+        ("A\nB", [b"A", b"B"]),
+        ("A\n\nB\n", [b"A", b"", b"B"]),
+        ("\nA", [b"", b"A"]),
+        ("AB\n\n", [b"A", b"B", b""]),
+        ("AB\n\nCD\n\n\nE", [b"A", b"B", b"", b"C", b"D", b"", b"", b"E"]),
+        # a carriage return is a character of its line, and so is a bar
+        ("A\r\nB|", [b"A", b"\r", b"B", b"|"]),
+    ):
+        preview_lines(1, "sample.tbl", text, lines)
+    # a line that fills its width is closed once
+    preview_lines(2, "sample.tbl", "ABCD\nEF\n\nG", [b"AB", b"CD", b"EF", b"", b"G"])
+    preview_lines(4, "sample.tbl", "ABCD\nEF\n\nG", [b"ABCD", b"EF", b"", b"G"])
+
+
+def test_preview_of_surrogates_at_line_ends():
+    feed = 0x0A
+    for text, width, lines, replaced, flags in (
+        ((0x41, 0xD83D, 0xDE00, feed, 0x42), 1, [b"A", b"?", b"B"], 1, "undefined single"),
+        ((0x41, 0xD83D, 0xDE00, feed, 0x42), 2, [b"A?", b"B"], 1, "undefined single"),
+        ((0x41, 0xD83D, feed, 0x42), 1, [b"A", b"?", b"B"], 1, "invalid"),
+        ((0x41, 0xD83D, feed, 0x42), 2, [b"A?", b"B"], 1, "invalid"),
+        ((0x41, 0xDE00, feed, 0x42, feed), 2, [b"A?", b"B"], 1, "invalid"),
+        ((0xD83D, feed, 0xDE00), 1, [b"?", b"?"], 2, "invalid"),
+        ((0xD83D, feed, feed, 0xDE00, feed), 9, [b"?", b"", b"?"], 2, "invalid"),
+        ((0x41, feed, 0xD83D), 1, [b"A", b"?"], 1, "invalid"),
+        ((0x41, feed, 0xD83D, 0xDE00), 1, [b"A", b"?"], 1, "undefined single"),
+        ((0xD83D, 0xD83D, 0xDE00, feed, 0x1234, feed), 1, [b"?", b"?", b"?"], 3, "undefined single, invalid"),
+    ):
+        preview_lines(width, "sample.tbl", text, lines, replaced, flags)
+
+
+def test_preview_tells_lines_that_are_not_broken():
+    text = "A\n\n\u3000\nAB\nC\u3000\u3000D\nE"
+    lines = [b"A", b"", WIDE, b"A", b"B", b"C" + WIDE + WIDE + b"D", b"E"]
+    preview_lines(1, "sample.tbl", text, lines, whole=[(3, too_wide(1)), (5, too_wide(1))])
+    # the last line, with no line feed behind it; one of many
+    preview_lines(1, "sample.tbl", "A\n\u3000", [b"A", WIDE], whole=[(2, too_wide(1))])
+    preview_lines(1, "sample.tbl", "\n" * 1233 + "\u3000\n" + "AB\n", [b""] * 1233 + [WIDE, b"A", b"B"], whole=[(1234, too_wide(1))])
+    # what is replaced in such a line counts, and is one byte
+    text = "A\U0001f600\u3000\n\u2603\u2603\n"
+    lines = [b"A?" + WIDE, b"?", b"?"]
+    preview_lines(1, "sample.tbl", text, lines, replaced=3, flags="undefined single", whole=[(1, too_wide(1))])
+
+
+def test_preview_of_long_lines():
+    a = b"a" * 65536
+    # 65,536 bytes are broken; one more is not, at any width
+    preview_lines(65536, "sample.tbl", "a" * 65536 + "\nb", [a, b"b"])
+    preview_lines(65535, "sample.tbl", "a" * 65536 + "\nb", [a[1:], b"a", b"b"])
+    preview_lines(65536, "sample.tbl", "\u3000" * 32768 + "\n", [WIDE * 32768])
+    preview_lines(65535, "sample.tbl", "\u3000" * 32768 + "\n", [WIDE * 32767, WIDE])
+    for width in (1, 100, 65536):
+        preview_lines(width, "sample.tbl", "A\n" + "a" * 65537 + "\nb\n", [b"A", a + b"a", b"b"], whole=[(2, TOO_MANY_BYTES)])
+        preview_lines(width, "sample.tbl", "\u3000" * 32769, [WIDE * 32769], whole=[(1, TOO_MANY_BYTES)])
+    preview_lines(50, "sample.tbl", "a" * 200000 + "\nb", [a * 3 + a[:3392], b"b"], whole=[(1, TOO_MANY_BYTES)])
+    # 65,537 units that are fewer bytes: each pair is one
+    preview_lines(65536, "sample.tbl", "a" * 65535 + "\U0001f600", [a[1:] + b"?"], replaced=1, flags="undefined single")
+    # 8,192 breaks are 8,193 printed lines; one more is not broken
+    preview_lines(1, "sample.tbl", "a" * 8193 + "\nb", [b"a"] * 8193 + [b"b"])
+    preview_lines(1, "sample.tbl", "a" * 8194 + "\nbc\n", [a[:8194], b"b", b"c"], whole=[(1, TOO_MANY_LINES)])
+    preview_lines(8, "sample.tbl", "a" * 65536, [b"a" * 8] * 8192)
+    preview_lines(7, "sample.tbl", "a" * 57351, [b"a" * 7] * 8193)
+    preview_lines(7, "sample.tbl", "a" * 57352, [a[:57352]], whole=[(1, TOO_MANY_LINES)])
+    preview_lines(3, "sample.tbl", "\u3000" * 8193 + "\n", [WIDE] * 8193)
+    preview_lines(3, "sample.tbl", "\u3000" * 8194 + "\n", [WIDE * 8194], whole=[(1, TOO_MANY_LINES)])
+    # a code that is too long behind more breaks than are broken, and in a line of too many bytes
+    preview_lines(1, "sample.tbl", "a" * 9000 + "\u3000\nb", [a[:9000] + WIDE, b"b"], whole=[(1, too_wide(1))])
+    preview_lines(1, "sample.tbl", "\u3000" + "a" * 65536, [WIDE + a], whole=[(1, TOO_MANY_BYTES)])
+
+
+def test_preview_of_lines_over_blocks():
+    # lines that end before, at and behind the ends of blocks of 512 units
+    for size in (510, 511, 512, 513, 1023, 1024, 1025, 5000):
+        for end in ("", "\n", "\n\n", "\nbc"):
+            rest = {"": [], "\n": [], "\n\n": [b""], "\nbc": [b"bc"]}[end]
+            lines = [b"a" * 100] * (size // 100) + [b"a" * (size % 100)] * (size % 100 > 0)
+            preview_lines(100, "sample.tbl", "a" * size + end, lines + rest)
+            lines = [WIDE * 50] * (size // 50) + [WIDE * (size % 50)] * (size % 50 > 0)
+            preview_lines(101, "sample.tbl", "\u3000" * size + end, lines + rest)
+            preview_lines(1, "sample.tbl", "\u3000" * size + end, [WIDE * size] + ([b"b", b"c"] if "b" in end else rest),
+                          whole=[(1, too_wide(1))])
+    # a pair that is cut by the end of a block, and a half alone there, in front of a line feed and of a letter
+    for before in (510, 511, 512, 1023):
+        for middle, written, replaced, flags in (
+            ((0xD83D, 0xDE00), b"?", 1, "undefined single"),
+            ((0xD83D,), b"?", 1, "invalid"),
+            ((0xDE00, 0xD83D), b"??", 2, "invalid"),
+        ):
+            front = b"a" * before + written
+            text = (*[0x61] * before, *middle)
+            preview_lines(len(front), "sample.tbl", (*text, 0x0A, 0x62), [front, b"b"], replaced, flags)
+            preview_lines(len(front), "sample.tbl", (*text, 0x62, 0x0A), [front, b"b"], replaced, flags)
+            preview_lines(len(front), "sample.tbl", text, [front], replaced, flags)
+
+
+def test_preview_breaks_lines_of_units():
+    # a line ends at the unit 000A, whatever bytes are written: here the table's default byte is 0A
+    image = bytearray(read("sample.tbl"))
+    image[2] = 0x0A
+    write("feeds.tbl", image)
+    preview_lines(3, "feeds.tbl", "A\u2603BC\nD", [b"A\nB", b"C", b"D"], replaced=1, flags="undefined single")
+    preview_lines(1, "feeds.tbl", "A\u2603\nD", [b"A", b"\n", b"D"], replaced=1, flags="undefined single")
+
+
+def printed_lines(table, units, width):
+    """By the rules in Python: the ledger is split at 000A, each line is encoded by the second converter under 555 and broken by the
+    rule; the printed lines, those that are not broken, how many characters were replaced, and the flags."""
+    text = "".join(map(chr, units))
+    lines, whole, replaced, flags = [], [], 0, 0
+    for number, part in enumerate((text[:-1] if text.endswith("\n") else text).split("\n") if text else [], 1):
+        part = [ord(unit) for unit in part]
+        out = [0] * (2 * len(part))
+        answer = second_converter.convert_call(second_converter.ENCODING, (5, 5, 5), table, part, out)
+        line = bytes(out[: answer.written])
+        replaced += receipt_of(table, part)[1]
+        flags |= answer.flags
+        breaks = second_converter.own_breaks(table, line, width)
+        if breaks is None:
+            whole.append((number, too_wide(width)))
+            breaks = []
+        lines += [line[start:end] for start, end in zip([0] + breaks, breaks + [len(line)])]
+    return lines, whole, replaced, flags
+
+
+def test_preview_of_random_ledgers_with_a_width():
+    rng = random.Random(12)
+    for name in ("cp932.tbl", "cp1252.tbl", "sample.tbl"):
+        table = second_converter.read_image_file(name, ["."])
+        for size in (0, 1, 2, 511, 512, 513, 1025, 5000, 20000):
+            units = random_ledger(rng, size)
+            # fewer line feeds, and then more of them, also behind the halves of pairs
+            few, many = rng.choice((0.0, 0.5, 1.0)), rng.choice((0.0, 0.02, 0.3))
+            units = [0x20 if unit == 0x0A and rng.random() < few else 0x0A if rng.random() < many else unit for unit in units]
+            for width in (1, rng.choice((2, 3)), rng.choice((4, 5, 7, 16)), rng.choice((31, 32, 80, 513, 65536))):
+                lines, whole, replaced, flags = printed_lines(table, units, width)
+                preview_lines(width, name, tuple(units), lines, replaced, flags_text(flags), whole)
+
+
+def test_preview_with_a_width_refused():
+    write("ledger", units_text(0x41))
+    write("receipt", b"kept")
+    missing = "No such file or directory"
+    write("odd", b"A\0B")
+    image = bytearray(read("cp932.tbl"))
+    image[28 + 0xFF] = 3
+    write("class.tbl", image)
+    for words, says in [
+        (["none.tbl", "ledger", "receipt"], [f"error: cannot open none.tbl: {missing}"]),
+        (["cp932.tbl", "none", "receipt"], [f"error: cannot open none: {missing}"]),
+        (["cp932.tbl", "ledger", "none/receipt"], [f"error: cannot make none/receipt: {missing}"]),
+        (["cp932.tbl", "odd", "receipt"], ["error: odd: an odd number of bytes is no text of UTF-16 units"]),
+        (["cp932.tbl", "ledger", "ledger"], ["error: ledger: two of the files have this name"]),
+        (["cp932.tbl", "", "receipt"], ["error: the name of a file is empty or too long"]),
+        (
+            ["class.tbl", "ledger", "receipt"],
+            ["error 10: the shape of the tables is not good (class.tbl)", "  the first bad place: the class at FF is none of 0, 1, 2, 4, 5, 6"],
+        ),
+    ]:
+        refused("preview", "width", "32", *words, says=says)
+    with open("huge", "wb") as file:
+        file.truncate(2 * 4294967296)
+    refused("preview", "width", "32", "cp932.tbl", "huge", "receipt", says=["error 16: the input has over 4,294,967,295 units (huge)"])
+
+
+def test_preview_with_a_width_that_can_not_write():
+    write("ledger", units_text(*[0x61] * 30000))
+    says = ["error: cannot write receipt: File too large"]
+    tillbox("preview", "width", "32", "cp932.tbl", "ledger", "receipt", word="failed", says=says, limit=20000)
 
 
 def main():

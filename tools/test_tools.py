@@ -141,6 +141,8 @@ def check_coverage(options):
         "load": (0, 18),
         "field": ("bar", "line", "end", "held", 11, 20, 21, 27),
         "standard": (5,),
+        "breaks": (0, 10, 11, 30),
+        "propose": (0, 10, 11, 31, 32),
     }
     seen = {command: set() for command in wanted}
     shown = set()
@@ -460,6 +462,110 @@ def check_fields(options):
             finished = finished or (last and position == len(text))
             if finished:
                 expect(given == whole, f"list {number}: not all fields at the end")
+
+
+# ---------------------------------------------------------------------------------------------------------------
+# Receipt lines against a search of all proposals
+# ---------------------------------------------------------------------------------------------------------------
+
+# Tables, the bytes of the texts, and how many texts of five bytes, and of six, are tried; of up to four bytes all are.
+BREAK_TEXTS = (
+    ("sample.tbl", (0x41, 0x81, 0x82, 0x40, 0x7C, 0x0A, 0x80, 0xA0), 2000),
+    ("more_seconds.tbl", (0x41, 0x81, 0x83, 0x84, 0x0A), 200),
+    ("low_bytes.tbl", (0x81, 0x0E, 0x7E, 0x7F, 0x80), 200),
+    ("no_leads.tbl", (0x81, 0x40), 32),
+)
+MOST = 2**64 - 1
+
+
+def lines_of(text, breaks):
+    return [text[start:end] for start, end in zip((0, *breaks), (*breaks, len(text)))]
+
+
+def codes_of(reader, lines):
+    return [match.group() for line in lines for match in reader.finditer(line)]
+
+
+def uncut_proposals(reader, text, places):
+    """The proposals made of these places, in this order, whose lines are nowhere empty and have the codes of the text, each line
+    read as a text of its own; each with the sizes of its lines. Another way to say that breaks rise, are inner places and cut no
+    code."""
+    found = {}
+    codes = codes_of(reader, [text])
+    for breaks in places:
+        lines = lines_of(text, breaks)
+        # an empty text has one empty line, and takes the empty proposal
+        if not breaks or (all(lines) and codes_of(reader, lines) == codes):
+            found[breaks] = tuple(map(len, lines))
+    return found
+
+
+def inner_places(size):
+    """Every choice of inner places, in rising order."""
+    return [breaks for number in range(max(size, 1)) for breaks in itertools.combinations(range(1, size), number)]
+
+
+def check_our_breaks(table, text, width, uncut):
+    """Ours is acceptable, no acceptable proposal has fewer lines, each line from the first on is as long as it can be, and there is
+    none exactly if no proposal is acceptable."""
+    acceptable = {breaks: sizes for breaks, sizes in uncut.items() if max(sizes) <= width}
+    ours = converter.own_breaks(table, text, width)
+    name = f"{text.hex()} at width {width}"
+    expect((ours is None) == (not acceptable), f"{name}: none of ours exactly if none is acceptable")
+    if ours is None:
+        return acceptable
+    ours = tuple(ours)
+    expect(ours in acceptable, f"{name}: ours is not acceptable")
+    expect(len(ours) == min(map(len, acceptable)), f"{name}: an acceptable proposal has fewer lines than ours")
+    expect(acceptable[ours] == max(acceptable.values()), f"{name}: a line of ours can be longer")
+    return acceptable
+
+
+def check_break_calls(table, text, width, acceptable):
+    """The call with lists of every size, and the checking call on ours."""
+    name = f"{text.hex()} at width {width}"
+    best = max(acceptable, key=acceptable.get, default=None)
+    for size in range(len(text) + 2):
+        out = [-1] * size
+        answer = converter.propose_call(table, text, width, out)
+        if best is None:
+            expect((answer, out) == (31, [-1] * size), f"{name}: 31, the list untouched")
+        elif size < len(best):
+            expect((answer, out) == (32, [-1] * size), f"{name}: 32, the list untouched")
+        else:
+            expect(answer == ("breaks", len(best)) and out == [*best] + [-1] * (size - len(best)), f"{name}: ours in a list")
+    expect(best is None or converter.breaks_call(table, text, width, best) == 0, f"{name}: ours is not accepted")
+
+
+def check_breaks(options):
+    """All proposals of short texts: the acceptable ones are accepted and no others, and ours is the best of them."""
+    chance = random.Random(12)
+    for name, members, longer in BREAK_TEXTS:
+        table = load_table(name)
+        reader = byte_reader(table)
+        texts = [bytes(text) for size in range(5) for text in itertools.product(members, repeat=size)]
+        texts += [bytes(chance.choices(members, k=size)) for size in (5, 6) for _ in range(longer)]
+        for text in texts:
+            places = inner_places(len(text))
+            uncut = uncut_proposals(reader, text, places)
+            by_width = {width: check_our_breaks(table, text, width, uncut) for width in (*range(8), MOST)}
+            widths = by_width if len(text) < 4 else (chance.randrange(8),)
+            for width, breaks in itertools.product(widths, places):
+                expect(converter.is_acceptable(table, text, width, breaks) == (breaks in by_width[width]),
+                       f"{text.hex()} at width {width}: the proposal {breaks}")
+            if len(text) < 3 or chance.random() < 0.05:
+                width = chance.randrange(len(text) + 2)
+                check_break_calls(table, text, width, by_width[width])
+    # any numbers in any order
+    table = load_table("sample.tbl")
+    reader = byte_reader(table)
+    for text in (bytes(text) for size in range(4) for text in itertools.product((0x41, 0x81, 0x80, 0x0A), repeat=size)):
+        numbers = (*range(len(text) + 2), MOST)
+        places = [breaks for number in range(4) for breaks in itertools.product(numbers, repeat=number)]
+        uncut = uncut_proposals(reader, text, places)
+        for width, breaks in itertools.product((0, 1, 2, 3, MOST), places):
+            wanted = breaks in uncut and max(uncut[breaks]) <= width
+            expect(converter.is_acceptable(table, text, width, breaks) == wanted, f"{text.hex()} at width {width}: {breaks}")
 
 
 # ---------------------------------------------------------------------------------------------------------------
@@ -1204,6 +1310,413 @@ def wrong_field_converters():
     )
 
 
+def wrong_break_converters():
+    """The same for receipt lines (document 02, CR 12)."""
+    right = {name: getattr(converter, name) for name in dir(converter)}
+    is_acceptable, own_breaks, code_ends = right["is_acceptable"], right["own_breaks"], right["code_ends"]
+    propose_call, break_refusal = right["propose_call"], right["break_refusal"]
+
+    def judged(change):
+        """Another proposal, or another width, is judged in place of the one given; None is not accepted."""
+
+        def wrong(table, text, width, breaks):
+            changed = change(text, width, list(breaks))
+            return changed is not None and is_acceptable(table, text, *changed)
+
+        return wrong
+
+    def breaks_as(change):
+        return judged(lambda text, width, breaks: (width, change(text, breaks)))
+
+    def lines_judged(which):
+        """Only some lines are measured: which of them, by their number from 0 and how many there are."""
+
+        def wrong(table, text, width, breaks):
+            if not is_acceptable(table, text, MOST, breaks):
+                return False
+            sizes = [len(line) for line in lines_of(text, breaks)]
+            return all(size <= width for number, size in enumerate(sizes) if which(number, len(sizes)))
+
+        return wrong
+
+    def cut_accepted(which):
+        """A break inside a code that which asks for, by the table and its bytes, is accepted."""
+
+        def wrong(table, text, width, breaks):
+            if not text or is_acceptable(table, text, width, breaks):
+                return is_acceptable(table, text, width, breaks)
+            if not all(1 <= end - start <= width for start, end in zip((0, *breaks), (*breaks, len(text)))):
+                return False
+            cut = set(breaks) - set(code_ends(table, text))
+            return all(which(table, text[place - 1], text[place]) for place in cut)
+
+        return wrong
+
+    def wrapping(table, text, width, breaks):
+        """The size of a line is taken modulo 2^64, and nothing else is asked of its ends."""
+        sizes = [(end - start) % 2**64 for start, end in zip((0, *breaks), (*breaks, len(text)))]
+        uncut = set(code_ends(table, text))
+        return all(1 <= size <= width for size in sizes) and all(place in uncut for place in breaks) if text else not breaks
+
+    def sum_wraps(table, text, width, breaks):
+        """The farthest end of a line is its start and the width, modulo 2^64."""
+        ends = zip((0, *breaks), (*breaks, len(text)))
+        return is_acceptable(table, text, width, breaks) and all(end <= (start + width) % 2**64 for start, end in ends)
+
+    def as_few_as_ours(table, text, width, breaks):
+        return is_acceptable(table, text, width, breaks) and len(breaks) == len(own_breaks(table, text, width))
+
+    def ours_with(change):
+        """Our breaks, changed where there are some, or where none are needed."""
+
+        def wrong(table, text, width):
+            ours = own_breaks(table, text, width)
+            return None if ours is None else change(table, text, width, ours)
+
+        return wrong
+
+    def greedy(line_end):
+        """Line by line: line_end chooses from the ends of codes that a line may have, and gets the whole text's size too."""
+
+        def wrong(table, text, width):
+            if own_breaks(table, text, width) is None:
+                return None
+            breaks, start = [], 0
+            while len(text) - start > 0:
+                ends = [end for end in code_ends(table, text) if start < end <= start + width]
+                start = line_end(ends, start, len(text), text)
+                breaks.append(start)
+            return breaks[:-1]
+
+        return wrong
+
+    def from_the_end(table, text, width):
+        """The last line is the longest."""
+        if own_breaks(table, text, width) is None:
+            return None
+        breaks, end = [], len(text)
+        while end > width:
+            end = min(place for place in code_ends(table, text) if place >= end - width)
+            breaks.insert(0, end)
+        return breaks
+
+    def every_width(table, text, width):
+        """At every multiple of the width, codes or not."""
+        return None if own_breaks(table, text, width) is None else list(range(width, len(text), width)) if width else []
+
+    def none_if(which):
+        """No breaks exist exactly where which says so; a code that is too long is a line of its own."""
+
+        def wrong(table, text, width):
+            if which(table, text, width):
+                return None
+            breaks, line_start, code_start = [], 0, 0
+            for end in code_ends(table, text):
+                if end - line_start > width and code_start > line_start:
+                    breaks.append(code_start)
+                    line_start = code_start
+                code_start = end
+            return breaks
+
+        return wrong
+
+    def code_sizes(table, text):
+        ends = code_ends(table, text)
+        return [end - start for start, end in zip([0] + ends, ends)]
+
+    def read_as(size_of):
+        """Where the codes end, if a code of this kind has another size: size_of gets the code, its bytes and the table."""
+
+        def wrong(table, text):
+            ends, place = [], 0
+            while place < len(text):
+                second = text[place + 1] if place + 1 < len(text) else None
+                code = right["read_code"](table, text[place], second)
+                place += size_of(code, table, text[place], second)
+                ends.append(place)
+            return ends
+
+        return wrong
+
+    def is_lead(table, byte):
+        return table.classes[byte] in (2, 6)
+
+    def old_rule(code, table, first, second):
+        return 2 if is_lead(table, first) and second is not None else code.size
+
+    def short_list(table, text, width, out):
+        """The list is filled as the breaks are found: 32 where it is full, before a code that is too long is met."""
+        answer = propose_call(table, text, width, out)
+        if answer != 31:
+            return answer
+        sizes = code_sizes(table, text)
+        first_long = next(number for number, size in enumerate(sizes) if size > width)
+        before = propose_call(table, text[: sum(sizes[:first_long])], width, [0] * len(out))
+        return 32 if before == 32 else 31
+
+    def refused_with(change):
+        """A refusal that touches the list."""
+
+        def wrong(table, text, width, out):
+            answer = propose_call(table, text, width, out)
+            if isinstance(answer, int):
+                change(answer, own_breaks(table, text, width) if answer == 32 else None, out)
+            return answer
+
+        return wrong
+
+    def filled_before_refused(answer, ours, out):
+        if answer == 32:
+            out[:] = ours[: len(out)]
+
+    def cleared_where_none_exists(answer, ours, out):
+        if answer == 31 and out:
+            out[0] = 0
+
+    def answered(change):
+        """Our breaks are written, and then something else is done with the list or the answer."""
+
+        def wrong(table, text, width, out):
+            answer = propose_call(table, text, width, out)
+            return answer if isinstance(answer, int) else change(text, answer[1], out) or answer
+
+        return wrong
+
+    def rest_cleared(text, count, out):
+        out[count:] = [0] * (len(out) - count)
+
+    def end_behind_ours(text, count, out):
+        if count < len(out):
+            out[count] = len(text)
+
+    def one_place_more(text, count, out):
+        if count == len(out) and count > 0:
+            out[:] = [right["UNIT_FILL"]] * count
+            return 32
+        return None
+
+    def what_fits(table, text, width, out):
+        """A list that is too short is filled, and accepted."""
+        answer = propose_call(table, text, width, out)
+        if answer == 32:
+            out[:] = own_breaks(table, text, width)[: len(out)]
+            return ("breaks", len(out))
+        return answer
+
+    def list_of_lines(table, text, width, out):
+        """The list must have a place for the text's end too."""
+        answer = propose_call(table, text, width, list(out))
+        if isinstance(answer, tuple) and answer[1] + 1 > len(out) and text:
+            return 32
+        return propose_call(table, text, width, out)
+
+    def length_first(table, text):
+        return 11 if len(text) > 65536 else break_refusal(table, text)
+
+    def refused_at_limit(table, text):
+        return break_refusal(table, text) or (11 if len(text) == 65536 else None)
+
+    def never_too_long(table, text):
+        refusal = break_refusal(table, text)
+        return None if refusal == 11 else refusal
+
+    def empty_is_not_asked(table, text):
+        return break_refusal(table, text) if text else None
+
+    def page_is_not_asked(table, text):
+        return break_refusal(converter.replace(table, page=table.page or 1), text)
+
+    def encoding_is_not_asked(table, text):
+        """Index and blocks are of no use here."""
+        return break_refusal(converter.replace(table, index=[0] * 256, blocks=[0] * 256), text)
+
+    def width_first(call, refusal):
+        """Width 0 is refused before the length."""
+
+        def wrong(table, text, width, other):
+            answer = right[call](table, text, width, other)
+            return refusal if answer == 11 and width == 0 else answer
+
+        return wrong
+
+    def same_for_both(change):
+        """A width that is read otherwise, in both calls: two wrong converters."""
+        return (judged(lambda text, width, breaks: (change(width), breaks)),
+                lambda table, text, width: own_breaks(table, text, change(width)))
+
+    class CountsFromTheWhole(converter.Console):
+        """Breaks are counted from the beginning of the whole text."""
+
+        def do_breaks(self, width, start, count, *breaks):
+            answer = super().do_breaks(width, start, count, *breaks)
+            if answer == "?" or not breaks:
+                return answer
+            places = [b"%d" % ((int(place) - int(start)) % 2**64) for place in breaks]
+            return super().do_breaks(width, start, count, *places)
+
+    class StartsAnew(converter.Console):
+        """A proposal gives up the run in hand."""
+
+        def do_propose(self, *words):
+            answer = super().do_propose(*words)
+            self.run = converter.Run("D", self.table.page, (5, 5, 5), None, 0, 0, 0, False)
+            return answer
+
+    class HoldsNothing(converter.Console):
+        """A proposal that is checked gives up what is held."""
+
+        def do_breaks(self, *words):
+            answer = super().do_breaks(*words)
+            self.held = 0
+            return answer
+
+    class CutsTheText(converter.Console):
+        """The part that was asked for is the text from then on."""
+
+        def do_breaks(self, width, start, count, *breaks):
+            answer = super().do_breaks(width, start, count, *breaks)
+            self.byte_text = self.part_of(self.byte_text, start, count)
+            return answer
+
+    def wrapping_number(field):
+        value = right["plain_number"](field)
+        if value is None and re.fullmatch(rb"[1-9][0-9]*", field):
+            value = int(field[:4000])
+        return None if value is None else value % 2**64
+
+    def spare_zeros(field):
+        return int(field) if re.fullmatch(rb"[0-9]{1,20}", field) else None
+
+    wide = [
+        (f"the width has {title}", change)
+        for title, change in (("8 bits", lambda width: width % 2**8), ("16 bits", lambda width: width % 2**16),
+                              ("32 bits", lambda width: width % 2**32), ("a sign", lambda width: 0 if width >= 2**63 else width))
+    ]
+    widths = [(f"{title}, {call}", call, wrong) for title, change in wide
+              for call, wrong in zip(("is_acceptable", "own_breaks"), same_for_both(change))]
+    checking = (
+        ("a line of width + 1 is accepted", judged(lambda text, width, breaks: (width + 1, breaks))),
+        ("a line of width bytes is not accepted", judged(lambda text, width, breaks: (width - 1, breaks))),
+        ("the first line is not measured", lines_judged(lambda number, lines: number > 0)),
+        ("the last line is not measured", lines_judged(lambda number, lines: number < lines - 1)),
+        ("lines between are not measured", lines_judged(lambda number, lines: number in (0, lines - 1))),
+        ("only the last line is measured", lines_judged(lambda number, lines: number == lines - 1)),
+        ("a cut inside a code is accepted", cut_accepted(lambda table, first, second: True)),
+        ("a cut inside an undefined pair is accepted",
+         cut_accepted(lambda table, first, second: right["read_code"](table, first, second).kind == 2)),
+        ("a cut inside an invalid code is accepted",
+         cut_accepted(lambda table, first, second: right["read_code"](table, first, second).kind == 4)),
+        ("a cut inside a character is accepted",
+         cut_accepted(lambda table, first, second: right["read_code"](table, first, second).kind == 0)),
+        ("a break 0 is accepted", breaks_as(lambda text, breaks: breaks[breaks[:1] == [0] :] if text else breaks)),
+        ("a break 0 is accepted for an empty text", breaks_as(lambda text, breaks: breaks if text or breaks != [0] else [])),
+        ("an empty text takes any proposal", breaks_as(lambda text, breaks: breaks if text else [])),
+        ("an empty text takes nothing at width 0", judged(lambda text, width, breaks: (width, breaks) if text or width else None)),
+        ("an empty text takes nothing", judged(lambda text, width, breaks: (width, breaks) if text else None)),
+        ("equal breaks are accepted", breaks_as(lambda text, breaks: [place for place, _ in itertools.groupby(breaks)])),
+        ("falling breaks are accepted", breaks_as(lambda text, breaks: sorted(breaks))),
+        ("only the first two breaks must rise", breaks_as(lambda text, breaks: sorted(breaks) if breaks[:2] == sorted(breaks[:2])
+                                                          else breaks)),
+        ("the text's end is accepted", breaks_as(lambda text, breaks: breaks[:-1] if text and breaks[-1:] == [len(text)] else breaks)),
+        ("the text's end is asked for",
+         judged(lambda text, width, breaks: (width, breaks[:-1]) if breaks[-1:] == [len(text)] else None if text else (width, breaks))),
+        ("breaks beyond the text are passed over",
+         breaks_as(lambda text, breaks: [place for place in breaks if place <= len(text)] if text else breaks)),
+        ("a break has 8 bits", breaks_as(lambda text, breaks: [place % 2**8 for place in breaks] if len(text) < 256 else breaks)),
+        ("a break has 16 bits", breaks_as(lambda text, breaks: [place % 2**16 for place in breaks])),
+        ("a break has 32 bits", breaks_as(lambda text, breaks: [place % 2**32 for place in breaks])),
+        ("a line's size wraps", wrapping),
+        ("a line's farthest end wraps", sum_wraps),
+        ("only the fewest lines are accepted", as_few_as_ours),
+    )
+    proposing = (
+        ("a line is one code short", greedy(lambda ends, start, size, text: ends[-2] if len(ends) > 1 and ends[-1] < size else ends[-1])),
+        ("every line has one code", greedy(lambda ends, start, size, text: ends[0])),
+        ("a line feed ends a line", greedy(lambda ends, start, size, text: next((end for end in ends if text[end - 1] == 0x0A), ends[-1]))),
+        ("the last code is a line of its own", greedy(lambda ends, start, size, text: ends[-2] if len(ends) > 1 and ends[-1] == size
+                                                      else ends[-1])),
+        ("the last line is the longest", from_the_end),
+        ("a break at every multiple of the width", every_width),
+        ("the text's end is listed", ours_with(lambda table, text, width, ours: ours + [len(text)])),
+        ("the text's end is listed where it fills the line",
+         ours_with(lambda table, text, width, ours: ours + [len(text)] if text and len(text) - ([0] + ours)[-1] == width else ours)),
+        ("the text's beginning is listed", ours_with(lambda table, text, width, ours: [0] + ours)),
+        ("lines have sizes in place of ends",
+         ours_with(lambda table, text, width, ours: [end - start for start, end in zip([0] + ours, ours)])),
+        ("31 at width 0 on an empty text", lambda table, text, width: own_breaks(table, text, width) if text or width else None),
+        ("31 on an empty text", lambda table, text, width: own_breaks(table, text, width) if text else None),
+        ("31 at width 0 only", none_if(lambda table, text, width: width == 0 and len(text) > 0)),
+        ("31 at width 1 for any lead", none_if(lambda table, text, width: max(code_sizes(table, text), default=0) > width
+                                               or (width == 1 and any(is_lead(table, byte) for byte in text)))),
+        ("31 for the first code only", none_if(lambda table, text, width: len(text) > 0 and code_sizes(table, text)[0] > width)),
+        ("31 for the last code only", none_if(lambda table, text, width: len(text) > 0 and code_sizes(table, text)[-1] > width)),
+        ("31 at odd widths with codes of two bytes alone",
+         none_if(lambda table, text, width: max(code_sizes(table, text), default=0) > width
+                 or (width % 2 == 1 and len(text) > width and set(code_sizes(table, text)) == {2}))),
+    )
+    reading = (
+        ("CR 2 is forgotten", read_as(old_rule)),
+        ("any bad second byte is left unread",
+         read_as(lambda code, table, first, second: 1 if is_lead(table, first) and code.kind == 4 else code.size)),
+        ("an undefined pair is two codes", read_as(lambda code, table, first, second: 1 if code.kind == 2 else code.size)),
+        ("only characters have codes of two bytes", read_as(lambda code, table, first, second: code.size if code.kind == 0 else 1)),
+        ("every code is one byte", read_as(lambda code, table, first, second: 1)),
+        ("a lead at the text's end is a code of two bytes",
+         read_as(lambda code, table, first, second: 2 if is_lead(table, first) and second is None else code.size)),
+        ("a byte that is never a code takes the next",
+         read_as(lambda code, table, first, second: 2 if table.classes[first] in (0, 4) and second is not None else code.size)),
+        ("a byte of 80 or more begins a code of two bytes",
+         read_as(lambda code, table, first, second: 2 if first >= 0x80 and second is not None else code.size)),
+    )
+    calling = (
+        ("32 before 31", short_list),
+        ("an empty list is too short for any text", lambda table, text, width, out: propose_call(table, text, width, out) if out else 32),
+        ("a list is filled before it is too short", refused_with(filled_before_refused)),
+        ("a list is touched where none exists", refused_with(cleared_where_none_exists)),
+        ("the list behind ours is cleared", answered(rest_cleared)),
+        ("the text's end is written behind ours", answered(end_behind_ours)),
+        ("a list that is just long enough is too short", answered(one_place_more)),
+        ("a list must have a place for the text's end", list_of_lines),
+        ("a list that is too short is filled and accepted", what_fits),
+        ("31 before 11", width_first("propose_call", 31)),
+    )
+    refusing = (
+        ("11 before 10", length_first),
+        ("11 at 65,536 bytes", refused_at_limit),
+        ("no text is too long", never_too_long),
+        ("an empty text asks nothing of the tables", empty_is_not_asked),
+        ("page 0 is good", page_is_not_asked),
+        ("index and blocks are not asked for", encoding_is_not_asked),
+    )
+    playing = (
+        ("breaks are counted from the whole text's beginning", CountsFromTheWhole),
+        ("a proposal gives up the run in hand", StartsAnew),
+        ("a check gives up what is held", HoldsNothing),
+        ("a check cuts the text", CutsTheText),
+    )
+    return (
+        *((title, "is_acceptable", wrong) for title, wrong in checking),
+        *((title, "own_breaks", wrong) for title, wrong in proposing),
+        *((title, "code_ends", wrong) for title, wrong in reading),
+        *((title, "propose_call", wrong) for title, wrong in calling),
+        *((title, "break_refusal", wrong) for title, wrong in refusing),
+        *((title, "Console", wrong) for title, wrong in playing),
+        *widths,
+        ("30 before 11", "breaks_call", width_first("breaks_call", 30)),
+        ("301 breaks are a command", "BREAKS_LIMIT", 301),
+        ("300 breaks are no command", "BREAKS_LIMIT", 299),
+        ("numbers wrap at 64 bits", "plain_number", wrapping_number),
+        ("spare zeros are read", "plain_number", spare_zeros),
+    )
+
+
+def answers_otherwise(commands, answers):
+    """Whether the converter as it stands answers a script otherwise than it should; it is played up to the first such answer."""
+    console, expected = converter.Console(FOLDERS), iter(answers.decode("ascii").splitlines())
+    got = filter(None, map(console.answer, converter.script_lines(commands)))
+    return any(left != right for left, right in itertools.zip_longest(got, expected))
+
+
 def expect_found_out(wrong_ones, names):
     """Each wrong converter is found out by at least one of the named scripts."""
     scripts = [(read(os.path.join(SCRIPTS, name + ".in")), read(os.path.join(SCRIPTS, name + ".out"))) for name in names]
@@ -1211,7 +1724,7 @@ def expect_found_out(wrong_ones, names):
         right = getattr(converter, function)
         setattr(converter, function, wrong)
         try:
-            found = any(converter.play(commands, FOLDERS) != answers for commands, answers in scripts)
+            found = any(answers_otherwise(commands, answers) for commands, answers in scripts)
         finally:
             setattr(converter, function, right)
         expect(found, f"no fixed script finds out: {title}")
@@ -1231,6 +1744,7 @@ def check_wrong_converters(options):
         expect_found_out(wrong_one_go_converters(directions), ("one_call",))
     expect_found_out(wrong_standards(), ("standard",))
     expect_found_out(wrong_field_converters(), ("fields",))
+    expect_found_out(wrong_break_converters(), ("breaks",))
 
 
 def check_standard_is_told(options):
@@ -1297,6 +1811,7 @@ CHECKS = (
     ("texts that come back", check_return),
     ("one line a run, one run a line", check_lines),
     ("lists of calls against the fields of the uncut text", check_fields),
+    ("receipt lines against a search of all proposals", check_breaks),
     ("wrong converters are found out", check_wrong_converters),
     ("the standard policy is told and not used", check_standard_is_told),
     ("wrong page tables are found out", check_wrong_pages),
