@@ -8,17 +8,17 @@ use Rattle.fields.specs.declared.Outcome.{Outcome}
 use Rattle.fields.specs.Fields.{Called, fieldCall, Answered}
 use Rattle.capi.specs.declared.cutting.TillField.{TillField}
 use Rattle.capi.specs.Interface.{isLast}
-use Rattle.capi.specs.Cutting.{fieldOut, calledOut, TillCut}
+use Rattle.capi.specs.Cutting.{fieldOut, cutOut, TillCut}
 
 -- the promise of the exported call, from that of `fieldCall`'s
 pub called-so : (held : ℕ) (buffer block : List ℕ) (last : ℕ) (mark : Bool) (o : Outcome) (r : TillField) (after : List ℕ) → mark ≡ isLast last → Answered (fieldCall held buffer block mark) o after
     → r ≡ fieldOut (o .answer) (o .state .count) → TillCut held buffer block last r after
-unfolding calledOut
+unfolding cutOut
 called-so held buffer block last mark o r after m a e =
     let called : Called = fieldCall held buffer block mark in
     record {
       result =
           e ∙ ap (λ (w : Answer). fieldOut w (o .state .count)) (a .answer) ∙ ap (fieldOut (called .answer)) (a .state)
-          ∙ ap (λ (b : Bool). calledOut (fieldCall held buffer block b)) m;
+          ∙ ap (λ (b : Bool). cutOut (fieldCall held buffer block b)) m;
       lent = a .buffer ∙ ap (λ (b : Bool). fieldCall held buffer block b .buffer) m;
     }

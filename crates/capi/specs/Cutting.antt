@@ -35,10 +35,10 @@ fieldOut (Incomplete read) held = record { read = read; count = 0; held = held; 
 fieldOut (Refused refusal) held = refusedField held (refusalNumber refusal)
 
 -- What the call gives: that of `fieldCall`, and every unit of the buffer. Any mark but 0 is last.
-unfoldable pub calledOut : Called → TillField
-calledOut called = fieldOut (called .answer) (called .held)
+unfoldable pub cutOut : Called → TillField
+cutOut called = fieldOut (called .answer) (called .held)
 
 -- The promise of the exported call: what it returns, and the buffer after it.
 pub record TillCut (held : ℕ) (buffer block : List ℕ) (last : ℕ) (r : TillField) (after : List ℕ) : Type 0 where
-  pub result : r ≡ calledOut (fieldCall held buffer block (isLast last))
+  pub result : r ≡ cutOut (fieldCall held buffer block (isLast last))
   pub lent : after ≡ fieldCall held buffer block (isLast last) .buffer

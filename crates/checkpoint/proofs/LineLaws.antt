@@ -28,7 +28,7 @@ use Rattle.checkpoint.specs.Line.{tab, lineOf, fieldOf, closingOf, decim
 use Rattle.checkpoint.specs.Sample.{sampleRun, sampleLine, pendingRun, pendingLine, longestRun, longestPending, notLines, AllAnswered}
 use Rattle.checkpoint.proofs.Computing.{lineRules}
 use Rattle.checkpoint.proofs.DecimalLaws.{decimal-short}
-use Rattle.checkpoint.proofs.ParserLaws.{got, none-some, some-eq, Reads, PendingOfLine, then-some, then-back, Digits, letter-reads, number-reads, digits-read, pending-reads, field-forth, field-back, closing-forth, closing-back}
+use Rattle.checkpoint.proofs.ParserLaws.{got, none-some, some-eq, Reads, PendingOfLine, then-some, then-back, DecimalDigits, letter-reads, number-reads, digits-read, pending-reads, field-forth, field-back, closing-forth, closing-back}
 
 -- ---- the fields of a line
 line-fields : (run : Run) → lineOf run ≡
@@ -43,7 +43,7 @@ line-fields : (run : Run) → lineOf run ≡
 unfolding lineOf
 line-fields run = simp append-assoc
 
-pub fields-forth : (run : Run) → Digits (run .policy) → PendingOfLine (run .direction) (run .pending) → fields (lineOf run) ≡ got run []
+pub fields-forth : (run : Run) → DecimalDigits (run .policy) → PendingOfLine (run .direction) (run .pending) → fields (lineOf run) ≡ got run []
 unfolding fields fieldsBy succeed
 fields-forth run d c =
     ap fields (line-fields run)
@@ -59,7 +59,7 @@ fields-forth run d c =
 -- what was read is the line of the run, whose digits and what is pending are such
 pub record Spelled (Good : Direction → Pending → Type 0) (line : List ℕ) (run : Run) : Type 0 where
   pub line-is : line ≡ lineOf run
-  pub digits : Digits (run .policy)
+  pub digits : DecimalDigits (run .policy)
   pub pending : Good (run .direction) (run .pending)
 
 -- the next field of what was read
@@ -117,7 +117,7 @@ pending-of-line Decoding (High unit) ended written read e c = absurd (false≢tr
 pending-of-line Encoding (High unit) ended written read e c = c
 
 -- ---- a run that keeps the rules
-allowed-digits : (direction : Direction) (policy : Policy) → policyAllowed direction policy ≡ true → Digits policy
+allowed-digits : (direction : Direction) (policy : Policy) → policyAllowed direction policy ≡ true → DecimalDigits policy
 unfolding policyAllowed
 allowed-digits direction policy e =
     let rest = and-right (leb (policy .single) (highestSingle direction)) _ e in
@@ -133,7 +133,7 @@ allowed-digits direction policy e =
 
 -- what a valid run holds
 pub record Bounded (run : Run) : Type 0 where
-  pub digits : Digits (run .policy)
+  pub digits : DecimalDigits (run .policy)
   pub flags : run .flags ≤ 15
   pub read : run .read ≤ readLimit
   pub written : run .written ≤ writtenLimit

@@ -356,24 +356,24 @@ unfolding succeed
 return-some a bytes = refl
 
 -- each digit of the policy is one decimal digit
-pub record Digits (policy : Policy) : Type 0 where
+pub record DecimalDigits (policy : Policy) : Type 0 where
   pub single : policy .single < 10
   pub pair : policy .pair < 10
   pub invalid : policy .invalid < 10
 
 -- three digits below 10 are read back from their bytes, and only those are read
-pub digits-read : Reads threeDigits digitsOf Digits
+pub digits-read : Reads threeDigits digitsOf DecimalDigits
 unfolding threeDigits
 digits-read = record { forth = digits-forth; back = digits-back }
   where
-    digits-forth : (policy : Policy) (rest : List ℕ) → Digits policy → threeDigits (digitsOf policy ++ (tab ∷ rest)) ≡ got policy (tab ∷ rest)
+    digits-forth : (policy : Policy) (rest : List ℕ) → DecimalDigits policy → threeDigits (digitsOf policy ++ (tab ∷ rest)) ≡ got policy (tab ∷ rest)
     digits-forth policy rest g =
         one-then digitValue _ (digitByte (policy .single)) (digitByte (policy .pair) ∷ digitByte (policy .invalid) ∷ tab ∷ rest) (policy .single) (digit-of (policy .single) (g .single))
         ∙ one-then digitValue _ (digitByte (policy .pair)) (digitByte (policy .invalid) ∷ tab ∷ rest) (policy .pair) (digit-of (policy .pair) (g .pair))
         ∙ one-then digitValue _ (digitByte (policy .invalid)) (tab ∷ rest) (policy .invalid) (digit-of (policy .invalid) (g .invalid))
         ∙ return-some policy (tab ∷ rest)
 
-    digits-back : (bytes : List ℕ) (r : Parsed Policy) → threeDigits bytes ≡ some r → (bytes ≡ digitsOf (r .value) ++ r .rest) × Digits (r .value)
+    digits-back : (bytes : List ℕ) (r : Parsed Policy) → threeDigits bytes ≡ some r → (bytes ≡ digitsOf (r .value) ++ r .rest) × DecimalDigits (r .value)
     digits-back bytes r e =
         let a = one-then-back digitValue _ bytes r e in
         let b = one-then-back digitValue _ (a .1 .rest) r (a .4) in
@@ -384,8 +384,8 @@ digits-read = record { forth = digits-forth; back = digits-back }
         let y = digit-back (b .0) (b .1 .value) (b .3) in
         let z = digit-back (d .0) (d .1 .value) (d .3) in
         let spelled : bytes ≡ digitsOf (read .value) ++ read .rest = cons-eq (x .0) (a .2) ∙ ap (λ (l : List ℕ). digitByte (a .1 .value) ∷ l) (cons-eq (y .0) (b .2) ∙ ap (λ (l : List ℕ). digitByte (b .1 .value) ∷ l) (cons-eq (z .0) (d .2))) in
-        let good : Digits (read .value) = record { single = x .1; pair = y .1; invalid = z .1 } in
-        subst (λ (f : Parsed Policy). (bytes ≡ digitsOf (f .value) ++ f .rest) × Digits (f .value)) same (spelled, good)
+        let good : DecimalDigits (read .value) = record { single = x .1; pair = y .1; invalid = z .1 } in
+        subst (λ (f : Parsed Policy). (bytes ≡ digitsOf (f .value) ++ f .rest) × DecimalDigits (f .value)) same (spelled, good)
 
 -- what is pending
 pair-empty : hexPair [] ≡ none

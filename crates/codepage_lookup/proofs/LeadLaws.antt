@@ -14,7 +14,7 @@ use borrow.Author.Tests.{lt-ltb, le-ltb, ltb-true, ltb-false, eqb-true, eqb-fals
 use Rattle.codepage.specs.CodePage.{CodePage, GoodShape, entryAt, isLead, leadsBelow}
 use Rattle.codepage.specs.Marks.{markOf, NoLowLead}
 use Rattle.codepage.proofs.MarkLaws.{mark-le, or-else, below-next, below-steps, below-same, none-low}
-use Rattle.codepage_lookup.specs.Profile.{leadBits, leadsAs, LeadsAt, onesBelow, blockOf, isRun}
+use Rattle.codepage_lookup.specs.Profile.{leadBits, leadsAs, LeadsAt, onesBelow, blockOf, sideBySide}
 use Rattle.codepage_lookup.specs.declared.profile.Leads.{Leads}
 
 -- ---- digits
@@ -236,9 +236,9 @@ module _ (cs : List ℕ) (from first end count : ℕ) (fits : from + 64 ≤ leng
       by-first false p false q = absurd (true≢false (sym e ∙ behind k (ltb-false k end q) b))
 
 -- where the ones of a word stand side by side
-run-block : (cs : List ℕ) (from : ℕ) → from + 64 ≤ length cs → isRun (leadBits cs from 64) ≡ true → (k : ℕ) → k < 64 → isLead (entryAt cs (from + k)) ≡ true
+run-block : (cs : List ℕ) (from : ℕ) → from + 64 ≤ length cs → sideBySide (leadBits cs from 64) ≡ true → (k : ℕ) → k < 64 → isLead (entryAt cs (from + k)) ≡ true
     → leadsBelow cs (from + k) + trailingZeros 64 (leadBits cs from 64) ≡ leadsBelow cs from + k
-unfolding isRun
+unfolding sideBySide
 run-block cs from fits run k b e = by-zero (eqb (leadBits cs from 64) 0) refl
   where
     by-zero : (t : Bool) → eqb (leadBits cs from 64) 0 ≡ t → leadsBelow cs (from + k) + trailingZeros 64 (leadBits cs from 64) ≡ leadsBelow cs from + k
@@ -254,14 +254,14 @@ run-block cs from fits run k b e = by-zero (eqb (leadBits cs from 64) 0) refl
 
 -- the block of a lead as a distance, in the low word and in the high one
 module _ (cs : List ℕ) (lead : ℕ) (size : length cs ≡ 256) (e : isLead (entryAt cs lead) ≡ true) where
-  low-distance : NoLowLead cs → lead < 0xC0 → isRun (leadBits cs 0x80 64) ≡ true → leadsBelow cs lead + (0x80 + trailingZeros 64 (leadBits cs 0x80 64)) ≡ lead
+  low-distance : NoLowLead cs → lead < 0xC0 → sideBySide (leadBits cs 0x80 64) ≡ true → leadsBelow cs lead + (0x80 + trailingZeros 64 (leadBits cs 0x80 64)) ≡ lead
   low-distance low h run =
       let from : 0x80 ≤ lead = lead-high cs lead low e in
       let at : 0x80 + (lead - 0x80) ≡ lead = omega arith in
       let block = run-block cs 0x80 (omega arith) run (lead - 0x80) (omega arith) (rw at e) in
       omega (arith, none-low cs size low, rw at at block)
 
-  high-distance : NoLowLead cs → 0xC0 ≤ lead → isRun (leadBits cs 0xC0 64) ≡ true
+  high-distance : NoLowLead cs → 0xC0 ≤ lead → sideBySide (leadBits cs 0xC0 64) ≡ true
       → (0xC0 + trailingZeros 64 (leadBits cs 0xC0 64) ≤ lead) × (leadsBelow cs lead + (0xC0 + trailingZeros 64 (leadBits cs 0xC0 64)) ≡ ones (leadBits cs 0x80 64) + lead)
   high-distance low h run =
       let in-table : lead < 256 = subst (λ (n : ℕ). lead < n) size (lead-inside cs lead e) in
@@ -277,13 +277,13 @@ module _ (cs : List ℕ) (lead : ℕ) (size : length cs ≡ 256) (e : isLead (en
     block-at = ap (λ (x : Leads). blockOf x lead) (at .0) ∙ block-below cs lead size (at .1) e
 
     -- a lead of 80 to BF, where the ones of that word stand side by side: its block is its distance to the first lead
-    pub low-in-run : lead < 0xC0 → isRun (l .low) ≡ true → leadsBelow cs lead + (0x80 + trailingZeros 64 (l .low)) ≡ lead
-    low-in-run h = subst (λ (x : Leads). isRun (x .low) ≡ true → leadsBelow cs lead + (0x80 + trailingZeros 64 (x .low)) ≡ lead) (sym (at .0)) (low-distance (at .1) h)
+    pub low-in-run : lead < 0xC0 → sideBySide (l .low) ≡ true → leadsBelow cs lead + (0x80 + trailingZeros 64 (l .low)) ≡ lead
+    low-in-run h = subst (λ (x : Leads). sideBySide (x .low) ≡ true → leadsBelow cs lead + (0x80 + trailingZeros 64 (x .low)) ≡ lead) (sym (at .0)) (low-distance (at .1) h)
 
     -- the same of a lead of C0 to FF: its distance to the first lead there, and as many as there are leads of 80 to BF
-    pub high-in-run : 0xC0 ≤ lead → isRun (l .high) ≡ true → (0xC0 + trailingZeros 64 (l .high) ≤ lead) × (leadsBelow cs lead + (0xC0 + trailingZeros 64 (l .high)) ≡ ones (l .low) + lead)
+    pub high-in-run : 0xC0 ≤ lead → sideBySide (l .high) ≡ true → (0xC0 + trailingZeros 64 (l .high) ≤ lead) × (leadsBelow cs lead + (0xC0 + trailingZeros 64 (l .high)) ≡ ones (l .low) + lead)
     high-in-run h =
-        subst (λ (x : Leads). isRun (x .high) ≡ true → (0xC0 + trailingZeros 64 (x .high) ≤ lead) × (leadsBelow cs lead + (0xC0 + trailingZeros 64 (x .high)) ≡ ones (x .low) + lead))
+        subst (λ (x : Leads). sideBySide (x .high) ≡ true → (0xC0 + trailingZeros 64 (x .high) ≤ lead) × (leadsBelow cs lead + (0xC0 + trailingZeros 64 (x .high)) ≡ ones (x .low) + lead))
         (sym (at .0)) (high-distance (at .1) h)
 
 -- ---- the words, made from the last byte on

@@ -35,8 +35,8 @@ unfoldable pub blockOf : Leads → ℕ → ℕ
 blockOf l lead = pick (ltb lead 0xC0) (onesBelow (l .low) (lead - 0x80)) (ones (l .low) + onesBelow (l .high) (lead - 0xC0))
 
 -- whether the ones of a word stand side by side: all digits but them are the zeros above and below
-unfoldable pub isRun : ℕ → Bool
-isRun word = eqb word 0 || eqb (leadingZeros 64 word + ones word + trailingZeros 64 word) 64
+unfoldable pub sideBySide : ℕ → Bool
+sideBySide word = eqb word 0 || eqb (leadingZeros 64 word + ones word + trailingZeros 64 word) 64
 
 -- a code in numbers: what it means, and how many units it takes after the first
 pub record SettledAs (k : Code) (r : SettledCode) : Type 0 where

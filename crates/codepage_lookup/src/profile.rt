@@ -7,7 +7,7 @@ ghost use lib.ListN.{length};
 ghost use Rattle.codepage.specs.CodePage.{entryAt, isSingle, isLead, leadsBelow};
 ghost use Rattle.codepage.specs.Reading.{byteAlone, unitAlone};
 ghost use Rattle.codepage.specs.Marks.{NoLowLead};
-ghost use Rattle.codepage_lookup.specs.Profile.{leadBits, onesBelow, blockOf, isRun, LeadsAt, NoCodes};
+ghost use Rattle.codepage_lookup.specs.Profile.{leadBits, onesBelow, blockOf, sideBySide, LeadsAt, NoCodes};
 use codepage::Lookup;
 use codepage::marks;
 
@@ -204,7 +204,7 @@ pub fn block_counted(leads: Leads, lead: u8) -> usize
 
 // Whether the ones of a word stand side by side.
 fn is_run(word: u64) -> bool
-    ensures { λ r. ⌜ r ≡ isRun word ⌝ }
+    ensures { λ r. ⌜ r ≡ sideBySide word ⌝ }
 {
     if word == 0 {
         return true;
@@ -214,7 +214,7 @@ fn is_run(word: u64) -> bool
 
 // Whether those of both words do.
 fn are_runs(leads: Leads) -> bool
-    ensures { λ r. ⌜ (r ≡ true → (isRun (leads .low) ≡ true) × (isRun (leads .high) ≡ true)) ⌝ }
+    ensures { λ r. ⌜ (r ≡ true → (sideBySide (leads .low) ≡ true) × (sideBySide (leads .high) ≡ true)) ⌝ }
 {
     if !is_run(leads.low) {
         return false;
@@ -233,7 +233,7 @@ fn distance(lead: u8, from: usize, word: u64) -> usize
 // The block of a lead byte where the ones of both words stand side by side: a distance, past the ones of the low word.
 fn block_in_runs(classes: &[u8], leads: Leads, lead: u8) -> usize
     requires { ⌜ (length (now classes) ≡ 256) × (isLead (entryAt (now classes) lead) ≡ true) × LeadsAt (now classes) leads ⌝ }
-    requires { ⌜ (isRun (leads .low) ≡ true) × (isRun (leads .high) ≡ true) ⌝ }
+    requires { ⌜ (sideBySide (leads .low) ≡ true) × (sideBySide (leads .high) ≡ true) ⌝ }
     ensures { λ r. ⌜ r ≡ leadsBelow (now (classes .entry)) lead ⌝ }
 {
     if lead < 0xC0 {

@@ -21,7 +21,7 @@ use Rattle.fields.specs.declared.Refusal.the-variants.{BufferTooShort, B
 use Rattle.fields.specs.declared.Answer.the-variants.{Field as FieldFound, Refused}
 use Rattle.fields.specs.declared.Held.{Held}
 use Rattle.fields.specs.declared.Outcome.{Outcome}
-use Rattle.fields.specs.Fields.{fieldLimit, separator, stopAt, unitsIn, orElse, separatorIn, endIn, refusal, fresh, readWith, overFrom, foundCall, heldCall, refusedCall, fieldCall, Answered}
+use Rattle.fields.specs.Fields.{fieldLimit, separator, unitsBefore, unitsIn, eitherEnd, separatorIn, endIn, refusal, fresh, readWith, overFrom, foundCall, heldCall, refusedCall, fieldCall, Answered}
 use Rattle.fields.specs.Steps.{isSeparator, endOf, Passed, Scanned}
 
 -- ---- separators
@@ -50,7 +50,7 @@ module _ (block : List ℕ) (i : ℕ) (so-far : length (unitsIn block) ≡ i + l
   unfolding unitsIn
   scan-stop h e =
       let here : length (unitsIn (drop i block)) ≡ 0 =
-      ap (λ (l : List ℕ). length (unitsIn l)) (drop-cons block i 0 h) ∙ ap (λ (o : Option End). length (stopAt o (getD block i 0 ∷ unitsIn (drop (suc i) block)))) (is-separator _ e) in
+      ap (λ (l : List ℕ). length (unitsIn l)) (drop-cons block i 0 h) ∙ ap (λ (o : Option End). length (unitsBefore o (getD block i 0 ∷ unitsIn (drop (suc i) block)))) (is-separator _ e) in
       omega arith
 
   -- no separator at the place: the scan goes one unit on
@@ -58,7 +58,7 @@ module _ (block : List ℕ) (i : ℕ) (so-far : length (unitsIn block) ≡ i + l
   unfolding unitsIn
   scan-turn h e =
       let here : length (unitsIn (drop i block)) ≡ suc (length (unitsIn (drop (suc i) block))) =
-      ap (λ (l : List ℕ). length (unitsIn l)) (drop-cons block i 0 h) ∙ ap (λ (o : Option End). length (stopAt o (getD block i 0 ∷ unitsIn (drop (suc i) block)))) (no-separator _ e) in
+      ap (λ (l : List ℕ). length (unitsIn l)) (drop-cons block i 0 h) ∙ ap (λ (o : Option End). length (unitsBefore o (getD block i 0 ∷ unitsIn (drop (suc i) block)))) (no-separator _ e) in
       rw (add-one i) (omega arith)
 
   -- the end of the block: all of its units are the field's
@@ -103,7 +103,7 @@ separator-end u end e = by (eqb u 0x7C) (eqb u 0x0A) e
     by false false e = let z : _≡_ {A = ℕ} 0 1 = cc in absurd (omega arith)
 
 take-with : (u : ℕ) (block : List ℕ) (o : Option End) → take (length (unitsIn block)) block ≡ unitsIn block
-    → take (length (stopAt o (u ∷ unitsIn block))) (u ∷ block) ≡ stopAt o (u ∷ unitsIn block)
+    → take (length (unitsBefore o (u ∷ unitsIn block))) (u ∷ block) ≡ unitsBefore o (u ∷ unitsIn block)
 take-with u block none e = ap (λ (l : List ℕ). u ∷ l) e
 take-with u block (some end) e = refl
 
@@ -113,9 +113,9 @@ unfolding unitsIn
 units-taken [] = refl
 units-taken (u ∷ block) = take-with u block (separator u) (units-taken block)
 
-at-with : (u : ℕ) (block : List ℕ) (size : ℕ) (o : Option End) → separator u ≡ o → size ≡ length (stopAt o (u ∷ unitsIn block)) → size < suc (length block)
+at-with : (u : ℕ) (block : List ℕ) (size : ℕ) (o : Option End) → separator u ≡ o → size ≡ length (unitsBefore o (u ∷ unitsIn block)) → size < suc (length block)
     → ((n : ℕ) → n ≡ length (unitsIn block) → n < length block → separatorIn block ≡ some (endOf (getD block n 0)))
-    → orElse o (separatorIn block) ≡ some (endOf (getD (u ∷ block) size 0))
+    → eitherEnd o (separatorIn block) ≡ some (endOf (getD (u ∷ block) size 0))
 at-with u block zero none q e h later = absurd (omega arith)
 at-with u block (suc size) none q e h later = later size (omega arith) (omega arith)
 at-with u block zero (some end) q e h later = ap some (separator-end u end q)
@@ -126,8 +126,8 @@ unfolding unitsIn separatorIn
 separator-at [] size e h = absurd (omega arith)
 separator-at (u ∷ block) size e h = at-with u block size (separator u) refl e h (separator-at block)
 
-none-with : (u : ℕ) (block : List ℕ) (o : Option End) → suc (length block) ≤ length (stopAt o (u ∷ unitsIn block))
-    → (length block ≤ length (unitsIn block) → separatorIn block ≡ none) → orElse o (separatorIn block) ≡ none
+none-with : (u : ℕ) (block : List ℕ) (o : Option End) → suc (length block) ≤ length (unitsBefore o (u ∷ unitsIn block))
+    → (length block ≤ length (unitsIn block) → separatorIn block ≡ none) → eitherEnd o (separatorIn block) ≡ none
 none-with u block none h later = later (omega arith)
 none-with u block (some end) h later = absurd (omega arith)
 

@@ -22,7 +22,7 @@ use Rattle.fields.specs.declared.Refusal.the-variants.{BufferTooShort, B
 use Rattle.fields.specs.declared.Answer.{Answer}
 use Rattle.fields.specs.declared.Answer.the-variants.{Field as FieldFound, Incomplete, Refused}
 use Rattle.fields.specs.declared.Held.{Held}
-use Rattle.fields.specs.Fields.{Field, fieldsOf, separator, unitsIn, orElse, separatorIn, endIn, fieldLimit, check, refusal, fresh, Called, readWith, overFrom, foundCall, heldCall, refusedCall, acceptedCall, unlessRefused, fieldCall, partOf, isAccepted, readBy}
+use Rattle.fields.specs.Fields.{Field, fieldsOf, separator, unitsIn, eitherEnd, separatorIn, endIn, fieldLimit, check, refusal, fresh, Called, readWith, overFrom, foundCall, heldCall, refusedCall, acceptedCall, unlessRefused, fieldCall, partOf, isAccepted, readBy}
 use Rattle.fields.specs.Cuttings.{Entry, Shown, EntryMeets, AllMeet, givenBy, Progress, opened, next, play, Allowed, AllAllowed, Trace, Cut}
 use Rattle.fields.proofs.FieldLaws.{separator-append, units-plain, units-all, split, field-first, field-last}
 use Rattle.fields.proofs.CallLaws.{units-taken, units-fit}
@@ -101,7 +101,7 @@ check-holds why true o e = (refl, e)
 check-holds why false o e = let z : _≡_ {A = ℕ} 0 1 = cc in absurd (omega arith)
 
 -- an accepted call: the buffer has at least 256 units; the units held and the field's units in the block are at most 256
-pub accepted-fits : (held : ℕ) (buffer block : List ℕ) → refusal held buffer block ≡ none → (256 ≤ length buffer) × (held + length (unitsIn block) ≤ 256)
+pub accepted-fits : (held : ℕ) (buffer block : List ℕ) → refusal held buffer block ≡ none → (fieldLimit ≤ length buffer) × (held + length (unitsIn block) ≤ fieldLimit)
 unfolding refusal
 accepted-fits held buffer block e =
     let fourth : Option Refusal = check FieldTooLong (leb (held + length (unitsIn block)) fieldLimit) none in
@@ -126,7 +126,7 @@ separator-read u end n e = by (eqb u 0x7C) (eqb u 0x0A) end e
     by false false Text e = let z : _≡_ {A = ℕ} 0 1 = cc in absurd (omega arith)
 
 -- what ended the field: a separator in the block or, where there is none, the text's end or nothing
-pub or-cases : (o : Option End) (t : Bool) (p : Option End) → orElse o (pick t (some Text) none) ≡ p
+pub or-cases : (o : Option End) (t : Bool) (p : Option End) → eitherEnd o (pick t (some Text) none) ≡ p
     → ((end : End) × (o ≡ some end) × (p ≡ some end)) ⊎ ((o ≡ none) × (p ≡ pick t (some Text) none))
 or-cases none t p e = inr (refl, sym e)
 or-cases (some end) t p e = inl (end, refl, sym e)

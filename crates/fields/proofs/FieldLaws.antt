@@ -7,10 +7,10 @@ use native.Mathlib.Omega.{arith}
 use lib.ListN.{length}
 use Rattle.fields.specs.declared.End.{End}
 use Rattle.fields.specs.declared.End.the-variants.{Text}
-use Rattle.fields.specs.Fields.{Field, separator, prepend, before, fieldsOf, stopAt, unitsIn, orElse, separatorIn}
+use Rattle.fields.specs.Fields.{Field, separator, prepend, before, fieldsOf, unitsBefore, unitsIn, eitherEnd, separatorIn}
 
 -- ---- a block: the units before its first separator
-or-none : (o p : Option End) → orElse o p ≡ none → (o ≡ none) × (p ≡ none)
+or-none : (o p : Option End) → eitherEnd o p ≡ none → (o ≡ none) × (p ≡ none)
 or-none none p e = (refl, e)
 or-none (some end) p e = let z : _≡_ {A = ℕ} 0 1 = cc in absurd (omega arith)
 
@@ -20,11 +20,11 @@ unfolding separatorIn
 separator-append [] b e = refl
 separator-append (u ∷ a) b e =
     let w = or-none (separator u) (separatorIn a) e in
-    ap (λ (o : Option End). orElse o (separatorIn (a ++ b))) (w .0) ∙ separator-append a b (w .1)
+    ap (λ (o : Option End). eitherEnd o (separatorIn (a ++ b))) (w .0) ∙ separator-append a b (w .1)
 
-stop-none : (o : Option End) (u : ℕ) (l : List ℕ) → separatorIn l ≡ none → separator u ≡ o → separatorIn (stopAt o (u ∷ l)) ≡ none
+stop-none : (o : Option End) (u : ℕ) (l : List ℕ) → separatorIn l ≡ none → separator u ≡ o → separatorIn (unitsBefore o (u ∷ l)) ≡ none
 unfolding separatorIn
-stop-none none u l e q = ap (λ (o : Option End). orElse o (separatorIn l)) q ∙ e
+stop-none none u l e q = ap (λ (o : Option End). eitherEnd o (separatorIn l)) q ∙ e
 stop-none (some end) u l e q = refl
 
 -- the units before the first separator are no separators
@@ -39,7 +39,7 @@ unfolding unitsIn separatorIn
 units-all [] e = refl
 units-all (u ∷ block) e =
     let w = or-none (separator u) (separatorIn block) e in
-    ap (λ (o : Option End). stopAt o (u ∷ unitsIn block)) (w .0) ∙ ap (λ (l : List ℕ). u ∷ l) (units-all block (w .1))
+    ap (λ (o : Option End). unitsBefore o (u ∷ unitsIn block)) (w .0) ∙ ap (λ (l : List ℕ). u ∷ l) (units-all block (w .1))
 
 -- a separator: the units before it, itself, and what is behind it
 pub record Split (block : List ℕ) (end : End) : Type 0 where
@@ -48,7 +48,7 @@ pub record Split (block : List ℕ) (end : End) : Type 0 where
   pub is-end : separator unit ≡ some end
   pub parts : block ≡ unitsIn block ++ (unit ∷ behind)
 
-split-with : (u : ℕ) (block : List ℕ) (end : End) (o : Option End) → separator u ≡ o → orElse o (separatorIn block) ≡ some end
+split-with : (u : ℕ) (block : List ℕ) (end : End) (o : Option End) → separator u ≡ o → eitherEnd o (separatorIn block) ≡ some end
     → (separatorIn block ≡ some end → Split block end) → Split (u ∷ block) end
 unfolding unitsIn
 split-with u block end none q e later =
@@ -57,10 +57,10 @@ split-with u block end none q e later =
       unit = w .unit;
       behind = w .behind;
       is-end = w .is-end;
-      parts = ap (λ (l : List ℕ). u ∷ l) (w .parts) ∙ ap (λ (o : Option End). stopAt o (u ∷ unitsIn block) ++ (w .unit ∷ w .behind)) (sym q);
+      parts = ap (λ (l : List ℕ). u ∷ l) (w .parts) ∙ ap (λ (o : Option End). unitsBefore o (u ∷ unitsIn block) ++ (w .unit ∷ w .behind)) (sym q);
     }
 split-with u block end (some end′) q e later =
-    record { unit = u; behind = block; is-end = q ∙ e; parts = ap (λ (o : Option End). stopAt o (u ∷ unitsIn block) ++ (u ∷ block)) (sym q) }
+    record { unit = u; behind = block; is-end = q ∙ e; parts = ap (λ (o : Option End). unitsBefore o (u ∷ unitsIn block) ++ (u ∷ block)) (sym q) }
 
 -- a block that has a separator is the units before it, the separator, and what is behind it
 pub split : (block : List ℕ) (end : End) → separatorIn block ≡ some end → Split block end

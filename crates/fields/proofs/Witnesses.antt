@@ -19,7 +19,7 @@ use Rattle.fields.specs.declared.Refusal.the-variants.{BufferTooShort, B
 use Rattle.fields.specs.declared.Answer.{Answer}
 use Rattle.fields.specs.declared.Answer.the-variants.{Field as FieldFound, Incomplete, Refused}
 use Rattle.fields.specs.declared.Held.{Held}
-use Rattle.fields.specs.Fields.{Field, separator, prepend, fieldsOf, stopAt, unitsIn, orElse, separatorIn, endIn, fieldLimit, AllWithin, fresh, refusal, Called, readWith, foundCall, heldCall, refusedCall, acceptedCall, fieldCall, isAccepted, readBy}
+use Rattle.fields.specs.Fields.{Field, separator, prepend, fieldsOf, unitsBefore, unitsIn, eitherEnd, separatorIn, endIn, fieldLimit, AllWithin, fresh, refusal, Called, readWith, foundCall, heldCall, refusedCall, acceptedCall, fieldCall, isAccepted, readBy}
 use Rattle.fields.specs.Cuttings.{Entry, Shown, EntryMeets, AllMeet, Progress, opened, next, play, Allowed, AllAllowed, Trace, NoneRefused}
 use Rattle.fields.specs.Examples.{rows, FieldRowsHold}
 use Rattle.fields.proofs.FieldLaws.{separator-append, units-plain, begin, fields-begin}
@@ -124,10 +124,10 @@ module _ (held : ℕ) (buffer : List ℕ) where
   call-accepted block last e = rw e (end-accepted held buffer block (endIn held block last))
 
   -- a block of one unit is read whole
-  one-with : (u : ℕ) (o : Option End) → separator u ≡ o → readBy (acceptedCall held buffer (u ∷ []) (orElse (orElse o none) none) .answer) ≡ 1
+  one-with : (u : ℕ) (o : Option End) → separator u ≡ o → readBy (acceptedCall held buffer (u ∷ []) (eitherEnd (eitherEnd o none) none) .answer) ≡ 1
   unfolding heldCall unitsIn
   one-with u none q = refl
-  one-with u (some end) q = found-read held buffer (unitsIn (u ∷ [])) end ∙ separator-read u end _ q ∙ ap (λ (o : Option End). length (stopAt o (u ∷ [])) + 1) q
+  one-with u (some end) q = found-read held buffer (unitsIn (u ∷ [])) end ∙ separator-read u end _ q ∙ ap (λ (o : Option End). length (unitsBefore o (u ∷ [])) + 1) q
 
   one-read : (u : ℕ) → refusal held buffer (u ∷ []) ≡ none → readBy (fieldCall held buffer (u ∷ []) false .answer) ≡ 1
   unfolding fieldCall endIn separatorIn

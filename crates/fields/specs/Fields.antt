@@ -59,28 +59,28 @@ separated (f ∷ fields) = pick (isText (f .end)) [] (f ∷ separated fields)
 
 -- ---- one call
 -- no units where a separator stands, else these
-abbrev pub stopAt : Option End → List ℕ → List ℕ
-stopAt none units = units
-stopAt (some end) units = []
+abbrev pub unitsBefore : Option End → List ℕ → List ℕ
+unitsBefore none units = units
+unitsBefore (some end) units = []
 
 -- The next field's units in a block: those before its first separator, or all of them.
 unfoldable pub unitsIn : (block : List ℕ) → List ℕ
 unitsIn [] = []
-unitsIn (unit ∷ block) = stopAt (separator unit) (unit ∷ unitsIn block)
+unitsIn (unit ∷ block) = unitsBefore (separator unit) (unit ∷ unitsIn block)
 
 -- the first of two ends that is there
-abbrev pub orElse : Option End → Option End → Option End
-orElse none other = other
-orElse (some end) other = some end
+abbrev pub eitherEnd : Option End → Option End → Option End
+eitherEnd none other = other
+eitherEnd (some end) other = some end
 
 -- the first separator in a block, if it has one
 unfoldable pub separatorIn : (block : List ℕ) → Option End
 separatorIn [] = none
-separatorIn (unit ∷ block) = orElse (separator unit) (separatorIn block)
+separatorIn (unit ∷ block) = eitherEnd (separator unit) (separatorIn block)
 
 -- What ends the next field: a separator in the block, or, in a call marked last, the text's end if the field has units.
 unfoldable pub endIn : (held : ℕ) → (block : List ℕ) → (last : Bool) → Option End
-endIn held block last = orElse (separatorIn block) (pick (last && ltb 0 (held + length block)) (some Text) none)
+endIn held block last = eitherEnd (separatorIn block) (pick (last && ltb 0 (held + length block)) (some Text) none)
 
 -- The most units of a field, and the least length of a buffer.
 abbrev pub fieldLimit : ℕ

@@ -13,7 +13,7 @@ use Rattle.linebreak.specs.Breaks.{ours, breakable}
 use Rattle.linebreak.specs.Steps.{CountedAs}
 use Rattle.linebreak.proofs.OursLaws.{Going, lineEnd, last-from, last-within, going-start, going-turn, going-room, going-stuck, going-exists, going-all}
 
--- a line's end lies in the text
+-- a line's end lies at or behind its start, and at most the width behind it
 module _ (r : Reader) (text : List ℕ) (width start end : ℕ) (e : end ≡ lineEnd r text width start) where
   -- a line's end is not before its start
   pub end-from : start ≤ end

@@ -61,7 +61,7 @@ breaksFrom width [] start = []
 breaksFrom width (p ∷ ps) start =
     elim (leb (p .place + sizeOf (p .code)) (start + width)) [ true ↦ breaksFrom width ps start | false ↦ p .place ∷ breaksFrom width ps (p .place) ]
 
--- our breaks of the whole text: its first line begins at 0
+-- our breaks of the whole text: its first line begins at 0. Where a code is longer than the width they are not given: 31 comes first.
 unfoldable pub ours : Reader → (text : List ℕ) → (width : ℕ) → List ℕ
 ours r text width = breaksFrom width (placed r text) 0
 
