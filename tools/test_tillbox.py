@@ -118,6 +118,20 @@ def stopped(policy, place, code, kind, where="byte", checkpoint=None):
     return [f"stopped by policy {policy} at {where} {place}, counted from 0: {code}, {kind}", *how_to_go_on(checkpoint)]
 
 
+def other_run(what, asked):
+    """What is said of a line of another direction or page."""
+    return [
+        "error 13: the run is of the other direction or of another page (checkpoint)",
+        f"  the line is of a run {what}; asked for is {asked}",
+        "  Name the command and the table that the checkpoint was begun with, or another checkpoint.",
+    ]
+
+
+def more_input(read_total, total, where="byte"):
+    """What is said of a run that has ended where there is more input."""
+    return f"  it has read {read_total} of the {total} {where}s that are there now"
+
+
 def stopped_before(policy, place, where="byte", checkpoint="checkpoint"):
     """The same where the run of the checkpoint had stopped in an earlier call."""
     return [f"stopped by policy {policy}; the next unread {where} is at {place}, counted from 0", *how_to_go_on(checkpoint)]
@@ -147,6 +161,68 @@ def test_help_goes_to_standard_output():
             raise AssertionError(f"help without {part!r}")
 
 
+def test_man_page_has_the_calls_of_help():
+    """The synopsis of man/tillbox.1 is, line by line, the list of calls that `tillbox help` begins with."""
+    help_text = subprocess.run([PROGRAM, "help"], capture_output=True).stdout.decode()
+    calls = [line[2:] for line in help_text.split("\n\n")[1].split("\n")]
+    with open(os.path.join(ROOT, "man", "tillbox.1"), encoding="utf-8") as page:
+        text = page.read()
+    synopsis = text.split(".SH SYNOPSIS\n.nf\n")[1].split("\n.fi\n")[0].split("\n")
+    equal(synopsis, calls, "the synopsis of the man page")
+    for command in ("decode", "encode", "import", "preview", "shape"):
+        if f".B {command}\n" not in text:
+            raise AssertionError(f"the man page does not tell of {command}")
+
+
+def test_other_words_for_help_and_the_version():
+    help_text = subprocess.run([PROGRAM, "help"], capture_output=True).stdout
+    for word in ("--help", "-h"):
+        got = subprocess.run([PROGRAM, word], capture_output=True)
+        equal((got.stdout, got.stderr), (help_text, b""), word)
+    got = subprocess.run([PROGRAM, "--version"], capture_output=True)
+    equal(got.stdout, b"tillbox, by document 01 with the change requests 1, 2, 4, 5, 6, 10 and 12\n", "the version")
+
+
+def test_a_byte_order_mark_is_told():
+    """It is a character of the text: page 932 has none for it, so it is replaced. In the middle it is not told."""
+    note = "note: the ledger begins with a byte order mark (FEFF), which is encoded as a character"
+    write("units", units_text(0xFEFF, 0x41))
+    tillbox("encode", "cp932.tbl", "units", "receipt", says=[note, *encoded(2, 2, flags="undefined single")])
+    equal(read("receipt"), b"?A", "the receipt")
+    tillbox("preview", "cp932.tbl", "units", "receipt", says=[note, *previewed(2, 2, 1, flags="undefined single")])
+    said = tillbox("preview", "width", "9", "cp932.tbl", "units", "receipt")
+    equal((said.count(note), read("receipt")), (1, b"?A\n"), "the note, and the receipt in lines")
+    write("units", units_text(0x41, 0xFEFF))
+    tillbox("encode", "cp932.tbl", "units", "receipt", says=encoded(2, 2, flags="undefined single"))
+
+
+def test_output_that_can_not_be_made_safe():
+    """A device and a pipe are no error; a full device is."""
+    write("journal", b"tea\n")
+    tillbox("decode", "cp932.tbl", "journal", "/dev/null", says=summary(4, 4))
+    got = subprocess.run([PROGRAM, "decode", "cp932.tbl", "journal", "/dev/stdout"], capture_output=True)
+    equal(got.stdout, "tea\n".encode("utf-16le") + b"done\n", "the ledger in a pipe")
+    said = tillbox("decode", "cp932.tbl", "journal", "/dev/full", word="failed")
+    equal(said, "tillbox: error: cannot write /dev/full: No space left on device\n", "a full device")
+
+
+def test_closed_descriptors():
+    """No message is written into a file of the job, whichever of the three descriptors are closed."""
+    write("journal", b"A\x93\xfa\n")
+    wanted = "A\u65e5\n".encode("utf-16le")
+    for closed in ((1,), (2,), (0,), (1, 2), (0, 1), (0, 2), (0, 1, 2)):
+        words = " ".join(f"{n}<&-" for n in closed)
+        for names, checkpoint in (("ledger", None), ("ledger checkpoint", "checkpoint")):
+            for name in ("ledger", "checkpoint"):
+                if os.path.exists(name):
+                    os.remove(name)
+            subprocess.run(["bash", "-c", f'exec "$0" decode last cp932.tbl journal {names} {words}', PROGRAM], stdout=subprocess.DEVNULL, stderr=subprocess.DEVNULL)
+            equal(read("ledger"), wanted, f"the ledger with {closed} closed")
+            if checkpoint:
+                equal(read("checkpoint"), line("D 932 550 - 0 4 3 over"), f"the line with {closed} closed")
+            equal(read("journal"), b"A\x93\xfa\n", f"the journal with {closed} closed")
+
+
 NO_WORDS = "preview takes no policy and no last: it encodes the whole ledger, under policy 555"
 NO_WIDTH = "a width is a number of 1 to 65,536"
 
@@ -155,8 +231,7 @@ def misused(words, text):
     """A call that fails for its words says what is wrong with them, and how to call."""
     said = tillbox(*words, word="failed")
     equal(said.split("\n")[0], f"tillbox: error: {text}", f"first line of {words}")
-    if "  tillbox preview [width N] TABLE LEDGER RECEIPT\n" not in said:
-        raise AssertionError(f"{words} does not say how to call")
+    equal(said.split("\n")[1:], ["tillbox: the words of a call: tillbox help", ""], f"the lines after it of {words}")
 
 
 def test_misuse_says_how_to_call():
@@ -269,19 +344,18 @@ def test_names_are_apart():
 def test_policies_that_are_not_allowed():
     write("ledger", b"A\0")
     text = "error 17: the page is 0, or a policy digit is not allowed (policy)"
-    refused("encode", "policy", "600", "cp932.tbl", "ledger", "receipt", says=[text])
-    refused("encode", "policy", "600", "cp932.tbl", "ledger", "receipt", "checkpoint", says=[text])
-    refused("decode", "policy", "565", "cp932.tbl", "journal", "ledger", says=[text])
-    refused("decode", "policy", "755", "cp932.tbl", "journal", "ledger", says=[text])
+    encoding = [text, "  the digits are 600; each is 0 to 5"]
+    refused("encode", "policy", "600", "cp932.tbl", "ledger", "receipt", says=encoding)
+    refused("encode", "policy", "600", "cp932.tbl", "ledger", "receipt", "checkpoint", says=encoding)
+    for digits in ("565", "755"):
+        refused("decode", "policy", digits, "cp932.tbl", "journal", "ledger", says=[text, f"  the digits are {digits}; each is 0 to 5, and the first may be 6"])
 
 
 def test_checkpoint_of_another_page_or_direction():
     write("ledger", b"kept")
-    other = "error 13: the run is of the other direction or of another page (checkpoint)"
-    write("checkpoint", line("D 936 555 - 0 4 2 on"))
-    refused("decode", "cp932.tbl", "journal", "ledger", "checkpoint", says=[other])
-    write("checkpoint", line("E 932 555 - 0 1 2 on"))
-    refused("decode", "cp932.tbl", "journal", "ledger", "checkpoint", says=[other])
+    for text, what in (("D 936 555 - 0 4 2 on", "decoding page 936"), ("E 932 555 - 0 1 2 on", "encoding page 932")):
+        write("checkpoint", line(text))
+        refused("decode", "cp932.tbl", "journal", "ledger", "checkpoint", says=other_run(what, "decoding page 932"))
 
 
 def test_checkpoint_beyond_the_end():
@@ -314,8 +388,16 @@ def test_ended_run():
     nothing = "nothing to do: the run of the checkpoint has ended"
     tillbox("decode", "last", "cp932.tbl", "journal", "ledger", "checkpoint", says=[nothing] + summary(5, 5))
     equal(read("ledger"), "total".encode("utf-16le"), "the ledger")
+    # its ledger is looked at as that of a run that goes on
+    for damaged, text in ((b"t\0o\0t\0a\0l", "error: ledger: it is shorter than the checkpoint says"), (None, "error: cannot open ledger: No such file or directory")):
+        write("ledger", damaged) if damaged is not None else remove("ledger")
+        refused("decode", "last", "cp932.tbl", "journal", "ledger", "checkpoint", says=[text])
+    write("ledger", "total".encode("utf-16le") + b"more")
+    tillbox("decode", "last", "cp932.tbl", "journal", "ledger", "checkpoint", says=[nothing] + summary(5, 5))
+    equal(read("ledger"), "total".encode("utf-16le"), "the ledger, cut to its line")
     write("journal", b"total!")
-    refused("decode", "last", "cp932.tbl", "journal", "ledger", "checkpoint", says=["error 15: the run has ended (checkpoint)"] + summary(5, 5))
+    says = ["error 15: the run has ended (checkpoint)", more_input(5, 6), "  To convert all of them, remove checkpoint and call again."]
+    refused("decode", "last", "cp932.tbl", "journal", "ledger", "checkpoint", says=says + summary(5, 5))
 
 
 def test_ledger_shorter_than_its_checkpoint():
@@ -499,7 +581,7 @@ def test_how_to_go_on_after_a_stop():
         tillbox("decode", "last", *policy, *words, word="stopped", says=[nothing, *says])
     write("journal", b"tea \x82\n120\n")
     for policy in ((), ("policy", "555")):
-        refused("decode", "last", *policy, *words, says=["error 15: the run has ended (tea.line)", *says])
+        refused("decode", "last", *policy, *words, says=["error 15: the run has ended (tea.line)", more_input(5, 10), *says])
     # what the program said: without the line, under 555
     remove("tea.line")
     tillbox("decode", "last", "policy", "555", *words, says=summary(10, 10, flags="invalid"))
@@ -516,7 +598,7 @@ def test_how_to_go_on_after_a_stop():
     says = encoded(2, 1, flags="invalid, stopped", stop=stopped_before("550", 2, "unit"))
     tillbox(*words, word="stopped", says=[nothing, *says])
     write("units", units_text(0x41, 0xDE00, 0x42))
-    refused(*words, says=["error 15: the run has ended (checkpoint)", *says])
+    refused(*words, says=["error 15: the run has ended (checkpoint)", more_input(2, 3, "unit"), *says])
     remove("checkpoint")
     tillbox("encode", "last", "policy", "555", *words[2:], says=encoded(3, 3, flags="invalid"))
     equal(read("receipt"), b"A?B", "the receipt")
@@ -883,9 +965,8 @@ def test_checkpoints_with_a_unit():
         write("checkpoint", line("D 932 555 " + text))
         refused("decode", "cp932.tbl", "journal", "ledger", "checkpoint", says=["error 18: not a saved line (checkpoint)"])
     write("checkpoint", line("E 932 555 D83D 0 2 1 on"))
-    other = "error 13: the run is of the other direction or of another page (checkpoint)"
-    refused("encode", "cp1252.tbl", "ledger", "receipt", "checkpoint", says=[other])
-    refused("decode", "cp932.tbl", "journal", "receipt", "checkpoint", says=[other])
+    refused("encode", "cp1252.tbl", "ledger", "receipt", "checkpoint", says=other_run("encoding page 932", "encoding page 1252"))
+    refused("decode", "cp932.tbl", "journal", "receipt", "checkpoint", says=other_run("encoding page 932", "decoding page 932"))
     # a unit whose halves are no lead bytes of the page, and a line that an older tillbox saved
     write("checkpoint", line("E 932 555 D841 0 2 1 on"))
     tillbox("encode", "last", "cp932.tbl", "ledger", "receipt", "checkpoint", says=encoded(3, 2, flags="undefined single"))
@@ -1152,7 +1233,7 @@ def test_import_refused():
         (["cp932.tbl", "journal", "journal"], [f"error: journal: {twice}"]),
         (["cp932.tbl", "journal", "cp932.tbl"], [f"error: cp932.tbl: {twice}"]),
         (["cp932.tbl", "", "records"], ["error: the name of a file is empty or too long"]),
-        (["policy", "565", "cp932.tbl", "journal", "records"], ["error 17: the page is 0, or a policy digit is not allowed (policy)"]),
+        (["policy", "565", "cp932.tbl", "journal", "records"], ["error 17: the page is 0, or a policy digit is not allowed (policy)", "  the digits are 565; each is 0 to 5, and the first may be 6"]),
         (
             ["class.tbl", "journal", "records"],
             ["error 10: the shape of the tables is not good (class.tbl)", "  the first bad place: the class at FF is none of 0, 1, 2, 4, 5, 6"],

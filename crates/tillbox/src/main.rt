@@ -1,6 +1,7 @@
 // tillbox: converts whole files between a till's code page bytes and UTF-16LE, with checkpoints, imports a journal's records, and
 // previews a receipt.
 // What is said goes to standard error; standard output has one last word: done, stopped or failed.
+mod descriptors;
 mod files;
 mod options;
 mod usage;
@@ -23,12 +24,14 @@ fn say_ending(ending: Ending) {
     ;
 }
 
-// Says what is wrong with the words of the call, and what can be called.
+// Says what is wrong with the words of the call, and where the right ones are.
 fn misused(what: &[u8]) -> Ending {
     io::write_all(STDERR_FILENO, b"tillbox: error: ");
     io::write_all(STDERR_FILENO, what);
-    io::write_all(STDERR_FILENO, b"\n");
-    usage::put(STDERR_FILENO);
+    io::write_all(
+        STDERR_FILENO,
+        b"\ntillbox: the words of a call: tillbox help\n",
+    );
     Ending::Failed
 }
 
@@ -151,9 +154,25 @@ fn command() -> Ending {
     misused(b"no such command")
 }
 
-fn main() {
+// Whether help is asked for, by its word or as other programs are asked.
+fn asks_help() -> bool {
     if options::is_word(1, b"help") {
+        return true;
+    }
+    if options::is_word(1, b"--help") {
+        return true;
+    }
+    options::is_word(1, b"-h")
+}
+
+fn main() {
+    descriptors::open_closed();
+    if asks_help() {
         usage::put(STDOUT_FILENO);
+        return;
+    }
+    if options::is_word(1, b"--version") {
+        usage::put_version(STDOUT_FILENO);
         return;
     }
     say_ending(command());

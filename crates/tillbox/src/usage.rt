@@ -12,6 +12,14 @@ pub fn put(fd: i32) {
     put_ending(fd);
 }
 
+// Which rules the program has.
+pub fn put_version(fd: i32) {
+    io::write_all(
+        fd,
+        b"tillbox, by document 01 with the change requests 1, 2, 4, 5, 6, 10 and 12\n",
+    );
+}
+
 // The commands, a line each.
 fn put_commands(fd: i32) {
     io::write_all(
@@ -25,7 +33,7 @@ fn put_commands(fd: i32) {
     io::write_all(fd, b"  tillbox import [policy DDD] TABLE JOURNAL RECORDS\n");
     io::write_all(fd, b"  tillbox preview [width N] TABLE LEDGER RECEIPT\n");
     io::write_all(fd, b"  tillbox shape TABLE\n");
-    io::write_all(fd, b"  tillbox help\n\n");
+    io::write_all(fd, b"  tillbox help, --version\n\n");
 }
 
 // The files, and what the digits of a policy do.

@@ -10,6 +10,7 @@ use convert::Run;
 use convert::Started;
 use image::Loaded;
 use tillbox_jobs::job::Ending;
+use tillbox_jobs::job::closed;
 use tillbox_jobs::job::named_twice;
 use tillbox_jobs::stops::is_stopped;
 use tillbox_jobs::tables;
@@ -136,8 +137,7 @@ fn with_run(
         input,
         output,
     );
-    libc::close(target);
-    ending
+    closed(ending, target, output)
 }
 
 // From an open journal on.
@@ -166,6 +166,7 @@ fn with_input(
     match started {
         Started::Refused => {
             messages::refuse(17, b"policy");
+            tillbox_jobs::report::digits_refused(policy, Direction::Decoding);
             Ending::Failed
         }
         Started::Accepted(run) => with_run(

@@ -9,6 +9,7 @@ use codepage::Numbers;
 use convert::Direction;
 use convert::Outcome;
 use convert::Run;
+use tillbox_printing::mark::note_mark;
 use tillbox_printing::replaced::replaced_in;
 use tillbox_storage::checkpoints;
 use tillbox_storage::files;
@@ -187,6 +188,7 @@ fn encode_units(
     input: &[u8],
     output: &[u8],
 ) -> Turn {
+    note_mark(run, units);
     let mut bytes = [0u8; 2048];
     let outcome = convert::encode(
         run,

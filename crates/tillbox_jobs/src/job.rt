@@ -197,8 +197,7 @@ fn with_run(
             input,
             output,
         );
-        libc::close(target);
-        return printed(page);
+        return closed(printed(page), target, output);
     }
     if job.saves {
         files::sync_folder(output);
@@ -219,13 +218,28 @@ fn with_run(
         output,
         checkpoint,
     );
-    let ending = finished(job, turn, target, output, checkpoint);
-    libc::close(target);
-    ending
+    closed(
+        finished(job, turn, target, output, checkpoint),
+        target,
+        output,
+    )
 }
 
-// The end of a job whose run had ended before.
-fn nothing_to_do(run: Run, checkpoint: &[u8]) -> Ending {
+// How a job ends whose output is made safe and closed.
+pub fn closed(ending: Ending, target: i32, output: &[u8]) -> Ending {
+    if files::finish(target, output) {
+        return ending;
+    }
+    Ending::Failed
+}
+
+// The end of a job whose run had ended before: its output is looked at as that of one that goes on.
+fn nothing_to_do(run: Run, output: &[u8], checkpoint: &[u8]) -> Ending {
+    let target = open_target(run, true, output);
+    if target < 0 {
+        return Ending::Failed;
+    }
+    libc::close(target);
     messages::say(b"tillbox: nothing to do: the run of the checkpoint has ended\n");
     told(run, stops::none(), checkpoint)
 }
@@ -276,7 +290,7 @@ fn with_total(
             output,
             checkpoint,
         ),
-        Origin::Finished(run) => nothing_to_do(run, checkpoint),
+        Origin::Finished(run) => nothing_to_do(run, output, checkpoint),
         Origin::Failed => Ending::Failed,
     }
 }

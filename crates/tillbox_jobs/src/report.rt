@@ -186,6 +186,59 @@ fn say_stop(run: Run, stop: Stop, checkpoint: &[u8]) {
     }
 }
 
+// Decoding or encoding, in words.
+fn say_direction(direction: Direction) {
+    match direction {
+        Direction::Decoding => say(b"decoding"),
+        Direction::Encoding => say(b"encoding"),
+    }
+}
+
+// Says of which direction and page the run of a line is, which are asked for, and what to do.
+pub fn other_run(run: Run, asked: Direction, page: u16) {
+    let direction = run.direction;
+    say(b"  the line is of a run ");
+    say_direction(direction);
+    say(b" page ");
+    say_number(run.page as u64);
+    say(b"; asked for is ");
+    say_direction(asked);
+    say(b" page ");
+    say_number(page as u64);
+    say(
+        b"\n  Name the command and the table that the checkpoint was begun with, or another checkpoint.\n",
+    );
+}
+
+// Says which digits are not allowed, and which are.
+pub fn digits_refused(policy: Policy, direction: Direction) {
+    say(b"  the digits are ");
+    say_policy(policy);
+    say(b"; each is 0 to 5");
+    if let Direction::Decoding = direction {
+        say(b", and the first may be 6");
+    }
+    say(b"\n");
+}
+
+// Says that there is more input than a run that has ended was given. Where it was stopped, the summary says what to do.
+pub fn more_input(run: Run, total: u64, checkpoint: &[u8]) {
+    let direction = run.direction;
+    say(b"  it has read ");
+    say_number(run.read);
+    say(b" of the ");
+    say_number(total);
+    say(b" ");
+    say_input_unit(direction);
+    say(b"s that are there now\n");
+    if stops::is_stopped(run) {
+        return;
+    }
+    say(b"  To convert all of them, remove ");
+    say(checkpoint);
+    say(b" and call again.\n");
+}
+
 // The summary of a run, and how to go on where it was stopped. The name of the checkpoint is empty where there is none.
 pub fn summary(run: Run, stop: Stop, checkpoint: &[u8]) {
     let pending = run.pending;

@@ -38,6 +38,7 @@ fn fresh(job: Job, page: u16) -> Origin {
         }),
         Started::Refused => {
             messages::refuse(17, b"policy");
+            report::digits_refused(policy, direction);
             Origin::Failed
         }
     }
@@ -143,6 +144,7 @@ fn ended(run: Run, total: u64, path: &[u8]) -> Origin {
         return beyond(path);
     }
     messages::refuse(15, path);
+    report::more_input(run, total, path);
     report::summary(run, stops::none(), path);
     Origin::Failed
 }
@@ -178,6 +180,9 @@ fn resumed(
         return ended(run, total, path);
     }
     messages::refuse(number, path);
+    if number == 13 {
+        report::other_run(run, direction, numbers.page);
+    }
     Origin::Failed
 }
 

@@ -2,6 +2,7 @@
 // Every printed line is closed by a line feed. What is decided about the text is decided by the calls of `convert` and `linebreak`.
 mod breaking;
 mod lines;
+pub mod mark;
 mod page;
 pub mod replaced;
 
@@ -36,6 +37,8 @@ fn next_block(
     }
     let mut units = [0u16; 512];
     let length = tillbox_layout::utf16::to_units(&block[..count], &mut units);
+    let run = page.run;
+    mark::note_mark(run, &units[..length]);
     lines::put_units(
         page,
         numbers,

@@ -1,6 +1,7 @@
 // Files: opening, sizes, places, blocks.
 ghost use Rattle.io.specs.Counts.{Counts};
 use crate::messages;
+use libc::EINVAL;
 use libc::SEEK_END;
 use libc::SEEK_SET;
 
@@ -82,6 +83,28 @@ pub fn sync(fd: i32, path: &[u8]) -> bool {
         return false;
     }
     true
+}
+
+// Waits until all that was written is safe, where it can be: a pipe or a device has nothing to make safe (EINVAL).
+fn settle(fd: i32, path: &[u8]) -> bool {
+    if libc::fsync(fd) < 0 {
+        if os::errno() == EINVAL {
+            return true;
+        }
+        messages::cannot(b"sync", path);
+        return false;
+    }
+    true
+}
+
+// Makes an output safe and closes it. Where one of both failed the reason was said.
+pub fn finish(fd: i32, path: &[u8]) -> bool {
+    let safe = settle(fd, path);
+    if libc::close(fd) < 0 {
+        messages::cannot(b"close", path);
+        return false;
+    }
+    safe
 }
 
 // The length of the folder's part of a path, with the slash at its end; 0 where it has none.
