@@ -1,0 +1,5 @@
+pub mod Index
+pub mod Calls
+pub mod Steps
+pub mod Claims
+pub mod Examples
