@@ -36,6 +36,15 @@ expect() {
     [ "$("$tillbox" "$@")" = "$word" ] || fail "tillbox did not end with '$word'"
 }
 
+# Expects these records, a format of printf, in records.csv, with the mark of UTF-16LE in front, and shows them.
+expect_records() {
+    printf '\377\376' > wanted
+    # shellcheck disable=SC2059
+    printf "$1" | iconv -f UTF-8 -t UTF-16LE >> wanted
+    cmp records.csv wanted || fail "the records are others"
+    iconv -f UTF-16 -t UTF-8 records.csv | sed 's/^/   /'
+}
+
 cut=1703
 journal=$root/samples/journal.cp932
 size=$(stat -c %s "$journal")
@@ -70,10 +79,7 @@ echo "== 4. An import: bars part fields. The second byte of this word's second c
 printf '0001|\203\214\203|\201[\203g|300\n0002|tea, green|120\n' > night
 od -An -tx1 -N18 night
 expect done import "$table" night records.csv
-printf '\377\376' > wanted
-printf '0001,レポート,300\r\n0002,"tea, green",120\r\n' | iconv -f UTF-8 -t UTF-16LE >> wanted
-cmp records.csv wanted || fail "the records are others"
-iconv -f UTF-16 -t UTF-8 records.csv | sed 's/^/   /'
+expect_records '0001,レポート,300\r\n0002,"tea, green",120\r\n'
 
 echo
 echo "== 5. A damaged night: the first half of a character was broken off before a line feed. A ledger stops there:"
@@ -83,10 +89,7 @@ printf '0001|tea ' | iconv -f UTF-8 -t UTF-16LE > wanted
 cmp ledger wanted || fail "the ledger is not what comes before the broken byte"
 echo "   The import asks for policy 555, gets through, and says its flags:"
 expect done import "$table" night records.csv
-printf '\377\376' > wanted
-printf '0001,tea ・\r\n0002,rice,120\r\n' | iconv -f UTF-8 -t UTF-16LE >> wanted
-cmp records.csv wanted || fail "the records are others"
-iconv -f UTF-16 -t UTF-8 records.csv | sed 's/^/   /'
+expect_records '0001,tea ・\r\n0002,rice,120\r\n'
 
 echo
 echo "== 6. The preview of a receipt: the page has no emoji, and each is one replacement:"

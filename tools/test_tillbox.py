@@ -1399,7 +1399,8 @@ def test_preview_of_random_ledgers():
             equal(read("encoded"), wanted, f"what encode makes of {size} units on {name}")
 
 
-def test_preview_refused():
+def preview_refused(*width):
+    """What is refused of a preview, with the words before the names."""
     write("ledger", units_text(0x41))
     write("receipt", b"kept")
     missing = "No such file or directory"
@@ -1425,10 +1426,14 @@ def test_preview_refused():
             ["error 10: the shape of the tables is not good (class.tbl)", "  the first bad place: the class at FF is none of 0, 1, 2, 4, 5, 6"],
         ),
     ]:
-        refused("preview", *words, says=says)
+        refused("preview", *width, *words, says=says)
     with open("huge", "wb") as file:
         file.truncate(2 * 4294967296)
-    refused("preview", "cp932.tbl", "huge", "receipt", says=["error 16: the input has over 4,294,967,295 units (huge)"])
+    refused("preview", *width, "cp932.tbl", "huge", "receipt", says=["error 16: the input has over 4,294,967,295 units (huge)"])
+
+
+def test_preview_refused():
+    preview_refused()
 
 
 def test_preview_that_can_not_write():
@@ -1642,29 +1647,7 @@ def test_preview_of_random_ledgers_with_a_width():
 
 
 def test_preview_with_a_width_refused():
-    write("ledger", units_text(0x41))
-    write("receipt", b"kept")
-    missing = "No such file or directory"
-    write("odd", b"A\0B")
-    image = bytearray(read("cp932.tbl"))
-    image[28 + 0xFF] = 3
-    write("class.tbl", image)
-    for words, says in [
-        (["none.tbl", "ledger", "receipt"], [f"error: cannot open none.tbl: {missing}"]),
-        (["cp932.tbl", "none", "receipt"], [f"error: cannot open none: {missing}"]),
-        (["cp932.tbl", "ledger", "none/receipt"], [f"error: cannot make none/receipt: {missing}"]),
-        (["cp932.tbl", "odd", "receipt"], ["error: odd: an odd number of bytes is no text of UTF-16 units"]),
-        (["cp932.tbl", "ledger", "ledger"], ["error: ledger: two of the files have this name"]),
-        (["cp932.tbl", "", "receipt"], ["error: the name of a file is empty or too long"]),
-        (
-            ["class.tbl", "ledger", "receipt"],
-            ["error 10: the shape of the tables is not good (class.tbl)", "  the first bad place: the class at FF is none of 0, 1, 2, 4, 5, 6"],
-        ),
-    ]:
-        refused("preview", "width", "32", *words, says=says)
-    with open("huge", "wb") as file:
-        file.truncate(2 * 4294967296)
-    refused("preview", "width", "32", "cp932.tbl", "huge", "receipt", says=["error 16: the input has over 4,294,967,295 units (huge)"])
+    preview_refused("width", "32")
 
 
 def test_preview_with_a_width_that_can_not_write():

@@ -653,15 +653,6 @@ def wrong_converters():
     def carried_at_written(run):
         return right["keeps_run_rules"](converter.replace(run, written=max(run.written - 1, 0)))
 
-    def wrapping_number(field):
-        value = right["plain_number"](field)
-        if value is None and re.fullmatch(rb"[1-9][0-9]*", field):
-            value = int(field[:4000])
-        return None if value is None else value % 2**64
-
-    def spare_zeros(field):
-        return int(field) if re.fullmatch(rb"[0-9]{1,20}", field) else None
-
     def page_one_refused(direction, page, digits):
         return 17 if page == 1 else right["start_call"](direction, page, digits)
 
@@ -687,8 +678,7 @@ def wrong_converters():
         ("257 blocks are good", "shape_report", more_blocks),
         ("written has 32 bits", "keeps_run_rules", written_below_limit),
         ("written may be one more", "keeps_run_rules", carried_at_written),
-        ("numbers wrap at 64 bits", "plain_number", wrapping_number),
-        ("spare zeros are read", "plain_number", spare_zeros),
+        *wrong_numbers(right),
         ("page 1 is refused", "start_call", page_one_refused),
         ("6 is allowed for encoding", "digits_allowed", six_for_encoding),
         ("the second digit of an encoding run is not checked", "digits_allowed", first_digit_only),
@@ -1578,15 +1568,6 @@ def wrong_break_converters():
             self.byte_text = self.part_of(self.byte_text, start, count)
             return answer
 
-    def wrapping_number(field):
-        value = right["plain_number"](field)
-        if value is None and re.fullmatch(rb"[1-9][0-9]*", field):
-            value = int(field[:4000])
-        return None if value is None else value % 2**64
-
-    def spare_zeros(field):
-        return int(field) if re.fullmatch(rb"[0-9]{1,20}", field) else None
-
     wide = [
         (f"the width has {title}", change)
         for title, change in (("8 bits", lambda width: width % 2**8), ("16 bits", lambda width: width % 2**16),
@@ -1705,8 +1686,7 @@ def wrong_break_converters():
         ("30 before 11", "breaks_call", width_first("breaks_call", 30)),
         ("301 breaks are a command", "BREAKS_LIMIT", 301),
         ("300 breaks are no command", "BREAKS_LIMIT", 299),
-        ("numbers wrap at 64 bits", "plain_number", wrapping_number),
-        ("spare zeros are read", "plain_number", spare_zeros),
+        *wrong_numbers(right),
     )
 
 
@@ -1715,6 +1695,21 @@ def answers_otherwise(commands, answers):
     console, expected = converter.Console(FOLDERS), iter(answers.decode("ascii").splitlines())
     got = filter(None, map(console.answer, converter.script_lines(commands)))
     return any(left != right for left, right in itertools.zip_longest(got, expected))
+
+
+def wrong_numbers(right):
+    """Wrong readers of a decimal number, for any wrong console: the right functions are handed in."""
+
+    def wrapping_number(field):
+        value = right["plain_number"](field)
+        if value is None and re.fullmatch(rb"[1-9][0-9]*", field):
+            value = int(field[:4000])
+        return None if value is None else value % 2**64
+
+    def spare_zeros(field):
+        return int(field) if re.fullmatch(rb"[0-9]{1,20}", field) else None
+
+    return (("numbers wrap at 64 bits", "plain_number", wrapping_number), ("spare zeros are read", "plain_number", spare_zeros))
 
 
 def expect_found_out(wrong_ones, names):
