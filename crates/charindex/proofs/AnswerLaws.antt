@@ -14,57 +14,18 @@ use Rattle.codepage.specs.CodePage.{CodePage, GoodShape, entryAt, firstFault, i
 use Rattle.codepage.specs.Reading.{sizeOf}
 use Rattle.codepage.proofs.ShapeLaws.{shape-exact}
 use Rattle.convert.specs.Runs.{pieceLimit}
+use Rattle.codepage_walk.specs.Checks.{refuseUnless, bytesReader, TextPasses, TextFails}
+use Rattle.codepage_walk.proofs.CheckLaws.{refused-exact, passed-exact, text-cases, not-good}
 use Rattle.codepage_walk.specs.Walk.{Placed, placed}
 use Rattle.charindex.specs.declared.Refusal.{Refusal}
 use Rattle.charindex.specs.declared.Refusal.the-variants.{BadShape, TooLong, FormerTooLong, BadIndex, NoSuchCode}
 use Rattle.charindex.specs.declared.Appended.the-variants as appended
 use Rattle.charindex.specs.declared.Found.the-variants as found
 use Rattle.charindex.specs.Index.{countOf, blocksOf, appendOf, codeNumber, findOf}
-use Rattle.charindex.specs.Calls.{check, bytesReader, countsWithin, appendRefusal, appendUnless, appendingOf, foundOr29, findingOf}
-use Rattle.charindex.specs.Claims.{Right, JournalPasses, OverCounted, AppendSays, AppendPasses, FindPasses, FindSays}
+use Rattle.charindex.specs.Calls.{countsWithin, appendRefusal, appendUnless, appendingOf, foundOr29, findingOf}
+use Rattle.charindex.specs.Claims.{Right, OverCounted, AppendSays, AppendPasses, FindPasses, FindSays}
 use Rattle.charindex.proofs.CallLaws.{find-bad, find-long, find-short, find-given, append-bad, append-long, append-former, append-short, append-rest}
 use Rattle.charindex.proofs.Theorems.{find-right, append-right, right-within, number-none}
-
--- ---- a chain of checks: the cases that are met one by one are exact where one of them holds
-module _ (Says : Refusal → Type 0) (Passes : Type 0) (o : Option Refusal) (refused : (why : Refusal) → Says why → o ≡ some why) (passed : Passes → o ≡ none)
-    (cases : ((why : Refusal) × Says why) ⊎ Passes) where
-  refused-exact : (why : Refusal) → (o ≡ some why) ↔ Says why
-  refused-exact why = (λ e. by e cases, refused why)
-    where
-      by : o ≡ some why → ((why : Refusal) × Says why) ⊎ Passes → Says why
-      by e (inl (other, h)) =
-          let q : some other ≡ some why = sym (refused other h) ∙ e in
-          let same : other ≡ why = cc in
-          subst Says same h
-      by e (inr h) =
-          let q : none ≡ some why = sym (passed h) ∙ e in
-          absurd (let z : _≡_ {A = ℕ} 0 1 = cc in omega arith)
-
-  passed-exact : (o ≡ none) ↔ Passes
-  passed-exact = (λ e. by e cases, passed)
-    where
-      by : o ≡ none → ((why : Refusal) × Says why) ⊎ Passes → Passes
-      by e (inl (other, h)) =
-          let q : none ≡ some other = sym e ∙ refused other h in
-          absurd (let z : _≡_ {A = ℕ} 0 1 = cc in omega arith)
-      by e (inr h) = h
-
--- a journal that passes 10 and 11, or not
-journal-cases : (p : CodePage) (journal : List ℕ) → ((GoodShape p → ⊥) ⊎ (GoodShape p × (pieceLimit < length journal))) ⊎ JournalPasses p journal
-journal-cases p journal = by (isGood (firstFault p)) (leb (length journal) pieceLimit) refl refl
-  where
-    by : (a b : Bool) → isGood (firstFault p) ≡ a → leb (length journal) pieceLimit ≡ b
-        → ((GoodShape p → ⊥) ⊎ (GoodShape p × (pieceLimit < length journal))) ⊎ JournalPasses p journal
-    by false b e q = inl (inl (λ g. false≢true (sym e ∙ shape-exact p .1 g)))
-    by true false e q = inl (inr (shape-exact p .0 e, leb-false _ _ q))
-    by true true e q = inr (shape-exact p .0 e, leb-true _ _ q)
-
-not-good : (p : CodePage) → (GoodShape p → ⊥) → isGood (firstFault p) ≡ false
-not-good p h = by (isGood (firstFault p)) refl
-  where
-    by : (t : Bool) → isGood (firstFault p) ≡ t → isGood (firstFault p) ≡ false
-    by true e = absurd (h (shape-exact p .0 e))
-    by false e = e
 
 -- ---- finding
 module _ (p : CodePage) (journal entries : List ℕ) (n : ℕ) where
@@ -85,17 +46,17 @@ module _ (p : CodePage) (journal entries : List ℕ) (n : ℕ) where
   find-passes c = let ((g, h), s) = c .passes in find-given p journal entries n (shape-exact p .1 g) h s ∙ ap foundOr29 (c .found-it)
 
   find-cases : ((why : Refusal) × FindSays p journal entries n why) ⊎ CodeFound
-  find-cases = by (journal-cases p journal)
+  find-cases = by (text-cases p pieceLimit (length journal))
     where
       by-code : FindPasses p journal entries → (o : Option Placed) → findOf (bytesReader p) journal entries n ≡ o → ((why : Refusal) × FindSays p journal entries n why) ⊎ CodeFound
       by-code h none e = inl (NoSuchCode, (h, e))
       by-code h (some code) e = inr (record { passes = h; code = code; found-it = e })
 
-      by-size : JournalPasses p journal → (t : Bool) → leb (blocksOf (length journal)) (length entries) ≡ t → ((why : Refusal) × FindSays p journal entries n why) ⊎ CodeFound
+      by-size : TextPasses p pieceLimit (length journal) → (t : Bool) → leb (blocksOf (length journal)) (length entries) ≡ t → ((why : Refusal) × FindSays p journal entries n why) ⊎ CodeFound
       by-size h true e = by-code (h, leb-true _ _ e) (findOf (bytesReader p) journal entries n) refl
       by-size h false e = inl (BadIndex, (h, leb-false _ _ e))
 
-      by : ((GoodShape p → ⊥) ⊎ (GoodShape p × (pieceLimit < length journal))) ⊎ JournalPasses p journal → ((why : Refusal) × FindSays p journal entries n why) ⊎ CodeFound
+      by : TextFails p pieceLimit (length journal) ⊎ TextPasses p pieceLimit (length journal) → ((why : Refusal) × FindSays p journal entries n why) ⊎ CodeFound
       by (inl (inl h)) = inl (BadShape, h)
       by (inl (inr h)) = inl (TooLong, h)
       by (inr h) = by-size h (leb (blocksOf (length journal)) (length entries)) refl
@@ -163,10 +124,10 @@ module _ (p : CodePage) (journal : List ℕ) (former : ℕ) (entries : List ℕ)
           let same : block ≡ suc block - 1 = omega arith in
           inl (omega arith, subst (λ (b : ℕ). 512 * b < countOf (entryAt entries b)) same (leb-false _ _ e))
 
-  rest-false : countsWithin entries (blocksOf former) ≡ false → check BadIndex (countsWithin entries (blocksOf former)) none ≡ some BadIndex
+  rest-false : countsWithin entries (blocksOf former) ≡ false → refuseUnless BadIndex (countsWithin entries (blocksOf former)) none ≡ some BadIndex
   rest-false e = rw e
 
-  rest-true : countsWithin entries (blocksOf former) ≡ true → check BadIndex (countsWithin entries (blocksOf former)) none ≡ none
+  rest-true : countsWithin entries (blocksOf former) ≡ true → refuseUnless BadIndex (countsWithin entries (blocksOf former)) none ≡ none
   rest-true e = rw e
 
   append-says : (why : Refusal) → AppendSays p journal former entries why → appendRefusal p journal former entries ≡ some why
@@ -184,28 +145,28 @@ module _ (p : CodePage) (journal : List ℕ) (former : ℕ) (entries : List ℕ)
   append-passes : AppendPasses p journal former entries → appendRefusal p journal former entries ≡ none
   append-passes ((g, h), f, s, o) = append-rest p journal former entries (shape-exact p .1 g) h f s ∙ by (counted-cases (blocksOf former))
     where
-      by : OverCounted entries (blocksOf former) ⊎ (countsWithin entries (blocksOf former) ≡ true) → check BadIndex (countsWithin entries (blocksOf former)) none ≡ none
+      by : OverCounted entries (blocksOf former) ⊎ (countsWithin entries (blocksOf former) ≡ true) → refuseUnless BadIndex (countsWithin entries (blocksOf former)) none ≡ none
       by (inl over) = absurd (o over)
       by (inr e) = rest-true e
 
   append-cases : ((why : Refusal) × AppendSays p journal former entries why) ⊎ AppendPasses p journal former entries
-  append-cases = by (journal-cases p journal)
+  append-cases = by (text-cases p pieceLimit (length journal))
     where
-      by-count : JournalPasses p journal → former ≤ length journal → blocksOf (length journal) ≤ length entries
+      by-count : TextPasses p pieceLimit (length journal) → former ≤ length journal → blocksOf (length journal) ≤ length entries
           → OverCounted entries (blocksOf former) ⊎ (countsWithin entries (blocksOf former) ≡ true) → ((why : Refusal) × AppendSays p journal former entries why) ⊎ AppendPasses p journal former entries
       by-count h f s (inl o) = inl (BadIndex, (h, f, inr o))
       by-count h f s (inr e) = inr (h, f, s, λ o. false≢true (sym (over-counted (blocksOf former) o) ∙ e))
 
-      by-size : JournalPasses p journal → former ≤ length journal → (t : Bool) → leb (blocksOf (length journal)) (length entries) ≡ t
+      by-size : TextPasses p pieceLimit (length journal) → former ≤ length journal → (t : Bool) → leb (blocksOf (length journal)) (length entries) ≡ t
           → ((why : Refusal) × AppendSays p journal former entries why) ⊎ AppendPasses p journal former entries
       by-size h f true e = by-count h f (leb-true _ _ e) (counted-cases (blocksOf former))
       by-size h f false e = inl (BadIndex, (h, f, inl (leb-false _ _ e)))
 
-      by-former : JournalPasses p journal → (t : Bool) → leb former (length journal) ≡ t → ((why : Refusal) × AppendSays p journal former entries why) ⊎ AppendPasses p journal former entries
+      by-former : TextPasses p pieceLimit (length journal) → (t : Bool) → leb former (length journal) ≡ t → ((why : Refusal) × AppendSays p journal former entries why) ⊎ AppendPasses p journal former entries
       by-former h true e = by-size h (leb-true _ _ e) (leb (blocksOf (length journal)) (length entries)) refl
       by-former h false e = inl (FormerTooLong, (h, leb-false _ _ e))
 
-      by : ((GoodShape p → ⊥) ⊎ (GoodShape p × (pieceLimit < length journal))) ⊎ JournalPasses p journal → ((why : Refusal) × AppendSays p journal former entries why) ⊎ AppendPasses p journal former entries
+      by : TextFails p pieceLimit (length journal) ⊎ TextPasses p pieceLimit (length journal) → ((why : Refusal) × AppendSays p journal former entries why) ⊎ AppendPasses p journal former entries
       by (inl (inl h)) = inl (BadShape, h)
       by (inl (inr h)) = inl (TooLong, h)
       by (inr h) = by-former h (leb former (length journal)) refl
@@ -246,7 +207,7 @@ module _ (p : CodePage) (journal : List ℕ) (former : ℕ) (entries : List ℕ)
   )
 
   -- A RIGHT INDEX THAT IS LONG ENOUGH IS ACCEPTED.
-  pub right-passes : JournalPasses p journal → former ≤ length journal → blocksOf (length journal) ≤ length entries → Right (bytesReader p) (take former journal) entries → AppendPasses p journal former entries
+  pub right-passes : TextPasses p pieceLimit (length journal) → former ≤ length journal → blocksOf (length journal) ≤ length entries → Right (bytesReader p) (take former journal) entries → AppendPasses p journal former entries
   right-passes h f s right = (h, f, s, not-over)
     where
       size : length (take former journal) ≡ former
@@ -258,7 +219,7 @@ module _ (p : CodePage) (journal : List ℕ) (former : ℕ) (entries : List ℕ)
           omega arith
 
   -- A RIGHT INDEX APPENDED TO: the call leaves the index of the journal made anew, and says how many entries it has.
-  pub appends-anew : JournalPasses p journal → former ≤ length journal → blocksOf (length journal) ≤ length entries → Right (bytesReader p) (take former journal) entries
+  pub appends-anew : TextPasses p pieceLimit (length journal) → former ≤ length journal → blocksOf (length journal) ≤ length entries → Right (bytesReader p) (take former journal) entries
       → (appendingOf p journal former entries .answer ≡ appended.Entries (blocksOf (length journal))) × Right (bytesReader p) journal (appendingOf p journal former entries .entries)
   unfolding appendingOf
   appends-anew h f s right = rw (append-passes (right-passes h f s right)) (refl, append-right (bytesReader p) journal former entries f right s)

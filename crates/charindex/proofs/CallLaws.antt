@@ -11,6 +11,7 @@ use Rattle.codepage.specs.CodePage.{CodePage, entryAt, firstFault, isGood}
 use Rattle.codepage.specs.Reading.{Reader}
 use Rattle.codepage.proofs.ShapeLaws.{shape-exact}
 use Rattle.convert.specs.Runs.{pieceLimit}
+use Rattle.codepage_walk.specs.Checks.{refuseUnless, bytesReader}
 use Rattle.charindex.specs.declared.Start.{Start}
 use Rattle.charindex.specs.declared.Refusal.{Refusal}
 use Rattle.charindex.specs.declared.Refusal.the-variants.{BadShape, TooLong, FormerTooLong, BadIndex}
@@ -18,7 +19,7 @@ use Rattle.charindex.specs.declared.Appended.{Appended}
 use Rattle.charindex.specs.declared.Appended.the-variants as appended
 use Rattle.charindex.specs.declared.Found.the-variants as found
 use Rattle.charindex.specs.Index.{countOf, blocksOf, startAt, startAfter, appendOf, findOf}
-use Rattle.charindex.specs.Calls.{check, bytesReader, countsWithin, appendRefusal, Appending, appendUnless, appendingOf, AppendedAs, foundOr29, findRefusal, findingOf}
+use Rattle.charindex.specs.Calls.{countsWithin, appendRefusal, Appending, appendUnless, appendingOf, AppendedAs, foundOr29, findRefusal, findingOf}
 use Rattle.charindex.specs.Steps.{written, goingOn}
 
 -- tables of a good shape have 256 classes
@@ -74,7 +75,7 @@ module _ (p : CodePage) (journal : List ℕ) (former : ℕ) (entries : List ℕ)
         append-short s = rw (e, le-leb (length journal) pieceLimit h, le-leb former (length journal) f, lt-leb (blocksOf (length journal)) (length entries) s)
 
         -- all but the former last entry's count is checked
-        pub append-rest : blocksOf (length journal) ≤ length entries → appendRefusal p journal former entries ≡ check BadIndex (countsWithin entries (blocksOf former)) none
+        pub append-rest : blocksOf (length journal) ≤ length entries → appendRefusal p journal former entries ≡ refuseUnless BadIndex (countsWithin entries (blocksOf former)) none
         unfolding appendRefusal
         append-rest s = rw (e, le-leb (length journal) pieceLimit h, le-leb former (length journal) f, le-leb (blocksOf (length journal)) (length entries) s)
 
@@ -92,7 +93,7 @@ module _ (p : CodePage) (journal : List ℕ) (former : ℕ) (entries : List ℕ)
 -- ---- appending to an index that is long enough, by its former blocks
 abbrev onFrom : Reader → (journal : List ℕ) → (first : ℕ) → (entries : List ℕ) → Appending
 onFrom r journal first entries =
-    appendUnless (check BadIndex (countsWithin entries first) none) (blocksOf (length journal)) entries (written r journal (startAfter entries first) first entries)
+    appendUnless (refuseUnless BadIndex (countsWithin entries first) none) (blocksOf (length journal)) entries (written r journal (startAfter entries first) first entries)
 
 on-from : (r : Reader) (journal : List ℕ) (former : ℕ) (entries : List ℕ) → goingOn r journal former entries ≡ onFrom r journal (blocksOf former) entries
 unfolding goingOn appendOf written

@@ -6,10 +6,11 @@ use mathlib.Core.Path.{_≡_}
 use Prim.Native.Nat.{ℕ, zero, suc, _*_}
 use lib.Dec.{leb}
 use lib.ListN.{length}
-use Rattle.codepage.specs.CodePage.{CodePage, pick, entryAt, firstFault, isGood}
-use Rattle.codepage.specs.Reading.{Reader, sizeOf, decoder}
+use Rattle.codepage.specs.CodePage.{CodePage, entryAt}
+use Rattle.codepage.specs.Reading.{sizeOf}
 use Rattle.convert.specs.Runs.{pieceLimit}
 use Rattle.codepage_walk.specs.Walk.{Placed}
+use Rattle.codepage_walk.specs.Checks.{refuseUnless, textChecks, bytesReader}
 use Rattle.charindex.specs.declared.Refusal.{Refusal}
 use Rattle.charindex.specs.declared.Refusal.the-variants.{BadShape, TooLong, FormerTooLong, BadIndex, NoSuchCode}
 use Rattle.charindex.specs.declared.Appended.{Appended}
@@ -26,18 +27,6 @@ indexNumber FormerTooLong = 33
 indexNumber BadIndex = 28
 indexNumber NoSuchCode = 29
 
--- a check, and what comes after it
-abbrev pub check : Refusal → Bool → Option Refusal → Option Refusal
-check refusal holds next = pick holds next (some refusal)
-
--- Both calls check 10 and 11 first.
-abbrev pub journalChecks : CodePage → (journal : List ℕ) → Option Refusal → Option Refusal
-journalChecks p journal next = check BadShape (isGood (firstFault p)) (check TooLong (leb (length journal) pieceLimit) next)
-
--- the reader of the page's bytes
-abbrev pub bytesReader : CodePage → Reader
-bytesReader p = decoder (p .classes) (p .singles) (p .pairs)
-
 -- the index has an entry for each block of the journal
 abbrev pub longEnough : (journal entries : List ℕ) → Bool
 longEnough journal entries = leb (blocksOf (length journal)) (length entries)
@@ -47,13 +36,13 @@ unfoldable pub countsWithin : (entries : List ℕ) → (blocks : ℕ) → Bool
 countsWithin entries zero = true
 countsWithin entries (suc block) = leb (countOf (entryAt entries block)) (512 * block)
 
--- ---- appending
+-- ---- appending, 10 and 11 first
 unfoldable pub appendRefusal : CodePage → (journal : List ℕ) → (former : ℕ) → (entries : List ℕ) → Option Refusal
 appendRefusal p journal former entries =
-    journalChecks p journal
-    (check FormerTooLong (leb former (length journal))
-    (check BadIndex (longEnough journal entries)
-    (check BadIndex (countsWithin entries (blocksOf former))
+    textChecks BadShape TooLong p pieceLimit (length journal)
+    (refuseUnless FormerTooLong (leb former (length journal))
+    (refuseUnless BadIndex (longEnough journal entries)
+    (refuseUnless BadIndex (countsWithin entries (blocksOf former))
     none)))
 
 -- What appending gives: its answer, and the index after it.
@@ -76,9 +65,9 @@ pub record AppendedAs (c : Appending) (r : Appended) (after : List ℕ) : Type 0
   pub answer : r ≡ c .answer
   pub lent : after ≡ c .entries
 
--- ---- finding: 29 exactly if there is no such block or code
+-- ---- finding, 10 and 11 first: 29 exactly if there is no such block or code
 unfoldable pub findRefusal : CodePage → (journal entries : List ℕ) → Option Refusal
-findRefusal p journal entries = journalChecks p journal (check BadIndex (longEnough journal entries) none)
+findRefusal p journal entries = textChecks BadShape TooLong p pieceLimit (length journal) (refuseUnless BadIndex (longEnough journal entries) none)
 
 -- the place and the length of a code, or 29
 abbrev pub foundOr29 : Option Placed → Found

@@ -4,15 +4,12 @@ use mathlib.Core.Option.{Option, none, some}
 use mathlib.Core.Path.{_≡_}
 use Prim.Native.Nat.{ℕ, suc, _+_, _-_, _*_, _≤_, _<_}
 use lib.ListN.{length, take, drop}
-use Rattle.codepage.specs.Reading.{Reader, decoder}
+use Rattle.codepage.specs.Reading.{Reader}
 use Rattle.charindex.specs.declared.Start.{Start}
 use Rattle.charindex.specs.declared.Refusal.the-variants.{BadIndex}
 use Rattle.charindex.specs.Index.{blocksOf, blockEntry, codesFrom, newEntries, appendOf}
-use Rattle.charindex.specs.Calls.{check, countsWithin, Appending, appendUnless}
-
--- What is found by the classes alone holds whatever the characters are.
-abbrev pub ForClasses : (classes : List ℕ) → (Reader → Type 0) → Type 0
-ForClasses classes holds = (singles pairs : List ℕ) → holds (decoder classes singles pairs)
+use Rattle.codepage_walk.specs.Checks.{refuseUnless}
+use Rattle.charindex.specs.Calls.{countsWithin, Appending, appendUnless}
 
 -- a start that lies in a text, and counts no more codes than bytes before it
 pub record Inside (text : List ℕ) (s : Start) : Type 0 where
@@ -39,4 +36,4 @@ blocksTo (some block) = suc block
 -- appending to an index that is long enough
 unfoldable pub goingOn : Reader → (journal : List ℕ) → (former : ℕ) → (entries : List ℕ) → Appending
 goingOn r journal former entries =
-    appendUnless (check BadIndex (countsWithin entries (blocksOf former)) none) (blocksOf (length journal)) entries (appendOf r journal former entries)
+    appendUnless (refuseUnless BadIndex (countsWithin entries (blocksOf former)) none) (blocksOf (length journal)) entries (appendOf r journal former entries)

@@ -15,9 +15,10 @@ ghost use lib.ListN.{length};
 ghost use Rattle.codepage.specs.CodePage.{codePage};
 ghost use Rattle.codepage.specs.Reading.{Reader};
 ghost use Rattle.convert.specs.Runs.{pieceLimit};
+ghost use Rattle.codepage_walk.specs.Checks.{ForClasses};
 ghost use Rattle.charindex.specs.Index.{blocksOf, startAt, lastBlock, codesFrom, codeNumber, findOf};
 ghost use Rattle.charindex.specs.Calls.{indexNumber, foundOr29, appendingOf, AppendedAs, findingOf};
-ghost use Rattle.charindex.specs.Steps.{ForClasses, Inside, Reached, written, blocksTo, goingOn};
+ghost use Rattle.charindex.specs.Steps.{Inside, Reached, written, blocksTo, goingOn};
 use codepage::Numbers;
 use convert::Run;
 

@@ -12,55 +12,17 @@ use borrow.Author.Tests.{leb-true, leb-false}
 use Rattle.codepage.specs.CodePage.{CodePage, GoodShape, firstFault, isGood}
 use Rattle.codepage.proofs.ShapeLaws.{shape-exact}
 use Rattle.convert.specs.Runs.{pieceLimit}
+use Rattle.codepage_walk.specs.Checks.{bytesReader, TextPasses, TextFails}
+use Rattle.codepage_walk.proofs.CheckLaws.{refused-exact, passed-exact, text-cases, not-good}
 use Rattle.linebreak.specs.declared.Refusal.{Refusal}
 use Rattle.linebreak.specs.declared.Refusal.the-variants.{BadShape, TooLong, NotAcceptable, NoneExists, ListTooShort}
 use Rattle.linebreak.specs.declared.Checked.the-variants as checked
 use Rattle.linebreak.specs.declared.Proposed.the-variants as proposed
 use Rattle.linebreak.specs.Breaks.{acceptable, ours, breakable}
-use Rattle.linebreak.specs.Calls.{bytesReader, checkRefusal, unlessRefused, checkOf, proposeRefusal, proposalUnless, proposalOf}
-use Rattle.linebreak.specs.Claims.{TextPasses, CheckSays, CheckPasses, OursExist, ProposeSays, ProposePasses}
+use Rattle.linebreak.specs.Calls.{checkRefusal, unlessRefused, checkOf, proposeRefusal, proposalUnless, proposalOf}
+use Rattle.linebreak.specs.Claims.{CheckSays, CheckPasses, OursExist, ProposeSays, ProposePasses}
 use Rattle.linebreak.proofs.CallLaws.{check-bad, check-long, check-refused, check-accepted, propose-bad, propose-long, propose-none, propose-short, propose-accepted}
 use Rattle.linebreak.proofs.Theorems.{ours-acceptable, exist-breakable, none-exists}
-
--- ---- a chain of checks: the cases that are met one by one are exact where one of them holds
-module _ (Says : Refusal → Type 0) (Passes : Type 0) (o : Option Refusal) (refused : (why : Refusal) → Says why → o ≡ some why) (passed : Passes → o ≡ none)
-    (cases : ((why : Refusal) × Says why) ⊎ Passes) where
-  refused-exact : (why : Refusal) → (o ≡ some why) ↔ Says why
-  refused-exact why = (λ e. by e cases, refused why)
-    where
-      by : o ≡ some why → ((why : Refusal) × Says why) ⊎ Passes → Says why
-      by e (inl (other, h)) =
-          let q : some other ≡ some why = sym (refused other h) ∙ e in
-          let same : other ≡ why = cc in
-          subst Says same h
-      by e (inr h) =
-          let q : none ≡ some why = sym (passed h) ∙ e in
-          absurd (let z : _≡_ {A = ℕ} 0 1 = cc in omega arith)
-
-  passed-exact : (o ≡ none) ↔ Passes
-  passed-exact = (λ e. by e cases, passed)
-    where
-      by : o ≡ none → ((why : Refusal) × Says why) ⊎ Passes → Passes
-      by e (inl (other, h)) =
-          let q : none ≡ some other = sym e ∙ refused other h in
-          absurd (let z : _≡_ {A = ℕ} 0 1 = cc in omega arith)
-      by e (inr h) = h
-
--- a text that passes 10 and 11, or not
-text-cases : (p : CodePage) (text : List ℕ) → ((GoodShape p → ⊥) ⊎ (GoodShape p × (pieceLimit < length text))) ⊎ TextPasses p text
-text-cases p text = by (isGood (firstFault p)) (leb (length text) pieceLimit) refl refl
-  where
-    by : (a b : Bool) → isGood (firstFault p) ≡ a → leb (length text) pieceLimit ≡ b → ((GoodShape p → ⊥) ⊎ (GoodShape p × (pieceLimit < length text))) ⊎ TextPasses p text
-    by false b e q = inl (inl (λ g. false≢true (sym e ∙ shape-exact p .1 g)))
-    by true false e q = inl (inr (shape-exact p .0 e, leb-false _ _ q))
-    by true true e q = inr (shape-exact p .0 e, leb-true _ _ q)
-
-not-good : (p : CodePage) → (GoodShape p → ⊥) → isGood (firstFault p) ≡ false
-not-good p h = by (isGood (firstFault p)) refl
-  where
-    by : (t : Bool) → isGood (firstFault p) ≡ t → isGood (firstFault p) ≡ false
-    by true e = absurd (h (shape-exact p .0 e))
-    by false e = e
 
 -- ---- checking
 module _ (p : CodePage) (text : List ℕ) (width : ℕ) (breaks : List ℕ) where
@@ -84,13 +46,13 @@ module _ (p : CodePage) (text : List ℕ) (width : ℕ) (breaks : List ℕ) wher
   answer-accepted (some other) e = absurd (let z : _≡_ {A = ℕ} 0 1 = cc in omega arith)
 
   check-cases : ((why : Refusal) × CheckSays p text width breaks why) ⊎ CheckPasses p text width breaks
-  check-cases = by (text-cases p text)
+  check-cases = by (text-cases p pieceLimit (length text))
     where
-      by-breaks : TextPasses p text → (t : Bool) → acceptable (bytesReader p) text width breaks ≡ t → ((why : Refusal) × CheckSays p text width breaks why) ⊎ CheckPasses p text width breaks
+      by-breaks : TextPasses p pieceLimit (length text) → (t : Bool) → acceptable (bytesReader p) text width breaks ≡ t → ((why : Refusal) × CheckSays p text width breaks why) ⊎ CheckPasses p text width breaks
       by-breaks h true e = inr (h, e)
       by-breaks h false e = inl (NotAcceptable, (h, e))
 
-      by : ((GoodShape p → ⊥) ⊎ (GoodShape p × (pieceLimit < length text))) ⊎ TextPasses p text → ((why : Refusal) × CheckSays p text width breaks why) ⊎ CheckPasses p text width breaks
+      by : TextFails p pieceLimit (length text) ⊎ TextPasses p pieceLimit (length text) → ((why : Refusal) × CheckSays p text width breaks why) ⊎ CheckPasses p text width breaks
       by (inl (inl h)) = inl (BadShape, h)
       by (inl (inr h)) = inl (TooLong, h)
       by (inr h) = by-breaks h (acceptable (bytesReader p) text width breaks) refl
@@ -136,17 +98,17 @@ module _ (p : CodePage) (text : List ℕ) (width room : ℕ) where
   propose-passes (((g, h), a), s) = propose-accepted p text width room (shape-exact p .1 g) h (exist-breakable (bytesReader p) text width (ours (bytesReader p) text width) a) s
 
   propose-cases : ((why : Refusal) × ProposeSays p text width room why) ⊎ ProposePasses p text width room
-  propose-cases = by (text-cases p text)
+  propose-cases = by (text-cases p pieceLimit (length text))
     where
       by-room : OursExist p text width → (t : Bool) → leb (length (ours (bytesReader p) text width)) room ≡ t → ((why : Refusal) × ProposeSays p text width room why) ⊎ ProposePasses p text width room
       by-room h true e = inr (h, leb-true _ _ e)
       by-room h false e = inl (ListTooShort, (h, leb-false _ _ e))
 
-      by-codes : TextPasses p text → (t : Bool) → breakable (bytesReader p) text width ≡ t → ((why : Refusal) × ProposeSays p text width room why) ⊎ ProposePasses p text width room
+      by-codes : TextPasses p pieceLimit (length text) → (t : Bool) → breakable (bytesReader p) text width ≡ t → ((why : Refusal) × ProposeSays p text width room why) ⊎ ProposePasses p text width room
       by-codes h true e = by-room (h, ours-acceptable (bytesReader p) text width e) (leb (length (ours (bytesReader p) text width)) room) refl
       by-codes h false e = inl (NoneExists, (h, none-exists (bytesReader p) text width .0 e))
 
-      by : ((GoodShape p → ⊥) ⊎ (GoodShape p × (pieceLimit < length text))) ⊎ TextPasses p text → ((why : Refusal) × ProposeSays p text width room why) ⊎ ProposePasses p text width room
+      by : TextFails p pieceLimit (length text) ⊎ TextPasses p pieceLimit (length text) → ((why : Refusal) × ProposeSays p text width room why) ⊎ ProposePasses p text width room
       by (inl (inl h)) = inl (BadShape, h)
       by (inl (inr h)) = inl (TooLong, h)
       by (inr h) = by-codes h (breakable (bytesReader p) text width) refl

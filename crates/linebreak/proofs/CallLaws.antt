@@ -10,13 +10,14 @@ use Rattle.codepage.specs.CodePage.{CodePage, firstFault, isGood}
 use Rattle.codepage.specs.Lent.{over}
 use Rattle.codepage.proofs.ShapeLaws.{shape-exact}
 use Rattle.convert.specs.Runs.{pieceLimit}
+use Rattle.codepage_walk.specs.Checks.{bytesReader}
 use Rattle.linebreak.specs.declared.Refusal.{Refusal}
 use Rattle.linebreak.specs.declared.Refusal.the-variants.{BadShape, TooLong, NotAcceptable, NoneExists, ListTooShort}
 use Rattle.linebreak.specs.declared.Checked.the-variants as checked
 use Rattle.linebreak.specs.declared.Proposed.the-variants as proposed
 use Rattle.linebreak.specs.Breaks.{acceptable, ours, breakable}
 use Rattle.linebreak.specs.Steps.{GoodClasses}
-use Rattle.linebreak.specs.Calls.{bytesReader, checkRefusal, checkOf, proposeRefusal, proposalOf, ProposedAs}
+use Rattle.linebreak.specs.Calls.{checkRefusal, checkOf, proposeRefusal, proposalOf, ProposedAs}
 
 -- tables of good shape have the classes that the walk asks for
 pub good-classes : (p : CodePage) → isGood (firstFault p) ≡ true → GoodClasses (p .classes)

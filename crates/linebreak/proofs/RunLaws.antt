@@ -12,7 +12,8 @@ use Rattle.codepage.specs.CodePage.{entryAt, isLead}
 use Rattle.codepage.specs.Reading.{Reader, decoder, Code, sizeOf, codes}
 use Rattle.codepage_walk.specs.Walk.{ClassesSize}
 use Rattle.codepage_walk.proofs.WalkLaws.{Next, codes-next, no-wait-one, code-there, size-high, sized-small}
-use Rattle.linebreak.specs.Steps.{lastPlace, GoodClasses, LeadsBefore, ForClasses}
+use Rattle.codepage_walk.specs.Checks.{ForClasses}
+use Rattle.linebreak.specs.Steps.{lastPlace, GoodClasses, LeadsBefore}
 use Rattle.linebreak.proofs.PlaceLaws.{last-stop, last-goes, last-next, last-here}
 
 -- ---- a code ends behind every unit that does not wait: from a place before it, the codes come by

@@ -1,15 +1,14 @@
 -- Document 02, CR 12: the two calls. One checks breaks that are proposed, one proposes ours.
-use mathlib.Core.Bool.{Bool}
 use mathlib.Core.List.{List, []}
 use mathlib.Core.Option.{Option, none, some}
 use mathlib.Core.Path.{_≡_}
 use Prim.Native.Nat.{ℕ}
 use lib.Dec.{leb}
 use lib.ListN.{length}
-use Rattle.codepage.specs.CodePage.{CodePage, pick, firstFault, isGood}
+use Rattle.codepage.specs.CodePage.{CodePage}
 use Rattle.codepage.specs.Lent.{over}
-use Rattle.codepage.specs.Reading.{Reader, decoder}
 use Rattle.convert.specs.Runs.{pieceLimit}
+use Rattle.codepage_walk.specs.Checks.{refuseUnless, textChecks, bytesReader}
 use Rattle.linebreak.specs.declared.Refusal.{Refusal}
 use Rattle.linebreak.specs.declared.Refusal.the-variants.{BadShape, TooLong, NotAcceptable, NoneExists, ListTooShort}
 use Rattle.linebreak.specs.declared.Checked.{Checked}
@@ -26,20 +25,9 @@ breakNumber NotAcceptable = 30
 breakNumber NoneExists = 31
 breakNumber ListTooShort = 32
 
-abbrev pub check : Refusal → Bool → Option Refusal → Option Refusal
-check refusal holds next = pick holds next (some refusal)
-
--- Both calls check 10 and 11 first.
-abbrev pub textChecks : CodePage → (text : List ℕ) → Option Refusal → Option Refusal
-textChecks p text next = check BadShape (isGood (firstFault p)) (check TooLong (leb (length text) pieceLimit) next)
-
--- the reader of the page's bytes
-abbrev pub bytesReader : CodePage → Reader
-bytesReader p = decoder (p .classes) (p .singles) (p .pairs)
-
--- ---- checking: 30 exactly if the breaks are not acceptable
+-- ---- checking, 10 and 11 first: 30 exactly if the breaks are not acceptable
 unfoldable pub checkRefusal : CodePage → (text : List ℕ) → (width : ℕ) → (breaks : List ℕ) → Option Refusal
-checkRefusal p text width breaks = textChecks p text (check NotAcceptable (acceptable (bytesReader p) text width breaks) none)
+checkRefusal p text width breaks = textChecks BadShape TooLong p pieceLimit (length text) (refuseUnless NotAcceptable (acceptable (bytesReader p) text width breaks) none)
 
 -- the answer of a check: the refusal, or acceptable if there is none
 abbrev pub unlessRefused : Option Refusal → Checked
@@ -50,12 +38,12 @@ unlessRefused (some refusal) = checked.Refused refusal
 unfoldable pub checkOf : CodePage → (text : List ℕ) → (width : ℕ) → (breaks : List ℕ) → Checked
 checkOf p text width breaks = unlessRefused (checkRefusal p text width breaks)
 
--- ---- proposing: 31 exactly if no acceptable breaks exist, 32 exactly if ours do not fit the lent list
+-- ---- proposing, 10 and 11 first: 31 exactly if no acceptable breaks exist, 32 exactly if ours do not fit the lent list
 unfoldable pub proposeRefusal : CodePage → (text : List ℕ) → (width : ℕ) → (room : ℕ) → Option Refusal
 proposeRefusal p text width room =
-    textChecks p text
-    (check NoneExists (breakable (bytesReader p) text width)
-    (check ListTooShort (leb (length (ours (bytesReader p) text width)) room)
+    textChecks BadShape TooLong p pieceLimit (length text)
+    (refuseUnless NoneExists (breakable (bytesReader p) text width)
+    (refuseUnless ListTooShort (leb (length (ours (bytesReader p) text width)) room)
     none))
 
 -- What proposing gives: its answer, and what is written to the lent list.

@@ -8,10 +8,10 @@ use Rattle.codepage.specs.CodePage.{CodePage, GoodShape}
 use Rattle.codepage.specs.Reading.{Reader, Code, sizeOf, codes}
 use Rattle.convert.specs.Runs.{pieceLimit}
 use Rattle.codepage_walk.specs.Walk.{Placed, placed}
+use Rattle.codepage_walk.specs.Checks.{bytesReader, TextPasses}
 use Rattle.linebreak.specs.declared.Refusal.{Refusal}
 use Rattle.linebreak.specs.declared.Refusal.the-variants.{BadShape, TooLong, NotAcceptable, NoneExists, ListTooShort}
 use Rattle.linebreak.specs.Breaks.{isPlace, acceptable, ours}
-use Rattle.linebreak.specs.Calls.{bytesReader}
 
 -- "each line from the first on as long as it can be": of every line but the last, from a place to a break, what is left of the text
 -- is over the width, and no code begins behind the break and within the width
@@ -38,31 +38,29 @@ pub record LongCode (r : Reader) (text : List ℕ) (width : ℕ) : Type 0 where
   pub long : width < sizeOf code
 
 -- What each answer says: all before it passes, and this does not.
-abbrev pub TextPasses : CodePage → (text : List ℕ) → Type 0
-TextPasses p text = GoodShape p × (length text ≤ pieceLimit)
 
 -- The case of each refusal of a check; 31 and 32 have none.
 abbrev pub CheckSays : CodePage → (text : List ℕ) → (width : ℕ) → (breaks : List ℕ) → Refusal → Type 0
 CheckSays p text width breaks BadShape = GoodShape p → ⊥
 CheckSays p text width breaks TooLong = GoodShape p × (pieceLimit < length text)
-CheckSays p text width breaks NotAcceptable = TextPasses p text × (acceptable (bytesReader p) text width breaks ≡ false)
+CheckSays p text width breaks NotAcceptable = TextPasses p pieceLimit (length text) × (acceptable (bytesReader p) text width breaks ≡ false)
 CheckSays p text width breaks NoneExists = ⊥
 CheckSays p text width breaks ListTooShort = ⊥
 
 -- The case of a check that accepts: 10 and 11 pass, and the breaks are acceptable.
 abbrev pub CheckPasses : CodePage → (text : List ℕ) → (width : ℕ) → (breaks : List ℕ) → Type 0
-CheckPasses p text width breaks = TextPasses p text × (acceptable (bytesReader p) text width breaks ≡ true)
+CheckPasses p text width breaks = TextPasses p pieceLimit (length text) × (acceptable (bytesReader p) text width breaks ≡ true)
 
 -- there are acceptable breaks: ours
 abbrev pub OursExist : CodePage → (text : List ℕ) → (width : ℕ) → Type 0
-OursExist p text width = TextPasses p text × (acceptable (bytesReader p) text width (ours (bytesReader p) text width) ≡ true)
+OursExist p text width = TextPasses p pieceLimit (length text) × (acceptable (bytesReader p) text width (ours (bytesReader p) text width) ≡ true)
 
 -- The case of each refusal of a proposal; 30 has none.
 abbrev pub ProposeSays : CodePage → (text : List ℕ) → (width room : ℕ) → Refusal → Type 0
 ProposeSays p text width room BadShape = GoodShape p → ⊥
 ProposeSays p text width room TooLong = GoodShape p × (pieceLimit < length text)
 ProposeSays p text width room NotAcceptable = ⊥
-ProposeSays p text width room NoneExists = TextPasses p text × NoBreaks (bytesReader p) text width
+ProposeSays p text width room NoneExists = TextPasses p pieceLimit (length text) × NoBreaks (bytesReader p) text width
 ProposeSays p text width room ListTooShort = OursExist p text width × (room < length (ours (bytesReader p) text width))
 
 -- The case of a proposal that is not refused: 10 and 11 pass, our breaks are acceptable, and they fit the room.

@@ -7,7 +7,7 @@ use lib.Dec.{leb, ltb, eqb}
 use lib.ListN.{length, drop}
 use Rattle.codepage.specs.CodePage.{entryAt, isLead}
 use Rattle.codepage.specs.Marks.{NoLowLead}
-use Rattle.codepage.specs.Reading.{Reader, decoder, Code, sizeOf, codes}
+use Rattle.codepage.specs.Reading.{Reader, Code, sizeOf, codes}
 use Rattle.linebreak.specs.Breaks.{ours, breakable}
 use Rattle.linebreak.specs.declared.Counted.{Counted}
 
@@ -37,10 +37,6 @@ lineGood r text width start b = ltb start b && (ltb b (length text) && (leb (b -
 unfoldable pub linesGood : Reader → (text : List ℕ) → (width start : ℕ) → (breaks : List ℕ) → Bool
 linesGood r text width start [] = leb (length text - start) width
 linesGood r text width start (b ∷ breaks) = lineGood r text width start b && linesGood r text width b breaks
-
--- What is found by the classes alone holds whatever the characters are.
-abbrev pub ForClasses : (classes : List ℕ) → (Reader → Type 0) → Type 0
-ForClasses classes holds = (singles pairs : List ℕ) → holds (decoder classes singles pairs)
 
 -- The promise of counting: whether acceptable breaks exist, and then how many ours are.
 pub record CountedAs (r : Reader) (text : List ℕ) (width : ℕ) (c : Counted) : Type 0 where

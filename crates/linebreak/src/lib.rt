@@ -14,9 +14,10 @@ ghost use Rattle.codepage.specs.CodePage.{codePage};
 ghost use Rattle.codepage.specs.Lent.{over};
 ghost use Rattle.codepage.specs.Reading.{Reader, codes};
 ghost use Rattle.convert.specs.Runs.{pieceLimit};
+ghost use Rattle.codepage_walk.specs.Checks.{ForClasses};
 ghost use Rattle.linebreak.specs.Breaks.{ours, breakable};
 ghost use Rattle.linebreak.specs.Calls.{breakNumber, checkOf, proposalOf, ProposedAs};
-ghost use Rattle.linebreak.specs.Steps.{lastPlace, GoodClasses, LeadsBefore, lineGood, linesGood, ForClasses, CountedAs};
+ghost use Rattle.linebreak.specs.Steps.{lastPlace, GoodClasses, LeadsBefore, lineGood, linesGood, CountedAs};
 use codepage::Numbers;
 use convert::Run;
 

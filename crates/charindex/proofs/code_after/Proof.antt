@@ -5,7 +5,7 @@ use native.Mathlib.Omega.{arith}
 use lib.ListN.{length}
 use Rattle.codepage.specs.Reading.{Reader, decoder}
 use Rattle.charindex.specs.Index.{codesFrom, codeNumber}
-use Rattle.charindex.specs.Steps.{ForClasses}
+use Rattle.codepage_walk.specs.Checks.{ForClasses}
 use Rattle.charindex.proofs.FindLaws.{after-found, after-next, after-none, size-inside}
 use Rattle.charindex.proofs.code_after.Statement.{statement}
 use Rattle.charindex.proofs.code_after.Tie as tie

@@ -3,7 +3,7 @@ use Prim.Native.Nat.{_-_, _≤_}
 use native.Mathlib.Omega.{arith}
 use lib.ListN.{length}
 use Rattle.codepage.specs.Reading.{Reader, decoder}
-use Rattle.charindex.specs.Steps.{ForClasses}
+use Rattle.codepage_walk.specs.Checks.{ForClasses}
 use Rattle.charindex.proofs.EntryLaws.{Reading, reading-start, reading-turn, reading-end}
 use Rattle.charindex.proofs.FindLaws.{size-inside}
 use Rattle.charindex.proofs.read_to.Statement.{statement}

@@ -4,7 +4,7 @@ use Prim.Native.Nat.{_-_, _*_, _≤_}
 use native.Mathlib.Omega.{arith}
 use lib.ListN.{length, drop, length-set}
 use Rattle.codepage.specs.Reading.{Reader}
-use Rattle.charindex.specs.Steps.{ForClasses}
+use Rattle.codepage_walk.specs.Checks.{ForClasses}
 use Rattle.charindex.proofs.WriteLaws.{Writing, writing-start, writing-turn, writing-end, writing-left}
 use Rattle.charindex.proofs.write_entries.Statement.{statement}
 use Rattle.charindex.proofs.write_entries.Tie as tie

@@ -5,7 +5,8 @@ use native.Mathlib.Omega.{arith}
 use lib.ListN.{length, drop}
 use borrow.Author.Tests.{not-true, not-false}
 use Rattle.codepage.specs.Reading.{Reader, decoder}
-use Rattle.linebreak.specs.Steps.{linesGood, ForClasses}
+use Rattle.codepage_walk.specs.Checks.{ForClasses}
+use Rattle.linebreak.specs.Steps.{linesGood}
 use Rattle.linebreak.proofs.LineLaws.{good-inner, lines-turn, lines-stop, lines-end}
 use Rattle.linebreak.proofs.are_lines.Statement.{statement}
 use Rattle.linebreak.proofs.are_lines.Tie as tie

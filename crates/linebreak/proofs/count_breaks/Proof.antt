@@ -3,7 +3,7 @@ use Prim.Native.Nat.{_-_, _≤_}
 use native.Mathlib.Omega.{arith}
 use lib.ListN.{length}
 use Rattle.codepage.specs.Reading.{Reader, decoder}
-use Rattle.linebreak.specs.Steps.{ForClasses}
+use Rattle.codepage_walk.specs.Checks.{ForClasses}
 use Rattle.linebreak.proofs.LoopLaws.{end-from, end-within, Counting, counting-start, counting-turn, counting-stuck, counting-end}
 use Rattle.linebreak.proofs.count_breaks.Statement.{statement}
 use Rattle.linebreak.proofs.count_breaks.Tie as tie

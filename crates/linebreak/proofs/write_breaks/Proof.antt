@@ -4,7 +4,7 @@ use Prim.Native.Nat.{_-_, _≤_}
 use native.Mathlib.Omega.{arith}
 use lib.ListN.{length, take, drop, length-set}
 use Rattle.codepage.specs.Reading.{Reader, decoder}
-use Rattle.linebreak.specs.Steps.{ForClasses}
+use Rattle.codepage_walk.specs.Checks.{ForClasses}
 use Rattle.linebreak.proofs.OursLaws.{Going, going-start}
 use Rattle.linebreak.proofs.LoopLaws.{end-from, end-within, writing-room, writing-moves, writing-turn, writing-end, writing-left}
 use Rattle.linebreak.proofs.write_breaks.Statement.{statement}
