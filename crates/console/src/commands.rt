@@ -1,7 +1,38 @@
 // One line goes through every function that runs commands: each has the slices that its commands change, and does nothing for
 // any other command.
 use console_script::command;
+use console_script::command::Command;
 use console_script::state::Next;
+
+// Runs a command that sets what the console holds.
+fn set(
+    command: Command,
+    line: &[u8],
+    next: Next,
+    classes: &mut [u8],
+    singles: &mut [u16],
+    pairs: &mut [u16],
+    index: &mut [u8],
+    blocks: &mut [u16],
+    bytes: &mut [u8],
+    units: &mut [u16],
+    lent_bytes: &mut [u8],
+    out: &mut [u8],
+) -> Next {
+    let next = console_setting::run_table(
+        command,
+        line,
+        next,
+        classes,
+        singles,
+        pairs,
+        index,
+        blocks,
+        out,
+    );
+    let next = console_setting::run_text(command, line, next, bytes, units, out);
+    console_setting::run_run(command, line, next, lent_bytes, out)
+}
 
 // Answers one line.
 pub fn answer(
@@ -17,10 +48,11 @@ pub fn answer(
     lent_bytes: &mut [u8],
     lent_units: &mut [u16],
     field_buffer: &mut [u16],
+    entries: &mut [u32],
     out: &mut [u8],
 ) -> Next {
     let command = command::command_of(line);
-    let next = console_setting::run_table(
+    let next = set(
         command,
         line,
         next,
@@ -29,10 +61,11 @@ pub fn answer(
         pairs,
         index,
         blocks,
+        bytes,
+        units,
+        lent_bytes,
         out,
     );
-    let next = console_setting::run_text(command, line, next, bytes, units, out);
-    let next = console_setting::run_run(command, line, next, lent_bytes, out);
     let next = console_cutting::run_fields(command, line, next, units, field_buffer, out);
     console_calling::run_call(
         command,
@@ -47,6 +80,7 @@ pub fn answer(
         units,
         lent_bytes,
         lent_units,
+        entries,
         out,
     )
 }

@@ -22,6 +22,7 @@ fn main() {
     let mut lent_bytes = [0u8; 140000];
     let mut lent_units = [0u16; 66000];
     let mut field_buffer = [0u16; 300];
+    let mut entries = [0u32; 300];
     let mut block = [0u8; 65536];
     let mut line = [0u8; 400001];
     let mut out = [0u8; 600000];
@@ -49,6 +50,7 @@ fn main() {
             &mut lent_bytes,
             &mut lent_units,
             &mut field_buffer,
+            &mut entries,
             &mut out,
         );
         next.at = output::flush(&out, next.at, output::limit(cursor));

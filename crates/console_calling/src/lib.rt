@@ -8,8 +8,8 @@ use console_script::command::Command;
 use console_script::state::Next;
 use console_script::texts;
 
-// Runs a command on the run in hand, or the shape report, on the tables and texts that are set.
-fn call_run(
+// Runs a command on the run in hand or on a text in one go, or the shape report, on the tables and texts that are set.
+fn call_converter(
     command: Command,
     line: &[u8],
     next: Next,
@@ -69,30 +69,6 @@ fn call_run(
             at,
         ),
         Command::Save => run::save(line, from, state, lent_bytes, out, at),
-        _ => Next { state, at },
-    }
-}
-
-// Runs a command on a text in one go, or on breaks of the byte text, on the tables and texts that are set.
-fn call_text(
-    command: Command,
-    line: &[u8],
-    next: Next,
-    classes: &[u8],
-    singles: &[u16],
-    pairs: &[u16],
-    index: &[u8],
-    blocks: &[u16],
-    bytes: &[u8],
-    units: &[u16],
-    lent_bytes: &mut [u8],
-    lent_units: &mut [u16],
-    out: &mut [u8],
-) -> Next {
-    let state = next.state;
-    let at = next.at;
-    let from = command::second(line);
-    match command {
         Command::Convert => text::convert_text(
             line,
             from,
@@ -109,19 +85,49 @@ fn call_text(
             out,
             at,
         ),
-        _ => console_breaking::run_breaks(
-            command,
-            line,
-            next,
-            classes,
-            singles,
-            pairs,
-            index,
-            blocks,
-            bytes,
-            out,
-        ),
+        _ => Next { state, at },
     }
+}
+
+// Runs a command of a product on the byte text, on the tables and the text that are set.
+fn call_product(
+    command: Command,
+    line: &[u8],
+    next: Next,
+    classes: &[u8],
+    singles: &[u16],
+    pairs: &[u16],
+    index: &[u8],
+    blocks: &[u16],
+    bytes: &[u8],
+    entries: &mut [u32],
+    out: &mut [u8],
+) -> Next {
+    let after = console_breaking::run_breaks(
+        command,
+        line,
+        next,
+        classes,
+        singles,
+        pairs,
+        index,
+        blocks,
+        bytes,
+        out,
+    );
+    console_indexing::run_index(
+        command,
+        line,
+        after,
+        classes,
+        singles,
+        pairs,
+        index,
+        blocks,
+        bytes,
+        entries,
+        out,
+    )
 }
 
 // Runs a command that calls the library on the table set.
@@ -138,6 +144,7 @@ pub fn run_call(
     units: &[u16],
     lent_bytes: &mut [u8],
     lent_units: &mut [u16],
+    entries: &mut [u32],
     out: &mut [u8],
 ) -> Next {
     let state = next.state;
@@ -156,7 +163,7 @@ pub fn run_call(
     let blocks = &blocks[..blocks_end];
     let bytes = &bytes[..bytes_end];
     let units = &units[..units_end];
-    let after = call_run(
+    let after = call_converter(
         command,
         line,
         next,
@@ -171,7 +178,7 @@ pub fn run_call(
         lent_units,
         out,
     );
-    call_text(
+    call_product(
         command,
         line,
         after,
@@ -181,9 +188,7 @@ pub fn run_call(
         index,
         blocks,
         bytes,
-        units,
-        lent_bytes,
-        lent_units,
+        entries,
         out,
     )
 }

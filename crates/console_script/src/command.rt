@@ -24,10 +24,31 @@ pub enum Command {
     Field,
     Breaks,
     Propose,
+    Index,
+    Entry,
+    Append,
+    Find,
     // A line that is passed over.
     Nothing,
     // A line that is no command.
     Unknown,
+}
+
+// The command that a word names, among those on the index of the byte text.
+fn named_index(word: &[u8]) -> Command {
+    if words::is_word(word, b"index") {
+        return Command::Index;
+    }
+    if words::is_word(word, b"entry") {
+        return Command::Entry;
+    }
+    if words::is_word(word, b"append") {
+        return Command::Append;
+    }
+    if words::is_word(word, b"find") {
+        return Command::Find;
+    }
+    Command::Unknown
 }
 
 // The command that a word names, among those that break the byte text into lines.
@@ -38,7 +59,7 @@ fn named_break(word: &[u8]) -> Command {
     if words::is_word(word, b"propose") {
         return Command::Propose;
     }
-    Command::Unknown
+    named_index(word)
 }
 
 // The command that a word names, among those that cut the unit text into fields.

@@ -6,8 +6,8 @@ use convert::Policy;
 use convert::Run;
 use image::Sizes;
 
-// The table set's numbers and sizes, the lengths of the two texts, the run in hand, the length of the field buffer, and how many
-// units the state of the fields claims to be held in it.
+// The table set's numbers and sizes, the lengths of the two texts, the run in hand, the length of the field buffer, how many units
+// the state of the fields claims to be held in it, and how many entries the index has.
 pub struct State {
     pub numbers: Numbers,
     pub sizes: Sizes,
@@ -16,6 +16,7 @@ pub struct State {
     pub run: Run,
     pub buffer: usize,
     pub held: usize,
+    pub entries: usize,
 }
 
 // The state after a command, and the place behind its answer.
@@ -24,7 +25,7 @@ pub struct Next {
     pub at: usize,
 }
 
-// No table, empty texts, a run that breaks the run rules, and an empty field buffer with nothing held.
+// No table, empty texts, a run that breaks the run rules, an empty field buffer with nothing held, and an empty index.
 pub fn initial() -> State {
     let numbers = Numbers {
         page: 0,
@@ -61,6 +62,7 @@ pub fn initial() -> State {
         run,
         buffer: 0,
         held: 0,
+        entries: 0,
     }
 }
 
@@ -110,6 +112,12 @@ impl State {
     pub fn with_held(self, held: usize) -> State {
         let mut state = self;
         state.held = held;
+        state
+    }
+    // The state with an index of another length.
+    pub fn with_entries(self, entries: usize) -> State {
+        let mut state = self;
+        state.entries = entries;
         state
     }
 }
