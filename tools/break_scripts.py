@@ -9,7 +9,7 @@ longest, then its second, and so on.
 import itertools
 
 from fixed_scripts import (
-    LIMIT, Script, all_leads, both, cut, edited, line_hex, low_bytes, more_seconds, no_leads, put, set_page, spread_leads,
+    LIMIT, Script, all_leads, both, cut, edited, left_alone, low_bytes, more_seconds, no_leads, put, set_page, spread_leads,
 )
 from table_image import NONE
 
@@ -350,25 +350,10 @@ def commands(script):
         script.expect(" ".join(["breaks 2 0 3", *breaks, "1"]), "?")
 
 
-def left_alone(script):
-    """No answer touches what the console holds: the tables, the texts, the run, the field buffer and its state."""
-    script.note("all that the console holds stays as it is")
-    script.bytes("814041")
-    script.units("0041D83D")
-    script.start("E", 9, "123")
-    script.expect("hold 256", "hold 256")
-    script.expect("field 0 1 more", f"field held 1 1 0041{'EEEE' * 255}")
-    script.expect("propose 2 0 3 1", "propose 0 1 2 kept")
-    script.expect("propose 1 0 3 1", "propose 31 kept")
-    script.expect("propose 2 0 3 0", "propose 32 kept")
-    script.expect("breaks 2 0 3 2", "breaks 0")
-    script.expect("breaks 2 0 3 1", "breaks 30")
-    script.expect("breaks 2 0 4 1", "?")
-    script.expect("shape", "shape good")
-    script.expect("save 44", f"save 0 19 {line_hex('E>9>123>->0>0>0>on;')} kept")
-    script.expect("convert D 000 0 3 9", "convert 0 0 3 2 2 30000041 kept")
-    script.expect("convert E 000 0 2 9", "convert 3 12 2 1 1 41 kept")
-    script.expect("field 1 1 last", f"field end 1 hold 0041D83D 0 0041D83D{'EEEE' * 254}")
+LEFT_ALONE = (
+    ("propose 2 0 3 1", "propose 0 1 2 kept"), ("propose 1 0 3 1", "propose 31 kept"), ("propose 2 0 3 0", "propose 32 kept"),
+    ("breaks 2 0 3 2", "breaks 0"), ("breaks 2 0 3 1", "breaks 30"), ("breaks 2 0 4 1", "?"),
+)
 
 
 # ---------------------------------------------------------------------------------------------------------------
@@ -423,6 +408,6 @@ def breaks_script():
     parts(script)
     long_texts(script)
     bad_tables(script)
-    left_alone(script)
+    left_alone(script, LEFT_ALONE)
     told_from_codes(script)
     return script

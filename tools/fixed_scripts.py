@@ -131,6 +131,24 @@ def line_hex(line):
     return "".join(f"{byte:02X}" for byte in line.replace(">", "\t").replace(";", "\n").encode("ascii")) or "-"
 
 
+def left_alone(script, answers):
+    """These commands, with their answers, touch nothing that the console holds: the tables of the sample page, the texts (bytes
+    81 40 41, units 0041 D83D), the run, the field buffer and its state."""
+    script.note("all that the console holds stays as it is")
+    script.bytes("814041")
+    script.units("0041D83D")
+    script.start("E", 9, "123")
+    script.expect("hold 256", "hold 256")
+    script.expect("field 0 1 more", f"field held 1 1 0041{'EEEE' * 255}")
+    for command, answer in answers:
+        script.expect(command, answer)
+    script.expect("shape", "shape good")
+    script.expect("save 44", f"save 0 19 {line_hex('E>9>123>->0>0>0>on;')} kept")
+    script.expect("convert D 000 0 3 9", "convert 0 0 3 2 2 30000041 kept")
+    script.expect("convert E 000 0 2 9", "convert 3 12 2 1 1 41 kept")
+    script.expect("field 1 1 last", f"field end 1 hold 0041D83D 0 0041D83D{'EEEE' * 254}")
+
+
 # ---------------------------------------------------------------------------------------------------------------
 # Tables
 # ---------------------------------------------------------------------------------------------------------------
@@ -443,6 +461,9 @@ def initial_script():
     script.expect("breaks 1 0 1", "?")
     script.expect("propose 0 0 0 0", "propose 10 kept")
     script.expect("propose 1 0 1 5", "?")
+    script.expect("append 0 0", "append 10 -")
+    script.expect("find 0 0", "find 10")
+    script.expect("entry 0 0 0", "?")
     script.note("no field buffer, and nothing held")
     script.expect("field 0 0 more", "field 20 0 -")
     script.expect("field 0 0 last", "field 20 0 -")
@@ -458,6 +479,8 @@ def initial_script():
     script.expect("convert D 555 0 0 0", "convert 0 0 0 0 0 - kept")
     script.expect("breaks 0 0 0", "breaks 0")
     script.expect("propose 0 0 0 0", "propose 0 0 kept")
+    script.expect("append 0 0", "append 0 -")
+    script.expect("find 0 0", "find 29")
     return script
 
 
@@ -616,6 +639,9 @@ def grammar_script():
         "breaks", "breaks 1 0", "breaks 1 0 3", "breaks 1 3 0", "breaks 01 0 2", "breaks 1 0 2 01", "breaks 1 0 2 -",
         "breaks 18446744073709551616 0 2", "breaks 1 0 2 18446744073709551616", "propose", "propose 1 0 2", "propose 1 0 3 5",
         "propose 1 0 2 301", "propose 1 0 2 5 5", "propose 01 0 2 5", "propose 18446744073709551616 0 2 5",
+        # index, entry, append and find
+        "index", "index 301", "index 03", "index 3 3", "entry 0 0 0", "entry 0 0", "append 0", "append 0 3", "append 00 2", "append -1 2",
+        "find 0", "find 0 3", "find 00 2", "find 18446744073709551616 2",
         # nothing else is a command
         "quit", "help", "decodes 0 1 last 5", "tables sample.tbl", "policy 555", "shape\tgood",
     )

@@ -10,6 +10,7 @@ Kinds of script:
     lists_long       lists on texts of up to 66,000 elements, with pieces over the limit
     runs             runs of random numbers, most of which break the rules, and the calls on them
     lists_fields     texts cut into fields: blocks cut anywhere, fields about the limit, buffers and states of all sizes
+    lists_index      journals that grow, their index gone on with, and codes found by it, also by wrong entries
 
 The generator plays each command on second_converter.py as it goes, only to know where the run stands, so that the next
 piece begins there; the answers stored are those of that play.
@@ -534,6 +535,43 @@ def play_fields(player, chance):
             position += int(words[2])
 
 
+def random_journal(player, chance, names, tables):
+    """A journal of a few blocks, a short pattern over and over; answers its size."""
+    name = chance.choice(names)
+    player.do(f"table {name}")
+    make_text = chance.choice((random_bytes, random_halves))
+    pattern = make_text(chance, tables[name], chance.choice((1, 2, 3, 3, chance.randrange(1, 40))))
+    size = chance.choice((511, 512, 513, 1024, 1025, chance.randrange(1, 600), chance.randrange(1, 1700), chance.randrange(1, 1700)))
+    player.do(f"fillbytes {size} {hex_text(pattern, 2)}")
+    return size
+
+
+def random_count(chance, size):
+    """How many codes an entry counts: mostly at most as many as there are bytes."""
+    return chance.choice((0, 1, 511, 512, 513, chance.randrange(size + 1), chance.randrange(size + 1), chance.randrange(2**31), 2**31 - 1))
+
+
+def play_index(player, chance, names, tables):
+    """A journal that grows, its index gone on with, and codes found; now and then a wrong entry or a wrong former length."""
+    size = random_journal(player, chance, names, tables)
+    needed = second_converter.block_count(size)
+    entries = chance.choice((needed, needed, needed, needed + 1, needed + 2, needed - 1))
+    player.do(f"index {entries}")
+    former = 0
+    for _ in range(chance.randrange(5, 25)):
+        turn = chance.random()
+        if turn < 0.06 and entries > 0:
+            player.do(f"entry {chance.randrange(entries)} {random_count(chance, size)} {chance.choice('01')}")
+        elif turn < 0.45:
+            length = chance.choice((size, chance.randrange(former, size + 1), min(size, former + chance.randrange(4))))
+            asked = former if chance.random() < 0.9 else chance.choice((0, chance.randrange(size + 3), 2**64 - 1))
+            if player.do(f"append {asked} {length}").startswith("append 0"):
+                former = length
+        else:
+            number = chance.choice((random_count(chance, size), *(chance.randrange(size // 2 + 1) for _ in range(5)), 2**64 - 1))
+            player.do(f"find {number} {chance.choice((former, former, size, chance.randrange(size + 1)))}")
+
+
 def random_script(kind, seed, count, tables, folder):
     """The two files of a random script; folder has the images of the tables."""
     chance = random.Random(f"{kind} {seed}")
@@ -562,6 +600,8 @@ def random_script(kind, seed, count, tables, folder):
             play_long_list(player, chance, random_names + ["sample.tbl"], tables)
         elif kind == "lists_fields":
             play_fields(player, chance)
+        elif kind == "lists_index":
+            play_index(player, chance, random_names + ["sample.tbl"], tables)
         else:
             play_runs(player, chance)
     return player.files()

@@ -12,6 +12,7 @@ them, and the comments name the paragraph. It is meant to be plain, not fast.
 """
 
 import argparse
+import bisect
 import os
 import re
 import struct
@@ -128,6 +129,15 @@ def read_code(table, first, second):
     if unit == NONE:
         return Code(2, UNDEFINED_PAIR, [])
     return Code(2, 0, [unit])
+
+
+def codes_from(table, text, place):
+    """The codes of a whole text from a place on, each with its place; no policy is asked."""
+    while place < len(text):
+        second = text[place + 1] if place + 1 < len(text) else None
+        code = read_code(table, text[place], second)
+        yield place, code
+        place += code.size
 
 
 # ---------------------------------------------------------------------------------------------------------------
@@ -333,15 +343,20 @@ def run_call(direction, run, table, piece, last, out):
     return Outcome(taken.number, taken.read, len(taken.output), after)
 
 
-def one_go_refusal(direction, digits, table, text):
-    """The one-go call checks 17 (policy), 10, 11 ("No refusal changes", CR 10)."""
-    if not digits_allowed(direction, digits):
-        return 17
+def text_refusal(table, text):
+    """The refusals of every call on a whole text: "after 10 and 11" (document 02)."""
     if not shape_is_good(table):
         return 10
     if len(text) > PIECE_LIMIT:
         return 11
     return None
+
+
+def one_go_refusal(direction, digits, table, text):
+    """The one-go call checks 17 (policy), 10, 11 ("No refusal changes", CR 10)."""
+    if not digits_allowed(direction, digits):
+        return 17
+    return text_refusal(table, text)
 
 
 def take_whole_text(direction, digits, table, text, room):
@@ -590,14 +605,8 @@ def field_call(held, hold, block, last):
 
 
 def code_ends(table, text):
-    """Where the codes of a whole text end, in rising order; no policy is asked."""
-    ends = []
-    place = 0
-    while place < len(text):
-        second = text[place + 1] if place + 1 < len(text) else None
-        place += read_code(table, text[place], second).size
-        ends.append(place)
-    return ends
+    """Where the codes of a whole text end, in rising order."""
+    return [place + code.size for place, code in codes_from(table, text, 0)]
 
 
 def is_acceptable(table, text, width, breaks):
@@ -632,18 +641,9 @@ def own_breaks(table, text, width):
     return breaks
 
 
-def break_refusal(table, text):
-    """ "Refusals, after 10 and 11" """
-    if not shape_is_good(table):
-        return 10
-    if len(text) > PIECE_LIMIT:
-        return 11
-    return None
-
-
 def breaks_call(table, text, width, breaks):
     """Checks a proposal: 0, or a refusal, of which "30 proposal not acceptable" is the last."""
-    refusal = break_refusal(table, text)
+    refusal = text_refusal(table, text)
     if refusal is not None:
         return refusal
     return 0 if is_acceptable(table, text, width, breaks) else 30
@@ -652,7 +652,7 @@ def breaks_call(table, text, width, breaks):
 def propose_call(table, text, width, out):
     """Writes our breaks to the front of out and answers their number as ('breaks', n), or refuses: "31 none exists; 32 the lent
     break list is too short for ours, untouched"."""
-    refusal = break_refusal(table, text)
+    refusal = text_refusal(table, text)
     if refusal is not None:
         return refusal
     breaks = own_breaks(table, text, width)
@@ -666,6 +666,97 @@ def propose_call(table, text, width, out):
 
 
 # ---------------------------------------------------------------------------------------------------------------
+# The index of a journal (document 02, CR 11)
+# ---------------------------------------------------------------------------------------------------------------
+
+BLOCK_SIZE = 512
+
+
+@dataclass(frozen=True)
+class Entry:
+    """ "how many codes start before it, and whether its first byte is the second byte of a code" """
+
+    count: int
+    mark: bool
+
+
+FIRST_ENTRY = Entry(0, False)
+
+
+def block_count(size):
+    """ "for each full or begun block of 512 bytes" """
+    return (size + BLOCK_SIZE - 1) // BLOCK_SIZE
+
+
+def codes_of_block(table, journal, block, entry):
+    """The codes from a block on, "by that entry's count and mark": a marked block's first byte is of an earlier code."""
+    return codes_from(table, journal, BLOCK_SIZE * block + (1 if entry.mark else 0))
+
+
+def entries_behind(table, journal, block, entry):
+    """The entries of all blocks behind one, told from its entry."""
+    sizes = {place: code.size for place, code in codes_of_block(table, journal, block, entry)}
+    starts = list(sizes)
+    found = []
+    for begin in range(BLOCK_SIZE * (block + 1), len(journal), BLOCK_SIZE):
+        count = entry.count + bisect.bisect_left(starts, begin)
+        found.append(Entry(count, sizes.get(begin - 1) == 2))
+    return found
+
+
+def append_refusal(table, journal, former, index):
+    """ "Refusals, after 10 and 11: 33 .. 28": the first that holds, or None."""
+    refusal = text_refusal(table, journal)
+    if refusal is not None:
+        return refusal
+    # "33 former length over the journal's"
+    if former > len(journal):
+        return 33
+    # "28 index too short, or a former last entry counting more codes than bytes before it"
+    if len(index) < block_count(len(journal)):
+        return 28
+    last = block_count(former) - 1
+    if last >= 0 and index[last].count > BLOCK_SIZE * last:
+        return 28
+    return None
+
+
+def append_call(table, journal, former, index):
+    """ "Appending bytes goes on from the former last entry and touches nothing before it". Answers 0 or a refusal's number; the
+    index is changed in place, and a refusal leaves it untouched."""
+    refusal = append_refusal(table, journal, former, index)
+    if refusal is not None:
+        return refusal
+    if not journal:
+        return 0
+    if former == 0:
+        last, index[0] = 0, FIRST_ENTRY
+    else:
+        last = block_count(former) - 1
+    for block, entry in enumerate(entries_behind(table, journal, last, index[last]), last + 1):
+        index[block] = entry
+    return 0
+
+
+def find_call(table, journal, index, number):
+    """Code `number`, from 0, as ('code', place, length), or a refusal's number."""
+    refusal = text_refusal(table, journal)
+    if refusal is not None:
+        return refusal
+    if len(index) < block_count(len(journal)):
+        return 28
+    # "reads on from the last block whose entry counts at most n": the last by its place, in a wrong index too
+    blocks = [block for block in range(block_count(len(journal))) if index[block].count <= number]
+    if blocks:
+        entry = index[blocks[-1]]
+        for count, (place, code) in enumerate(codes_of_block(table, journal, blocks[-1], entry), entry.count):
+            if count == number:
+                return ("code", place, code.size)
+    # "29 no such character or no such block"
+    return 29
+
+
+# ---------------------------------------------------------------------------------------------------------------
 # The console: the command language of docs/CONSOLE.md, and the decisions of docs/CONSOLE-NOTES.md
 # ---------------------------------------------------------------------------------------------------------------
 
@@ -676,10 +767,13 @@ BYTES_ROOM_LIMIT = 140000
 FILE_NAME_LIMIT = 4000
 HOLD_LIMIT = 300
 BREAKS_LIMIT = 300
+INDEX_LIMIT = 300
+ENTRY_LIMIT = 2**31 - 1  # an entry in memory is one number of 32 bits, twice the count plus the mark
 NUMBER_LIMIT = 2**64 - 1
 
 BYTE_FILL = 0xEE
 UNIT_FILL = 0xEEEE
+ENTRY_FILL = Entry(UNIT_FILL, True)
 
 
 class NotACommand(Exception):
@@ -788,7 +882,7 @@ def read_image_file(name, folders):
 
 class Console:
     """Holds a table set, a byte text, a unit text, the run in hand, a field buffer (the hold) and the number of units that
-    are held in it; answers one line at a time."""
+    are held in it, and a journal index; answers one line at a time."""
 
     def __init__(self, folders=(".",)):
         self.folders = list(folders)
@@ -798,6 +892,7 @@ class Console:
         self.run = Run(DECODING, 0, (0, 0, 0), None, 0, 0, 0, False)
         self.hold = []
         self.held = 0
+        self.index = []
         # each command with the number of words after its name, or the numbers that it may have
         self.commands = {
             b"table": (1, self.do_table),
@@ -819,6 +914,10 @@ class Console:
             b"standard": (0, self.do_standard),
             b"breaks": (range(3, 3 + BREAKS_LIMIT + 1), self.do_breaks),
             b"propose": (4, self.do_propose),
+            b"index": (1, self.do_index),
+            b"entry": (3, self.do_entry),
+            b"append": (2, self.do_append),
+            b"find": (2, self.do_find),
         }
 
     def answer(self, line):
@@ -1002,6 +1101,30 @@ class Console:
         total = proposed[1]
         words = [total, *out[:total], kept_text(out, total, UNIT_FILL)]
         return "propose 0 " + " ".join(str(word) for word in words)
+
+    def do_index(self, size):
+        self.index = [ENTRY_FILL] * number_word(size, INDEX_LIMIT)
+        return f"index {len(self.index)}"
+
+    def do_entry(self, place, count, mark):
+        place = number_word(place, len(self.index) - 1)
+        self.index[place] = Entry(number_word(count, ENTRY_LIMIT), choice_word(mark, {b"0": False, b"1": True}))
+        return f"entry {place}"
+
+    def do_append(self, former, count):
+        former = number_word(former, NUMBER_LIMIT)
+        journal = self.part_of(self.byte_text, b"0", count)
+        number = append_call(self.table, journal, former, self.index)
+        entries = " ".join(f"{entry.count}/{int(entry.mark)}" for entry in self.index)
+        return f"append {number} {entries or '-'}"
+
+    def do_find(self, number, count):
+        number = number_word(number, NUMBER_LIMIT)
+        journal = self.part_of(self.byte_text, b"0", count)
+        found = find_call(self.table, journal, self.index, number)
+        if found in (10, 11, 28, 29):
+            return f"find {found}"
+        return f"find 0 {found[1]} {found[2]}"
 
 
 def script_lines(script):

@@ -28,6 +28,7 @@ import make_tables
 import page_scripts
 import random_scripts
 import second_converter as converter
+import wrong_converters
 
 ROOT = os.path.dirname(os.path.dirname(os.path.abspath(__file__)))
 SCRIPTS = os.path.join(ROOT, "scripts")
@@ -143,6 +144,8 @@ def check_coverage(options):
         "standard": (5,),
         "breaks": (0, 10, 11, 30),
         "propose": (0, 10, 11, 31, 32),
+        "append": (0, 10, 11, 28, 33),
+        "find": (0, 10, 11, 28, 29),
     }
     seen = {command: set() for command in wanted}
     shown = set()
@@ -569,11 +572,71 @@ def check_breaks(options):
 
 
 # ---------------------------------------------------------------------------------------------------------------
+# The index of a journal against all codes of the journal
+# ---------------------------------------------------------------------------------------------------------------
+
+
+def spans_of(reader, text, place=0):
+    """The codes of a text from a place on, as (place, end)."""
+    return [match.span() for match in reader.finditer(text, place)]
+
+
+def index_of(spans, size):
+    """The index made anew: for each block the codes that start before it, and whether one of them ends behind its first place."""
+    found = []
+    for begin in range(0, size, 512):
+        before = [span for span in spans if span[0] < begin]
+        found.append(converter.Entry(len(before), bool(before) and before[-1][1] > begin))
+    return found
+
+
+def found_by(reader, text, index, number):
+    """Document 02's rule for any index."""
+    blocks = [block for block in range(len(index)) if 512 * block < len(text) and index[block].count <= number]
+    if not blocks:
+        return 29
+    entry = index[blocks[-1]]
+    spans = spans_of(reader, text, 512 * blocks[-1] + entry.mark)[number - entry.count : number - entry.count + 1]
+    return ("code", spans[0][0], spans[0][1] - spans[0][0]) if spans else 29
+
+
+def check_index(options):
+    """Journals that grow in random steps: the index is the one made anew, every code is found by it, and by a wrong one the code
+    that the rule says."""
+    chance = random.Random(14)
+    all_tables = random_scripts.random_tables(1)
+    for number in range(60):
+        tables = all_tables[chance.choice([name for name in all_tables if not name.startswith("damaged")])]
+        table = converter.read_image(tables.image())
+        reader = byte_reader(table)
+        make_text = chance.choice((random_scripts.random_bytes, random_scripts.random_halves))
+        text = bytes(make_text(chance, tables, chance.choice((0, 1, 512, 513, 1025, chance.randrange(1700)))))
+        index = [converter.ENTRY_FILL] * (converter.block_count(len(text)) + 1)
+        former = 0
+        while former < len(text):
+            size = min(len(text), former + chance.choice((1, 2, 511, 512, 513, chance.randrange(1, 1700))))
+            expect(converter.append_call(table, text[:size], former, index) == 0, f"journal {number}: not appended")
+            wanted = index_of(spans_of(reader, text[:size]), size)
+            expect(index == wanted + [converter.ENTRY_FILL] * (len(index) - len(wanted)), f"journal {number}: the index at {size}")
+            former = size
+        spans = spans_of(reader, text)
+        for place in {*range(0, len(spans), 37), *range(len(spans) - 3, len(spans))} & set(range(len(spans))):
+            wanted = ("code", spans[place][0], spans[place][1] - spans[place][0])
+            expect(converter.find_call(table, text, index, place) == wanted, f"journal {number}: code {place}")
+        expect(converter.find_call(table, text, index, len(spans)) == 29, f"journal {number}: one code more")
+        for _ in range(20):
+            index[chance.randrange(len(index))] = converter.Entry(chance.randrange(len(text) + 2), chance.random() < 0.5)
+            asked = chance.randrange(len(text) + 2)
+            wanted = found_by(reader, text, index, asked)
+            expect(converter.find_call(table, text, index, asked) == wanted, f"journal {number}: code {asked} by a wrong index")
+
+
+# ---------------------------------------------------------------------------------------------------------------
 # The scripts against wrong converters
 # ---------------------------------------------------------------------------------------------------------------
 
 
-def wrong_converters():
+def wrong_base_converters():
     """Name, the function that is replaced, its wrong body. Document 01's 'Errors that look right' come first."""
     right = {name: getattr(converter, name) for name in dir(converter)}
 
@@ -678,7 +741,7 @@ def wrong_converters():
         ("257 blocks are good", "shape_report", more_blocks),
         ("written has 32 bits", "keeps_run_rules", written_below_limit),
         ("written may be one more", "keeps_run_rules", carried_at_written),
-        *wrong_numbers(right),
+        *wrong_converters.wrong_numbers(),
         ("page 1 is refused", "start_call", page_one_refused),
         ("6 is allowed for encoding", "digits_allowed", six_for_encoding),
         ("the second digit of an encoding run is not checked", "digits_allowed", first_digit_only),
@@ -1304,7 +1367,7 @@ def wrong_break_converters():
     """The same for receipt lines (document 02, CR 12)."""
     right = {name: getattr(converter, name) for name in dir(converter)}
     is_acceptable, own_breaks, code_ends = right["is_acceptable"], right["own_breaks"], right["code_ends"]
-    propose_call, break_refusal = right["propose_call"], right["break_refusal"]
+    propose_call = right["propose_call"]
 
     def judged(change):
         """Another proposal, or another width, is judged in place of the one given; None is not accepted."""
@@ -1414,26 +1477,6 @@ def wrong_break_converters():
         ends = code_ends(table, text)
         return [end - start for start, end in zip([0] + ends, ends)]
 
-    def read_as(size_of):
-        """Where the codes end, if a code of this kind has another size: size_of gets the code, its bytes and the table."""
-
-        def wrong(table, text):
-            ends, place = [], 0
-            while place < len(text):
-                second = text[place + 1] if place + 1 < len(text) else None
-                code = right["read_code"](table, text[place], second)
-                place += size_of(code, table, text[place], second)
-                ends.append(place)
-            return ends
-
-        return wrong
-
-    def is_lead(table, byte):
-        return table.classes[byte] in (2, 6)
-
-    def old_rule(code, table, first, second):
-        return 2 if is_lead(table, first) and second is not None else code.size
-
     def short_list(table, text, width, out):
         """The list is filled as the breaks are found: 32 where it is full, before a code that is too long is met."""
         answer = propose_call(table, text, width, out)
@@ -1499,26 +1542,6 @@ def wrong_break_converters():
         if isinstance(answer, tuple) and answer[1] + 1 > len(out) and text:
             return 32
         return propose_call(table, text, width, out)
-
-    def length_first(table, text):
-        return 11 if len(text) > 65536 else break_refusal(table, text)
-
-    def refused_at_limit(table, text):
-        return break_refusal(table, text) or (11 if len(text) == 65536 else None)
-
-    def never_too_long(table, text):
-        refusal = break_refusal(table, text)
-        return None if refusal == 11 else refusal
-
-    def empty_is_not_asked(table, text):
-        return break_refusal(table, text) if text else None
-
-    def page_is_not_asked(table, text):
-        return break_refusal(converter.replace(table, page=table.page or 1), text)
-
-    def encoding_is_not_asked(table, text):
-        """Index and blocks are of no use here."""
-        return break_refusal(converter.replace(table, index=[0] * 256, blocks=[0] * 256), text)
 
     def width_first(call, refusal):
         """Width 0 is refused before the length."""
@@ -1628,26 +1651,12 @@ def wrong_break_converters():
         ("31 on an empty text", lambda table, text, width: own_breaks(table, text, width) if text else None),
         ("31 at width 0 only", none_if(lambda table, text, width: width == 0 and len(text) > 0)),
         ("31 at width 1 for any lead", none_if(lambda table, text, width: max(code_sizes(table, text), default=0) > width
-                                               or (width == 1 and any(is_lead(table, byte) for byte in text)))),
+                                               or (width == 1 and any(table.classes[byte] in (2, 6) for byte in text)))),
         ("31 for the first code only", none_if(lambda table, text, width: len(text) > 0 and code_sizes(table, text)[0] > width)),
         ("31 for the last code only", none_if(lambda table, text, width: len(text) > 0 and code_sizes(table, text)[-1] > width)),
         ("31 at odd widths with codes of two bytes alone",
          none_if(lambda table, text, width: max(code_sizes(table, text), default=0) > width
                  or (width % 2 == 1 and len(text) > width and set(code_sizes(table, text)) == {2}))),
-    )
-    reading = (
-        ("CR 2 is forgotten", read_as(old_rule)),
-        ("any bad second byte is left unread",
-         read_as(lambda code, table, first, second: 1 if is_lead(table, first) and code.kind == 4 else code.size)),
-        ("an undefined pair is two codes", read_as(lambda code, table, first, second: 1 if code.kind == 2 else code.size)),
-        ("only characters have codes of two bytes", read_as(lambda code, table, first, second: code.size if code.kind == 0 else 1)),
-        ("every code is one byte", read_as(lambda code, table, first, second: 1)),
-        ("a lead at the text's end is a code of two bytes",
-         read_as(lambda code, table, first, second: 2 if is_lead(table, first) and second is None else code.size)),
-        ("a byte that is never a code takes the next",
-         read_as(lambda code, table, first, second: 2 if table.classes[first] in (0, 4) and second is not None else code.size)),
-        ("a byte of 80 or more begins a code of two bytes",
-         read_as(lambda code, table, first, second: 2 if first >= 0x80 and second is not None else code.size)),
     )
     calling = (
         ("32 before 31", short_list),
@@ -1661,14 +1670,6 @@ def wrong_break_converters():
         ("a list that is too short is filled and accepted", what_fits),
         ("31 before 11", width_first("propose_call", 31)),
     )
-    refusing = (
-        ("11 before 10", length_first),
-        ("11 at 65,536 bytes", refused_at_limit),
-        ("no text is too long", never_too_long),
-        ("an empty text asks nothing of the tables", empty_is_not_asked),
-        ("page 0 is good", page_is_not_asked),
-        ("index and blocks are not asked for", encoding_is_not_asked),
-    )
     playing = (
         ("breaks are counted from the whole text's beginning", CountsFromTheWhole),
         ("a proposal gives up the run in hand", StartsAnew),
@@ -1678,15 +1679,15 @@ def wrong_break_converters():
     return (
         *((title, "is_acceptable", wrong) for title, wrong in checking),
         *((title, "own_breaks", wrong) for title, wrong in proposing),
-        *((title, "code_ends", wrong) for title, wrong in reading),
         *((title, "propose_call", wrong) for title, wrong in calling),
-        *((title, "break_refusal", wrong) for title, wrong in refusing),
         *((title, "Console", wrong) for title, wrong in playing),
         *widths,
         ("30 before 11", "breaks_call", width_first("breaks_call", 30)),
         ("301 breaks are a command", "BREAKS_LIMIT", 301),
         ("300 breaks are no command", "BREAKS_LIMIT", 299),
-        *wrong_numbers(right),
+        *wrong_converters.wrong_readings(),
+        *wrong_converters.wrong_text_refusals(),
+        *wrong_converters.wrong_numbers(),
     )
 
 
@@ -1695,21 +1696,6 @@ def answers_otherwise(commands, answers):
     console, expected = converter.Console(FOLDERS), iter(answers.decode("ascii").splitlines())
     got = filter(None, map(console.answer, converter.script_lines(commands)))
     return any(left != right for left, right in itertools.zip_longest(got, expected))
-
-
-def wrong_numbers(right):
-    """Wrong readers of a decimal number, for any wrong console: the right functions are handed in."""
-
-    def wrapping_number(field):
-        value = right["plain_number"](field)
-        if value is None and re.fullmatch(rb"[1-9][0-9]*", field):
-            value = int(field[:4000])
-        return None if value is None else value % 2**64
-
-    def spare_zeros(field):
-        return int(field) if re.fullmatch(rb"[0-9]{1,20}", field) else None
-
-    return (("numbers wrap at 64 bits", "plain_number", wrapping_number), ("spare zeros are read", "plain_number", spare_zeros))
 
 
 def expect_found_out(wrong_ones, names):
@@ -1727,7 +1713,7 @@ def expect_found_out(wrong_ones, names):
 
 def check_wrong_converters(options):
     """Each wrong converter is found out by at least one of the small fixed scripts."""
-    expect_found_out(wrong_converters(), ("rows", "calls", "policies", "shapes", "lines", "refusals", "edges"))
+    expect_found_out(wrong_base_converters(), ("rows", "calls", "policies", "shapes", "lines", "refusals", "edges"))
     carrying, settling = wrong_takings("D")
     on_sample, on_other_tables = wrong_half_converters()
     expect_found_out(carrying + on_other_tables, ("calls",))
@@ -1740,6 +1726,7 @@ def check_wrong_converters(options):
     expect_found_out(wrong_standards(), ("standard",))
     expect_found_out(wrong_field_converters(), ("fields",))
     expect_found_out(wrong_break_converters(), ("breaks",))
+    expect_found_out(wrong_converters.wrong_index_converters(), ("index",))
 
 
 def check_standard_is_told(options):
@@ -1807,6 +1794,7 @@ CHECKS = (
     ("one line a run, one run a line", check_lines),
     ("lists of calls against the fields of the uncut text", check_fields),
     ("receipt lines against a search of all proposals", check_breaks),
+    ("the index of a journal against all its codes", check_index),
     ("wrong converters are found out", check_wrong_converters),
     ("the standard policy is told and not used", check_standard_is_told),
     ("wrong page tables are found out", check_wrong_pages),

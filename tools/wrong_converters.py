@@ -1,0 +1,504 @@
+"""Wrong converters that the scripts must find out (a module of test_tools.py).
+
+Each is a title, the name of what is replaced in second_converter.py, and what stands there instead. First those that any call on a
+whole text may be, then those of a request of document 02.
+"""
+
+import re
+
+import second_converter as converter
+
+RIGHT = {name: getattr(converter, name) for name in dir(converter)}
+
+
+def named(name, wrong_ones):
+    """Wrong ones of one function."""
+    return tuple((title, name, wrong) for title, wrong in wrong_ones)
+
+
+# ---------------------------------------------------------------------------------------------------------------
+# Words, codes and refusals of any call on a whole text
+# ---------------------------------------------------------------------------------------------------------------
+
+
+def wrong_numbers():
+    """Readers of a decimal number."""
+
+    def wrapping_number(field):
+        value = RIGHT["plain_number"](field)
+        if value is None and re.fullmatch(rb"[1-9][0-9]*", field):
+            value = int(field[:4000])
+        return None if value is None else value % 2**64
+
+    def spare_zeros(field):
+        return int(field) if re.fullmatch(rb"[0-9]{1,20}", field) else None
+
+    return named("plain_number", (("numbers wrap at 64 bits", wrapping_number), ("spare zeros are read", spare_zeros)))
+
+
+def is_lead(table, byte):
+    return table.classes[byte] in (2, 6)
+
+
+def read_as(size_of):
+    """The codes of a text, if codes have other sizes: size_of gets the code, the table and its bytes."""
+
+    def wrong(table, text, place):
+        while place < len(text):
+            second = text[place + 1] if place + 1 < len(text) else None
+            code = RIGHT["read_code"](table, text[place], second)
+            code = converter.replace(code, size=size_of(code, table, text[place], second))
+            yield place, code
+            place += code.size
+
+    return wrong
+
+
+def wrong_readings():
+    """Other sizes of codes."""
+    return named("codes_from", (
+        ("CR 2 is forgotten",
+         read_as(lambda code, table, first, second: 2 if is_lead(table, first) and second is not None else code.size)),
+        ("any bad second byte is left unread",
+         read_as(lambda code, table, first, second: 1 if is_lead(table, first) and code.kind == 4 else code.size)),
+        ("an undefined pair is two codes", read_as(lambda code, table, first, second: 1 if code.kind == 2 else code.size)),
+        ("only characters have codes of two bytes", read_as(lambda code, table, first, second: code.size if code.kind == 0 else 1)),
+        ("every code is one byte", read_as(lambda code, table, first, second: 1)),
+        ("a lead at the text's end is a code of two bytes",
+         read_as(lambda code, table, first, second: 2 if is_lead(table, first) and second is None else code.size)),
+        ("a byte that is never a code takes the next",
+         read_as(lambda code, table, first, second: 2 if table.classes[first] in (0, 4) and second is not None else code.size)),
+        ("a byte of 80 or more begins a code of two bytes",
+         read_as(lambda code, table, first, second: 2 if first >= 0x80 and second is not None else code.size)),
+    ))
+
+
+def wrong_text_refusals():
+    """10 and 11."""
+    text_refusal = RIGHT["text_refusal"]
+
+    def never_too_long(table, text):
+        refusal = text_refusal(table, text)
+        return None if refusal == 11 else refusal
+
+    return named("text_refusal", (
+        ("11 before 10", lambda table, text: 11 if len(text) > 65536 else text_refusal(table, text)),
+        ("11 at 65,536 bytes", lambda table, text: text_refusal(table, text) or (11 if len(text) == 65536 else None)),
+        ("no text is too long", never_too_long),
+        ("an empty text asks nothing of the tables", lambda table, text: text_refusal(table, text) if text else None),
+        ("page 0 is good", lambda table, text: text_refusal(converter.replace(table, page=table.page or 1), text)),
+        ("index and blocks are not asked for",
+         lambda table, text: text_refusal(converter.replace(table, index=[0] * 256, blocks=[0] * 256), text)),
+    ))
+
+
+# ---------------------------------------------------------------------------------------------------------------
+# The index of a journal (CR 11)
+# ---------------------------------------------------------------------------------------------------------------
+
+BLOCK = 512
+FRONT = RIGHT["FIRST_ENTRY"]
+
+
+def blocks_of(journal):
+    return RIGHT["block_count"](len(journal))
+
+
+def wrong_finders():
+    find_call = RIGHT["find_call"]
+
+    def from_block(choose):
+        """Reads on from another block: choose gets the counts of the journal's blocks and n, and answers a block or None."""
+
+        def wrong(table, journal, index, number):
+            found = find_call(table, journal, index, number)
+            if found in (10, 11, 28) or not journal:
+                return found
+            block = choose([entry.count for entry in index[: blocks_of(journal)]], number)
+            # only this block counts at most n
+            only = [entry if place == block else converter.Entry(number + 1, False) for place, entry in enumerate(index)]
+            return find_call(table, journal, only, number)
+
+        return wrong
+
+    def at_most(counts, number):
+        return [block for block, count in enumerate(counts) if count <= number]
+
+    def bisected(counts, number):
+        first, behind = 0, len(counts)
+        while behind - first > 1:
+            middle = (first + behind) // 2
+            first, behind = (middle, behind) if counts[middle] <= number else (first, middle)
+        return first
+
+    def until_more(counts, number):
+        """The blocks are looked at from the front, up to the first that counts more."""
+        before = next((block for block, count in enumerate(counts) if count > number), len(counts)) - 1
+        return before if before >= 0 else None
+
+    def nearest(counts, number):
+        return max(at_most(counts, number), key=lambda block: (counts[block], block), default=None)
+
+    def with_index(change):
+        """Finds by another index."""
+        return lambda table, journal, index, number: find_call(table, journal, change(index, journal, number), number)
+
+    def with_number(change):
+        return lambda table, journal, index, number: find_call(table, journal, index, change(number))
+
+    def answered(change):
+        """Another answer where a code is found: change gets its place and length, the journal and the block's number and entry."""
+
+        def wrong(table, journal, index, number):
+            found = find_call(table, journal, index, number)
+            if isinstance(found, int):
+                return found
+            block = at_most([entry.count for entry in index[: blocks_of(journal)]], number)[-1]
+            changed = change(found[1], found[2], journal, block, index[block])
+            return changed if isinstance(changed, int) else ("code", *changed)
+
+        return wrong
+
+    def refused(change):
+        """Another number where a call is refused."""
+
+        def wrong(table, journal, index, number):
+            found = find_call(table, journal, index, number)
+            return change(found, table, journal, index, number) if isinstance(found, int) else found
+
+        return wrong
+
+    def every_entry_asked(table, journal, index, number):
+        """Entries behind the journal's last block are asked too."""
+        found = find_call(table, journal, index, number)
+        behind = [block for block, entry in enumerate(index) if entry.count <= number and BLOCK * block >= len(journal)]
+        return found if isinstance(found, int) or not behind else 29
+
+    def last_entry_checked(table, journal, index, number):
+        found = find_call(table, journal, index, number)
+        last = blocks_of(journal) - 1
+        return 28 if found not in (10, 11, 28) and last >= 0 and index[last].count > BLOCK * last else found
+
+    return named("find_call", (
+        ("from the first block that counts at most n", from_block(lambda counts, number: min(at_most(counts, number), default=None))),
+        ("from a block that counts less than n",
+         from_block(lambda counts, number: max(at_most(counts, number - 1), default=0 if counts[0] <= number else None))),
+        ("blocks are bisected", from_block(bisected)),
+        ("blocks are looked at up to the first that counts more", from_block(until_more)),
+        ("from the block that counts most", from_block(nearest)),
+        ("from block 0 always", from_block(lambda counts, number: 0)),
+        ("from the first of equal counts",
+         from_block(lambda counts, number: counts.index(counts[at_most(counts, number)[-1]]) if at_most(counts, number) else None)),
+        ("from the block before", from_block(lambda counts, number: max(max(at_most(counts, number), default=0) - 1, 0))),
+        ("from block n / 512", from_block(lambda counts, number: min(number // BLOCK, len(counts) - 1))),
+        ("the mark is ignored", with_index(lambda index, journal, number: [converter.Entry(entry.count, False) for entry in index])),
+        ("every block is marked", with_index(lambda index, journal, number: [converter.Entry(entry.count, True) for entry in index])),
+        ("entry 0 is not asked", with_index(lambda index, journal, number: [FRONT, *index[1:]] if index else index)),
+        ("the count of entry 0 is not asked",
+         with_index(lambda index, journal, number: [converter.Entry(0, index[0].mark), *index[1:]] if index else index)),
+        ("the mark of entry 0 is not asked",
+         with_index(lambda index, journal, number: [converter.Entry(index[0].count, False), *index[1:]] if index else index)),
+        ("an index that is too short is read from the front",
+         with_index(lambda index, journal, number: [FRONT] * blocks_of(journal) if len(index) < blocks_of(journal) else index)),
+        ("where no block counts at most n, from the front",
+         with_index(lambda index, journal, number: index if any(entry.count <= number for entry in index[: blocks_of(journal)])
+                    else [FRONT] * len(index))),
+        ("counts have 16 bits", with_index(lambda index, journal, number: [converter.Entry(entry.count % 2**16, entry.mark) for entry in index])),
+        ("n has 16 bits", with_number(lambda number: number % 2**16)),
+        ("n has 31 bits", with_number(lambda number: number % 2**31)),
+        ("n has 32 bits", with_number(lambda number: number % 2**32)),
+        ("n has a sign", with_number(lambda number: number % 2**63)),
+        ("codes are counted from 1", with_number(lambda number: max(number - 1, 0))),
+        ("the place is counted from the block", answered(lambda place, size, journal, block, entry: (place - BLOCK * block, size))),
+        ("the place is the code's last byte", answered(lambda place, size, journal, block, entry: (place + size - 1, size))),
+        ("the place is the code's end", answered(lambda place, size, journal, block, entry: (place + size, size))),
+        ("the length is always 1", answered(lambda place, size, journal, block, entry: (place, 1))),
+        ("reading ends with the block",
+         answered(lambda place, size, journal, block, entry: 29 if place >= BLOCK * (block + 1) else (place, size))),
+        ("a code across the block's end is not found",
+         answered(lambda place, size, journal, block, entry: 29 if place // BLOCK != (place + size - 1) // BLOCK else (place, size))),
+        ("the journal's last code is not found",
+         answered(lambda place, size, journal, block, entry: 29 if place + size == len(journal) else (place, size))),
+        ("29 before 28", refused(lambda found, table, journal, index, number: 29 if found == 28 and number >= len(journal) else found)),
+        ("28 before 11", refused(lambda found, table, journal, index, number: 28 if found == 11 and len(index) < 129 else found)),
+        ("28 for an empty journal", refused(lambda found, table, journal, index, number: 28 if found == 29 and not journal else found)),
+        ("28 for an index that is longer than needed",
+         lambda table, journal, index, number: 28 if journal and len(index) > blocks_of(journal)
+         else find_call(table, journal, index, number)),
+        ("every entry of the index is asked", every_entry_asked),
+        ("the last entry's count is checked", last_entry_checked),
+        ("n behind the end is the last code",
+         refused(lambda found, table, journal, index, number: ("code", len(journal) - 1, 1) if found == 29 and journal else found)),
+    ))
+
+
+def wrong_appenders():
+    append_call, entries_behind = RIGHT["append_call"], RIGHT["entries_behind"]
+
+    def accepted(change):
+        """Where bytes are appended, something else is done: change gets the index before and after, which it changes."""
+
+        def wrong(table, journal, former, index):
+            before = list(index)
+            number = append_call(table, journal, former, index)
+            if number == 0:
+                change(table, journal, former, before, index)
+            return number
+
+        return wrong
+
+    def made_anew(table, journal, former, before, index):
+        append_call(table, journal, 0, index)
+
+    def from_entry_0(table, journal, former, before, index):
+        for block, entry in enumerate(entries_behind(table, journal, 0, index[0]) if journal else [], 1):
+            if block >= RIGHT["block_count"](former):
+                index[block] = entry
+
+    def last_made_anew(table, journal, former, before, index):
+        last = RIGHT["block_count"](former) - 1
+        if last >= 0:
+            index[last] = entries_behind(table, journal, last - 1, index[last - 1])[0] if last else FRONT
+
+    def rest_cleared(table, journal, former, before, index):
+        index[blocks_of(journal) :] = [FRONT] * (len(index) - blocks_of(journal))
+
+    def one_entry_more(table, journal, former, before, index):
+        if journal and len(journal) % BLOCK == 0 and blocks_of(journal) < len(index):
+            last = blocks_of(journal) - 1
+            codes = list(RIGHT["codes_of_block"](table, journal, last, index[last]))
+            index[last + 1] = converter.Entry(index[last].count + len(codes), False)
+
+    def full_blocks_only(table, journal, former, before, index):
+        if len(journal) % BLOCK and former <= BLOCK * (len(journal) // BLOCK):
+            index[len(journal) // BLOCK] = before[len(journal) // BLOCK]
+
+    def nothing_done(table, journal, former, before, index):
+        index[:] = before
+
+    def former_block_by_length(table, journal, former, before, index):
+        """A former length that ends a block is taken for one of the next block."""
+        last = former // BLOCK
+        if former and former % BLOCK == 0 and last < blocks_of(journal):
+            index[:] = before
+            index[last + 1 : blocks_of(journal)] = entries_behind(table, journal, last, before[last])
+
+    def from_former_length(table, journal, former, before, index):
+        """Going on reads from the first new byte, not from the block's first."""
+        last = RIGHT["block_count"](former) - 1
+        if last < 0 or former % BLOCK == 0:
+            return
+        starts = [place for place, _ in RIGHT["codes_from"](table, journal, former)]
+        for block in range(last + 1, blocks_of(journal)):
+            count = before[last].count + sum(place < BLOCK * block for place in starts)
+            index[block] = converter.Entry(count, index[block].mark)
+
+    def touched_if(numbers, change):
+        """A refusal that touches the index."""
+
+        def wrong(table, journal, former, index):
+            number = append_call(table, journal, former, index)
+            if number in numbers:
+                change(table, journal, former, index)
+            return number
+
+        return wrong
+
+    def first_cleared(table, journal, former, index):
+        index[:1] = [FRONT] * len(index[:1])
+
+    def what_fits(table, journal, former, index):
+        """The blocks that the index has room for."""
+        return append_call(table, journal[: BLOCK * len(index)], min(former, BLOCK * len(index)), index)
+
+    def short_is_filled(table, journal, former, index):
+        number = append_call(table, journal, former, index)
+        if number == 28 and len(index) < blocks_of(journal):
+            return what_fits(table, journal, former, index)
+        return number
+
+    return named("append_call", (
+        ("the index is made anew", accepted(made_anew)),
+        ("going on from entry 0", accepted(from_entry_0)),
+        ("the former last entry is made anew", accepted(last_made_anew)),
+        ("entries behind the last are cleared", accepted(rest_cleared)),
+        ("a block that is not begun has an entry", accepted(one_entry_more)),
+        ("only full blocks have entries", accepted(full_blocks_only)),
+        ("nothing is appended", accepted(nothing_done)),
+        ("a former length that ends a block is of the next", accepted(former_block_by_length)),
+        ("going on reads from the first new byte", accepted(from_former_length)),
+        ("33 touches the index", touched_if((33,), first_cleared)),
+        ("28 touches the index", touched_if((28,), first_cleared)),
+        ("28 fills what there is", touched_if((28,), what_fits)),
+        ("an index that is too short is filled and accepted", short_is_filled),
+        ("the former length has 32 bits",
+         lambda table, journal, former, index: append_call(table, journal, former % 2**32, index)),
+        ("the former length has a sign",
+         lambda table, journal, former, index: append_call(table, journal, 0 if former >= 2**63 else former, index)),
+    ))
+
+
+def wrong_entries():
+    """Other entries, told from a block's."""
+    entries_behind, codes_of_block = RIGHT["entries_behind"], RIGHT["codes_of_block"]
+
+    def counted(is_before):
+        """Another count: which codes are before a block, by their place, size and the block's begin."""
+
+        def wrong(table, journal, block, entry):
+            codes = [(place, code.size) for place, code in codes_of_block(table, journal, block, entry)]
+            found = []
+            for number, right in enumerate(entries_behind(table, journal, block, entry), block + 1):
+                count = sum(is_before(place, size, BLOCK * number) for place, size in codes)
+                found.append(converter.Entry(entry.count + count, right.mark))
+            return found
+
+        return wrong
+
+    def marked(is_marked):
+        """Another mark, by the table, the byte before the block and its first byte, and the right one."""
+
+        def wrong(table, journal, block, entry):
+            found = []
+            for number, right in enumerate(entries_behind(table, journal, block, entry), block + 1):
+                first, second = journal[BLOCK * number - 1 : BLOCK * number + 1]
+                found.append(converter.Entry(right.count, is_marked(table, first, second, right.mark)))
+            return found
+
+        return wrong
+
+    def gone_on(change):
+        """Going on from another entry."""
+        return lambda table, journal, block, entry: entries_behind(table, journal, block, change(entry))
+
+    def kind_of(table, first, second):
+        return RIGHT["read_code"](table, first, second).kind
+
+    return named("entries_behind", (
+        ("a code that starts at the block is counted", counted(lambda place, size, begin: place <= begin)),
+        ("a code across the block's end is not counted", counted(lambda place, size, begin: place + size <= begin)),
+        ("bytes are counted", counted(lambda place, size, begin: size if place < begin else 0)),
+        ("nothing is marked", marked(lambda table, first, second, right: False)),
+        ("a block behind a lead is marked", marked(lambda table, first, second, right: is_lead(table, first))),
+        ("a block that begins with a byte that may be second is marked",
+         marked(lambda table, first, second, right: is_lead(table, first) and table.classes[second] in (4, 5, 6))),
+        ("only a character across the end marks a block",
+         marked(lambda table, first, second, right: right and kind_of(table, first, second) == 0)),
+        ("an invalid code across the end marks no block",
+         marked(lambda table, first, second, right: right and kind_of(table, first, second) != 4)),
+        ("the mark is of the code that starts at the block", marked(lambda table, first, second, right: is_lead(table, second))),
+        ("going on ignores the mark", gone_on(lambda entry: converter.Entry(entry.count, False))),
+        ("going on counts from 0", gone_on(lambda entry: converter.Entry(0, entry.mark))),
+        ("going on counts the marked code again", gone_on(lambda entry: converter.Entry(entry.count + entry.mark, entry.mark))),
+    ))
+
+
+def wrong_append_refusals():
+    append_refusal = RIGHT["append_refusal"]
+
+    def over(index, former, most):
+        """Whether the former last entry counts more than most says of its block and the former length."""
+        last = RIGHT["block_count"](former) - 1
+        return 0 <= last < len(index) and index[last].count > most(last, former)
+
+    def counted(most):
+        """28 by another most."""
+
+        def wrong(table, journal, former, index):
+            right = append_refusal(table, journal, former, [FRONT] * len(index))
+            return 28 if right is None and over(index, former, most) else right
+
+        return wrong
+
+    def first_if(number, later, holds):
+        """A refusal is given ahead of another."""
+
+        def wrong(table, journal, former, index):
+            right = append_refusal(table, journal, former, index)
+            return number if right in later and holds(journal, former, index) else right
+
+        return wrong
+
+    def all_entries_checked(table, journal, former, index):
+        right = append_refusal(table, journal, former, index)
+        blocks = range(RIGHT["block_count"](former))
+        return 28 if right is None and any(index[block].count > BLOCK * block for block in blocks) else right
+
+    def too_short(journal, former, index):
+        return len(index) < blocks_of(journal)
+
+    return named("append_refusal", (
+        ("28 for as many codes as bytes before", counted(lambda last, former: BLOCK * last - 1 if last else 0)),
+        ("28 goes by the former length", counted(lambda last, former: former)),
+        ("28 goes by the block's end", counted(lambda last, former: BLOCK * (last + 1))),
+        ("the former last entry is not asked", counted(lambda last, former: 2**32)),
+        ("entry 0 is not asked", counted(lambda last, former: BLOCK * last if last else 2**32)),
+        ("every former entry is asked", all_entries_checked),
+        ("33 for an equal length",
+         lambda table, journal, former, index: append_refusal(table, journal, former + 1 if former else 0, index)),
+        ("28 before 33", first_if(28, (33,), too_short)),
+        ("33 before 11", first_if(33, (11,), lambda journal, former, index: former > len(journal))),
+        ("28 before 11", first_if(28, (11,), too_short)),
+        ("33 before 10", first_if(33, (10,), lambda journal, former, index: former > len(journal))),
+        ("28 before 10", first_if(28, (10,), too_short)),
+        ("nothing new asks nothing",
+         lambda table, journal, former, index: None if append_refusal(table, journal, former, index) == 28 and former == len(journal)
+         and not too_short(journal, former, index) else append_refusal(table, journal, former, index)),
+    ))
+
+
+def wrong_index_consoles():
+    class ClearsTheIndex(converter.Console):
+        """A new byte text gives up the index."""
+
+        def do_bytes(self, text):
+            self.index = [RIGHT["ENTRY_FILL"]] * len(self.index)
+            return super().do_bytes(text)
+
+    class KeepsTheIndex(converter.Console):
+        """A new index has the former one's entries."""
+
+        def do_index(self, size):
+            before = self.index
+            answer = super().do_index(size)
+            self.index[: len(before)] = before[: len(self.index)]
+            return answer
+
+    class StartsAnew(converter.Console):
+        """Finding gives up the run in hand."""
+
+        def do_find(self, number, count):
+            answer = super().do_find(number, count)
+            self.run = converter.Run("D", self.table.page, (5, 5, 5), None, 0, 0, 0, False)
+            return answer
+
+    class CutsTheText(converter.Console):
+        """The journal is the text from then on."""
+
+        def do_append(self, former, count):
+            answer = super().do_append(former, count)
+            self.byte_text = self.byte_text[: int(count)]
+            return answer
+
+    return (
+        ("a new text gives up the index", "Console", ClearsTheIndex),
+        ("a new index has the former entries", "Console", KeepsTheIndex),
+        ("finding gives up the run in hand", "Console", StartsAnew),
+        ("appending cuts the text", "Console", CutsTheText),
+        ("301 entries are a command", "INDEX_LIMIT", 301),
+        ("300 entries are no command", "INDEX_LIMIT", 299),
+        ("an entry counts up to 32 bits", "ENTRY_LIMIT", 2**32 - 1),
+        ("an entry counts one less", "ENTRY_LIMIT", 2**31 - 2),
+        ("blocks of 511 bytes", "BLOCK_SIZE", 511),
+        ("blocks of 513 bytes", "BLOCK_SIZE", 513),
+        ("blocks of 256 bytes", "BLOCK_SIZE", 256),
+        ("there is always one block more", "block_count", lambda size: size // BLOCK + 1),
+    )
+
+
+def wrong_index_converters():
+    """The index of a journal (document 02, CR 11)."""
+    return (
+        *wrong_finders(), *wrong_appenders(), *wrong_entries(), *wrong_append_refusals(), *wrong_index_consoles(), *wrong_readings(),
+        *wrong_text_refusals(), *wrong_numbers(),
+    )
