@@ -1,5 +1,5 @@
-/* The C interface of the till converter (crates capi, capi_text and capi_lines). Link the archive that `rt staticlib capi` writes, for the
- * calls on a whole text that of `rt staticlib capi_text`, and for breaks of lines that of `rt staticlib capi_lines`.
+/* The C interface of the till converter (crates capi, capi_text and capi_products). Link the archive that `rt staticlib capi` writes, for
+ * the calls on a whole text that of `rt staticlib capi_text`, and for breaks of lines and the index that of `rt staticlib capi_products`.
  *
  * Every call ends and answers on any numbers and any contents of its slices; none keeps anything between calls, takes memory or
  * does input or output. A slice is a pointer and a number of elements: the pointer is not NULL (also for 0 elements), aligned,
@@ -98,6 +98,19 @@ typedef struct {
     uint8_t number; /* 0, or that of the refusal */
 } till_breaks;
 
+/* What appending to an index answers. */
+typedef struct {
+    size_t count;   /* entries for the journal */
+    uint8_t number; /* 0, or that of the refusal */
+} till_appended;
+
+/* What finding a code answers. */
+typedef struct {
+    size_t place;   /* of its first byte, from 0 */
+    size_t length;  /* 1 or 2 bytes */
+    uint8_t number; /* 0, or that of the refusal */
+} till_found;
+
 /* The parameters of a table set: page, default byte, default unit, and the five tables. */
 #define TILL_TABLES \
     uint16_t page, uint8_t default_byte, uint16_t default_unit, const uint8_t *classes, size_t classes_len, const uint16_t *singles, \
@@ -149,12 +162,22 @@ till_fault till_shape(TILL_TABLES);
 till_field till_next_field(size_t held, uint16_t *buffer, size_t buffer_len, const uint16_t *block, size_t block_len, uint8_t last);
 
 /* Breaks of a byte text of at most 65,536 bytes into lines of at most width bytes, with no code cut. A break is the place, from 0, at
- * which a line after the first begins; the text's end is not listed. Archive libcapi_lines.a.
+ * which a line after the first begins; the text's end is not listed. Archive libcapi_products.a.
  * Checking: 0 the breaks are acceptable; 10, 11, 30 they are not.
  * Proposing, each line as long as it can be: 0 and the count of breaks, which stand at the front of out; 10, 11, 31 none exists (a code
  * is longer than the width), 32 out is too short for them; then out is as it was. */
 uint8_t till_check_breaks(TILL_TABLES, const uint8_t *text, size_t text_len, uint64_t width, const uint64_t *breaks, size_t breaks_len);
 till_breaks till_propose_breaks(TILL_TABLES, const uint8_t *text, size_t text_len, uint64_t width, uint64_t *out, size_t out_len);
+
+/* An index beside a stored journal of at most 65,536 bytes, to find its nth code (character). For each full or begun block of 512 bytes it
+ * has an entry: twice the codes that start before the block, and 1 more if the block's first byte is the second byte of a code. Archive
+ * libcapi_products.a.
+ * Appending, after bytes were added to a journal that had former bytes (0: the index is made anew): 0 and the count of entries; 10, 11, 33
+ * former is over the journal's length, 28 entries are too few or the former last one counts more codes than bytes before it; then
+ * the entries are as they were.
+ * Finding code n, from 0: 0 with its place and length; 10, 11, 28 entries are too few, 29 there is no such code. */
+till_appended till_append_index(TILL_TABLES, const uint8_t *journal, size_t journal_len, size_t former, uint32_t *entries, size_t entries_len);
+till_found till_find_code(TILL_TABLES, const uint8_t *journal, size_t journal_len, const uint32_t *entries, size_t entries_len, uint64_t n);
 
 #ifdef __cplusplus
 }

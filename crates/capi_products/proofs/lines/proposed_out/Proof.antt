@@ -1,6 +1,6 @@
 use borrow.Author.Needs.{needs}
-use Rattle.capi_lines.proofs.proposed_out.Statement.{statement}
-use Rattle.capi_lines.proofs.proposed_out.Tie as tie
+use Rattle.capi_products.proofs.lines.proposed_out.Statement.{statement}
+use Rattle.capi_products.proofs.lines.proposed_out.Tie as tie
 
 enum-known-proposed : tie.Need-enum-known-proposed
 enum-known-proposed c = search needs

@@ -8,7 +8,7 @@ use Rattle.linebreak.specs.declared.Checked.the-variants as checked
 use Rattle.linebreak.specs.declared.Proposed.{Proposed}
 use Rattle.linebreak.specs.declared.Proposed.the-variants as proposed
 use Rattle.linebreak.specs.Calls.{breakNumber, Proposal}
-use Rattle.capi_lines.specs.declared.TillBreaks.{TillBreaks}
+use Rattle.capi_products.specs.declared.lines.TillBreaks.{TillBreaks}
 
 -- what a check answered, as a number: 0 for breaks that are acceptable
 abbrev pub checkedOut : Checked → ℕ

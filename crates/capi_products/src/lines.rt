@@ -1,10 +1,9 @@
-// The C interface: the exported calls on breaks of a byte text into lines (CR 12). include/till.h is its header; `rt staticlib
-// capi_lines` writes the archive.
+// The exported calls on breaks of a byte text into lines (CR 12).
 ghost use mathlib.Core.Path.{_≡_};
 ghost use lib.ListN.{length};
 ghost use Rattle.linebreak.specs.Calls.{checkOf, proposalOf};
 ghost use Rattle.capi.specs.Interface.{tillPage};
-ghost use Rattle.capi_lines.specs.Lines.{checkedOut, proposedOut, TillProposed};
+ghost use Rattle.capi_products.specs.Lines.{checkedOut, proposedOut, TillProposed};
 use codepage::Numbers;
 use linebreak::Checked;
 use linebreak::Proposed;

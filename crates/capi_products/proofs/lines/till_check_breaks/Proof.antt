@@ -1,8 +1,8 @@
 use mathlib.Core.Path.{ap, _∙_}
 use borrow.Author.Needs.{needs}
-use Rattle.capi_lines.specs.Lines.{checkedOut}
-use Rattle.capi_lines.proofs.till_check_breaks.Statement.{statement}
-use Rattle.capi_lines.proofs.till_check_breaks.Tie as tie
+use Rattle.capi_products.specs.Lines.{checkedOut}
+use Rattle.capi_products.proofs.lines.till_check_breaks.Statement.{statement}
+use Rattle.capi_products.proofs.lines.till_check_breaks.Tie as tie
 
 check-breaks-requires : tie.Need-check-breaks-requires
 check-breaks-requires c κs = search needs

@@ -1,7 +1,7 @@
 use borrow.Author.Needs.{needs}
-use Rattle.capi_lines.proofs.LineLaws.{as-proposed}
-use Rattle.capi_lines.proofs.till_propose_breaks.Statement.{statement}
-use Rattle.capi_lines.proofs.till_propose_breaks.Tie as tie
+use Rattle.capi_products.proofs.LineLaws.{as-proposed}
+use Rattle.capi_products.proofs.lines.till_propose_breaks.Statement.{statement}
+use Rattle.capi_products.proofs.lines.till_propose_breaks.Tie as tie
 
 propose-breaks-requires : tie.Need-propose-breaks-requires
 propose-breaks-requires c κs = search needs

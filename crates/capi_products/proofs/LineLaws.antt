@@ -4,8 +4,8 @@ use mathlib.Core.Path.{_≡_, ap, _∙_}
 use Prim.Native.Nat.{ℕ}
 use Rattle.linebreak.specs.declared.Proposed.{Proposed}
 use Rattle.linebreak.specs.Calls.{Proposal, ProposedAs}
-use Rattle.capi_lines.specs.declared.TillBreaks.{TillBreaks}
-use Rattle.capi_lines.specs.Lines.{proposedOut, TillProposed}
+use Rattle.capi_products.specs.declared.lines.TillBreaks.{TillBreaks}
+use Rattle.capi_products.specs.Lines.{proposedOut, TillProposed}
 
 -- what the call of the library gave, as C sees it
 pub as-proposed : {c : Proposal} {answer : Proposed} {r : TillBreaks} {before after : List ℕ} → ProposedAs c answer before after → r ≡ proposedOut answer → TillProposed c r before after
