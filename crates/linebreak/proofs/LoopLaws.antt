@@ -2,15 +2,17 @@
 use mathlib.Core.Bool.{true, false, true≢false, false≢true}
 use mathlib.Core.List.{List, [], _∷_, _++_}
 use mathlib.Core.Path.{_≡_, refl, sym, ap, _∙_, subst}
-use Prim.Native.Nat.{ℕ, _+_, _≤_, _<_}
+use Prim.Native.Nat.{ℕ, _+_, _-_, _/_, _≤_, _<_}
 use native.Mathlib.Numerals.{add-one}
 use native.Mathlib.Omega.{arith}
+use lib.Dec.{leb}
 use lib.ListN.{length, take, drop, set, length-append, take-append-drop}
 use lib.Seq.{take-suc-set, drop-set-lt, drop-drop, length-take-le}
+use borrow.Author.Tests.{le-leb, lt-leb}
 use Rattle.codepage.specs.Lent.{over}
 use Rattle.codepage.specs.Reading.{Reader, codes}
 use Rattle.linebreak.specs.Breaks.{ours, breakable}
-use Rattle.linebreak.specs.Steps.{CountedAs}
+use Rattle.linebreak.specs.Steps.{CountedAs, sureToFit}
 use Rattle.linebreak.proofs.OursLaws.{Going, lineEnd, last-from, last-within, going-start, going-turn, going-room, going-stuck, going-exists, going-all}
 
 -- a line's end lies at or behind its start, and at most the width behind it
@@ -83,6 +85,21 @@ module _ (r : Reader) (text : List ℕ) (width start i : ℕ) (out : List ℕ) (
       sym (take-append-drop i out) ∙ ap (λ (l : List ℕ). take i out ++ l) same
       ∙ ap (λ (n : ℕ). take i out ++ drop n before) (sym (length-take-le i out h))
       ∙ ap (λ (l : List ℕ). l ++ drop (length l) before) (sym all)
+
+  -- and it was as many turns as ours are
+  pub writing-count : start ≤ length text → length text ≤ start + width → i ≤ length out → i ≡ length (ours r text width)
+  writing-count inside last h = sym (ap length (going-all r text width start (take i out) g inside last) ∙ length-take-le i out h)
+
+-- ---- a list that ours are sure to fit
+-- not at a width below 2
+pub sure-narrow : (size width room : ℕ) → width < 2 → false ≡ sureToFit size width room
+unfolding sureToFit
+sure-narrow size width room h = rw (lt-leb 2 width h)
+
+-- at another width by the bytes alone
+pub sure-wide : (size width room : ℕ) → 2 ≤ width → leb (size / (width - 1)) room ≡ sureToFit size width room
+unfolding sureToFit
+sure-wide size width room h = rw (le-leb 2 width h)
 
 -- the list behind what is written is as before
 pub writing-left : (out before : List ℕ) (i end : ℕ) → drop i out ≡ drop i before → drop (i + 1) (set out i end) ≡ drop (i + 1) before

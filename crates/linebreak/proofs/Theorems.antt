@@ -4,18 +4,21 @@ use mathlib.Core.Bool.{Bool, true, false, _&&_, true≢false, false≢true}
 use mathlib.Core.List.{List, [], _∷_, _++_}
 use mathlib.Core.Logic.{_↔_, _⊎_, inl, inr}
 use mathlib.Core.Path.{_≡_, refl, sym, ap, _∙_, subst}
-use Prim.Native.Nat.{ℕ, zero, suc, _+_, _≤_, _<_}
+use Prim.Native.Nat.{ℕ, zero, suc, _+_, _-_, _*_, _/_, _≤_, _<_}
 use native.Mathlib.Omega.{arith}
 use lib.Dec.{leb, ltb}
 use lib.ListN.{length, getD, length-append}
+use lib.Ieee.Nearest.{div-mono}
 use lib.Seq.{getD-append-seam}
 use borrow.Author.Tests.{leb-true, leb-false, ltb-true, ltb-false}
 use Rattle.codepage.specs.CodePage.{entryAt}
 use Rattle.codepage.specs.Reading.{Reader, Code, sizeOf, codes}
 use Rattle.codepage.proofs.ReadingLaws.{sizesOf}
+use Rattle.codepage.proofs.ShapeLaws.{and-left, and-right}
 use Rattle.codepage_walk.specs.Walk.{placedFrom, placed}
 use Rattle.codepage_walk.proofs.WalkLaws.{codes-cover, Small, codes-small}
 use Rattle.linebreak.specs.Breaks.{isPlace, acceptable, breaksFrom, ours, allFit, breakable}
+use Rattle.linebreak.specs.Steps.{sureToFit}
 use Rattle.linebreak.specs.Claims.{Longest, NoneCut, NoBreaks, LongCode}
 use Rattle.linebreak.proofs.PlaceLaws.{place-below, place-next, place-first}
 use Rattle.linebreak.proofs.LineLaws.{Line, Lines, acceptable-lines}
@@ -253,3 +256,41 @@ module _ (r : Reader) (text : List ℕ) where
     pub two-enough : 2 ≤ width → acceptable r text width (ours r text width) ≡ true
     unfolding breakable
     two-enough h = ours-acceptable (small-fit (codes r text) (codes-small r text) h)
+
+-- ---- how many ours are at most
+-- each of our lines but the last has at least width - 1 bytes
+spaced : (width place : ℕ) (ks : List Code) (start : ℕ) → Small ks → start ≤ place → length (breaksFrom width (placedFrom place ks) start) * (width - 1) + start ≤ place + sizesOf ks
+unfolding Small placedFrom breaksFrom
+spaced width place [] start small h = omega arith
+spaced width place (k ∷ ks) start (size, small) h =
+    by (leb (place + sizeOf k) (start + width)) refl (λ (from : ℕ). spaced width (place + sizeOf k) ks from small)
+  where
+    small-size : (sizeOf k ≡ 1) ⊎ (sizeOf k ≡ 2) → sizeOf k ≤ 2
+    small-size (inl e) = omega arith
+    small-size (inr e) = omega arith
+
+    by : (t : Bool) → leb (place + sizeOf k) (start + width) ≡ t
+        → ((from : ℕ) → from ≤ place + sizeOf k → length (breaksFrom width (placedFrom (place + sizeOf k) ks) from) * (width - 1) + from ≤ place + sizeOf k + sizesOf ks)
+        → length (breaksFrom width (placedFrom place (k ∷ ks)) start) * (width - 1) + start ≤ place + sizesOf (k ∷ ks)
+    by true q later = rw (goes-on width place k ks start (leb-true _ _ q)) (omega (arith, later start (omega arith)))
+    by false q later =
+        let over = leb-false _ _ q in
+        rw (begins width place k ks start over) (omega (arith, later place (omega arith), small-size size))
+
+module _ (r : Reader) (text : List ℕ) (width : ℕ) (h : 2 ≤ width) where
+  -- Ours are at most one for each width - 1 bytes of the text.
+  pub few-breaks : length (ours r text width) ≤ length text / (width - 1)
+  unfolding ours placed
+  few-breaks =
+      let many = spaced width 0 (codes r text) 0 (codes-small r text) (omega arith) in
+      let cover = codes-cover r text in
+      let count = length (breaksFrom width (placedFrom 0 (codes r text)) 0) in
+      omega (arith, div-mono count 1 (length text) (width - 1) (omega arith) (omega arith) (omega arith))
+
+-- a list that ours are sure to fit: they exist, and there is room for them
+pub sure-fits : (r : Reader) (text : List ℕ) (width room : ℕ) → sureToFit (length text) width room ≡ true → (breakable r text width ≡ true) × (length (ours r text width) ≤ room)
+unfolding sureToFit
+sure-fits r text width room e =
+    let wide = leb-true 2 width (and-left (leb 2 width) _ e) in
+    let fits = leb-true (length text / (width - 1)) room (and-right (leb 2 width) _ e) in
+    (exist-breakable r text width (ours r text width) (two-enough r text width wide), omega (arith, few-breaks r text width wide))

@@ -2,7 +2,7 @@
 use mathlib.Core.Bool.{Bool, true, false, _&&_}
 use mathlib.Core.List.{List, [], _∷_}
 use mathlib.Core.Path.{_≡_}
-use Prim.Native.Nat.{ℕ, _+_, _-_, _≤_, _<_}
+use Prim.Native.Nat.{ℕ, _+_, _-_, _/_, _≤_, _<_}
 use lib.Dec.{leb, ltb, eqb}
 use lib.ListN.{length, drop}
 use Rattle.codepage.specs.CodePage.{entryAt, isLead}
@@ -37,6 +37,11 @@ lineGood r text width start b = ltb start b && (ltb b (length text) && (leb (b -
 unfoldable pub linesGood : Reader → (text : List ℕ) → (width start : ℕ) → (breaks : List ℕ) → Bool
 linesGood r text width start [] = leb (length text - start) width
 linesGood r text width start (b ∷ breaks) = lineGood r text width start b && linesGood r text width b breaks
+
+-- Our breaks are sure to fit a list: at a width of 2 or more acceptable breaks exist, and each line but the last has at least
+-- width - 1 bytes.
+unfoldable pub sureToFit : (size width room : ℕ) → Bool
+sureToFit size width room = leb 2 width && leb (size / (width - 1)) room
 
 -- The promise of counting: whether acceptable breaks exist, and then how many ours are.
 pub record CountedAs (r : Reader) (text : List ℕ) (width : ℕ) (c : Counted) : Type 0 where

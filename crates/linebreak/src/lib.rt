@@ -17,7 +17,7 @@ ghost use Rattle.convert.specs.Runs.{pieceLimit};
 ghost use Rattle.codepage_walk.specs.Checks.{ForClasses};
 ghost use Rattle.linebreak.specs.Breaks.{ours, breakable};
 ghost use Rattle.linebreak.specs.Calls.{breakNumber, checkOf, proposalOf, ProposedAs};
-ghost use Rattle.linebreak.specs.Steps.{lastPlace, GoodClasses, LeadsBefore, lineGood, linesGood, CountedAs};
+ghost use Rattle.linebreak.specs.Steps.{lastPlace, GoodClasses, LeadsBefore, lineGood, linesGood, CountedAs, sureToFit};
 use codepage::Numbers;
 use convert::Run;
 
@@ -157,11 +157,11 @@ fn count_breaks(classes: &[u8], text: &[u8], width: u64) -> Counted
     Counted { exist: true, count }
 }
 
-// Writes our breaks to the front of a list that has room for them.
-fn write_breaks(classes: &[u8], text: &[u8], width: u64, out: &mut [u64])
+// Writes our breaks to the front of a list that has room for them, and says how many they are.
+fn write_breaks(classes: &[u8], text: &[u8], width: u64, out: &mut [u64]) -> usize
     requires { ⌜ GoodClasses (now classes) × (length (now text) ≤ pieceLimit) ⌝ }
     requires { ⌜ ForClasses (now classes) (λ (reader : Reader). (breakable reader (now text) width ≡ true) × (length (ours reader (now text) width) ≤ length (now out))) ⌝ }
-    ensures { λ _. ⌜ ForClasses (now (classes .entry)) (λ (reader : Reader). now (out .exit) ≡ over (now (out .entry)) (ours reader (now (text .entry)) width)) ⌝ }
+    ensures { λ r. ⌜ ForClasses (now (classes .entry)) (λ (reader : Reader). (now (out .exit) ≡ over (now (out .entry)) (ours reader (now (text .entry)) width)) × (r ≡ length (ours reader (now (text .entry)) width))) ⌝ }
 {
     let mut i: usize = 0;
     let mut start: usize = 0;
@@ -170,6 +170,18 @@ fn write_breaks(classes: &[u8], text: &[u8], width: u64, out: &mut [u64])
         out[i] = start as u64;
         i += 1;
     }
+    i
+}
+
+// Whether our breaks are sure to fit a list, told without the text: at a width of 2 or more acceptable breaks exist, and each line but the last
+// has at least width - 1 bytes.
+fn sure_to_fit(size: usize, width: u64, room: usize) -> bool
+    ensures { λ r. ⌜ r ≡ sureToFit size width room ⌝ }
+{
+    if width < 2 {
+        return false;
+    }
+    (size as u64) / (width - 1) <= (room as u64)
 }
 
 // Checks breaks of a text into lines of at most `width` bytes: any numbers may be proposed.
@@ -198,8 +210,9 @@ pub fn check_breaks(
     Checked::Acceptable
 }
 
-// Proposes breaks of a text into lines of at most `width` bytes, each line as long as it can be. A first pass counts them, so that a
-// refused call leaves the list as it was; a second writes them.
+// Proposes breaks of a text into lines of at most `width` bytes, each line as long as it can be. Into a list that they are sure to fit
+// they are written in one pass. Else a first pass counts them, so that a refused call leaves the list as it was, and a second
+// writes them.
 pub fn propose_breaks(
     numbers: Numbers,
     classes: &[u8],
@@ -219,14 +232,15 @@ pub fn propose_breaks(
     if Run::PIECE_LIMIT < text.len() {
         return Proposed::Refused(Refusal::TooLong);
     }
+    if sure_to_fit(text.len(), width, out.len()) {
+        return Proposed::Breaks(write_breaks(classes, text, width, out));
+    }
     let counted = count_breaks(classes, text, width);
     if !counted.exist {
         return Proposed::Refused(Refusal::NoneExists);
     }
-    let count = counted.count;
-    if out.len() < count {
+    if out.len() < counted.count {
         return Proposed::Refused(Refusal::ListTooShort);
     }
-    write_breaks(classes, text, width, out);
-    Proposed::Breaks(count)
+    Proposed::Breaks(write_breaks(classes, text, width, out))
 }

@@ -6,7 +6,7 @@ use lib.ListN.{length, take, drop, length-set}
 use Rattle.codepage.specs.Reading.{Reader, decoder}
 use Rattle.codepage_walk.specs.Checks.{ForClasses}
 use Rattle.linebreak.proofs.OursLaws.{Going, going-start}
-use Rattle.linebreak.proofs.LoopLaws.{end-from, end-within, writing-room, writing-moves, writing-turn, writing-end, writing-left}
+use Rattle.linebreak.proofs.LoopLaws.{end-from, end-within, writing-room, writing-moves, writing-turn, writing-end, writing-count, writing-left}
 use Rattle.linebreak.proofs.write_breaks.Statement.{statement}
 use Rattle.linebreak.proofs.write_breaks.Tie as tie
 
@@ -71,7 +71,12 @@ same-length : tie.Need-same-length Inv-loop μ-loop
 same-length c = c .before .loop .inv .1
 
 returns : tie.Need-returns Inv-loop μ-loop
-returns c = λ singles pairs. writing-end _ _ _ _ (c .before .loop .i) (c .before .loop .out) (c .before .loop .inv .4 singles pairs) _ (c .before .loop .inv .0) (omega arith) (c .before .loop .inv .2) (c .before .loop .inv .3)
+returns c =
+    let at-loop = c .before .loop in
+    λ singles pairs. (
+      writing-end _ _ _ _ (at-loop .i) (at-loop .out) (at-loop .inv .4 singles pairs) _ (at-loop .inv .0) (omega arith) (at-loop .inv .2) (at-loop .inv .3),
+      writing-count _ _ _ _ (at-loop .i) (at-loop .out) (at-loop .inv .4 singles pairs) (at-loop .inv .0) (omega arith) (at-loop .inv .2),
+    )
 
 pub write-breaks-spec : {M : Type 1} → statement M
 write-breaks-spec =
