@@ -640,7 +640,7 @@ def grammar_script():
         "breaks 18446744073709551616 0 2", "breaks 1 0 2 18446744073709551616", "propose", "propose 1 0 2", "propose 1 0 3 5",
         "propose 1 0 2 301", "propose 1 0 2 5 5", "propose 01 0 2 5", "propose 18446744073709551616 0 2 5",
         # index, entry, append and find
-        "index", "index 301", "index 03", "index 3 3", "entry 0 0 0", "entry 0 0", "append 0", "append 0 3", "append 00 2", "append -1 2",
+        "index", "index 301", "index 03", "index 3 3", "entry 0 0", "entry 300 0 0", "append 0", "append 0 3", "append 00 2", "append -1 2",
         "find 0", "find 0 3", "find 00 2", "find 18446744073709551616 2",
         # nothing else is a command
         "quit", "help", "decodes 0 1 last 5", "tables sample.tbl", "policy 555", "shape\tgood",
