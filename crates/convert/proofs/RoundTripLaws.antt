@@ -96,11 +96,13 @@ pub record Clear (f : Fed) (output : List ℕ) : Type 0 where
   pub flags : f .flags ≡ 0
   pub written : f .output ≡ output
 
-clear-end : (r : Reader) (policy : Policy) (default : ℕ) → Clear (takeCodes (converter r policy default) endless [] none) []
+-- no code is left
+pub clear-end : (r : Reader) (policy : Policy) (default : ℕ) → Clear (takeCodes (converter r policy default) endless [] none) []
 unfolding takeCodes halt
 clear-end r policy default = record { answer = refl; flags = refl; written = refl }
 
-clear-more : (r : Reader) (policy : Policy) (default value : ℕ) (k : Code) (ks : List Code) (output : List ℕ) → k .means ≡ Found value → Clear (takeCodes (converter r policy default) endless ks none) output
+-- one code more that has a character
+pub clear-more : (r : Reader) (policy : Policy) (default value : ℕ) (k : Code) (ks : List Code) (output : List ℕ) → k .means ≡ Found value → Clear (takeCodes (converter r policy default) endless ks none) output
     → Clear (takeCodes (converter r policy default) endless (k ∷ ks) none) (r .writes value ++ output)
 unfolding after
 clear-more r policy default value k ks output e g =
@@ -113,12 +115,13 @@ clear-more r policy default value k ks output e g =
 
 -- ---- units
 -- the bytes of units that belong with their codes
-abbrev bytesBy : (p : CodePage) (text : List ℕ) → UnitsReturn p text → List ℕ
+abbrev pub bytesBy : (p : CodePage) (text : List ℕ) → UnitsReturn p text → List ℕ
 bytesBy p [] h = []
 bytesBy p (unit ∷ text) h = bytesOf (h .0 .0) ++ bytesBy p text (h .1)
 
 module _ (p : CodePage) (policy : Policy) (default : ℕ) where
-  encoded-clear : (text : List ℕ) (h : UnitsReturn p text) → Clear (whole (readerOf Encoding p) policy default text) (bytesBy p text h)
+  -- such a text is encoded by those bytes, and no flag is set
+  pub encoded-clear : (text : List ℕ) (h : UnitsReturn p text) → Clear (whole (readerOf Encoding p) policy default text) (bytesBy p text h)
   unfolding whole codes encoder
   encoded-clear [] h = unfold callCodes codesAtEnd in clear-end (readerOf Encoding p) policy default
   encoded-clear (unit ∷ text) h =

@@ -1,3 +1,9 @@
 pub mod SpellLaws
 pub mod LoopLaws
 pub mod CallLaws
+pub mod FaultLaws
+pub mod Theorems
+pub mod WholeLaws
+pub mod AnswerLaws
+pub mod Rows
+pub mod Witnesses

@@ -186,16 +186,7 @@ fn count_spelling(
     let mut place: usize = 0;
     let mut bytes: usize = 0;
     while place < text.len() {
-        let next = spelled_at(
-            classes,
-            singles,
-            pairs,
-            index,
-            blocks,
-            leads,
-            text,
-            place,
-        );
+        let next = spelled_at(classes, singles, pairs, index, blocks, leads, text, place);
         if next.code == NO_CODE {
             return Spelled::Refused(Refusal::AtFault(place));
         }
@@ -237,16 +228,7 @@ fn write_spelling(
     let mut place: usize = 0;
     let mut written: usize = 0;
     while place < text.len() {
-        let next = spelled_at(
-            classes,
-            singles,
-            pairs,
-            index,
-            blocks,
-            leads,
-            text,
-            place,
-        );
+        let next = spelled_at(classes, singles, pairs, index, blocks, leads, text, place);
         written = put_code(next.code, out, written);
         place += next.size;
     }
@@ -282,8 +264,6 @@ pub fn standard_spelling(
     if out.len() < bytes {
         return Spelled::Refused(Refusal::SpellingTooLong);
     }
-    write_spelling(
-        classes, singles, pairs, index, blocks, leads, text, out,
-    );
+    write_spelling(classes, singles, pairs, index, blocks, leads, text, out);
     Spelled::Bytes(bytes)
 }
