@@ -1,5 +1,6 @@
 pub mod SpellLaws
 pub mod LoopLaws
+pub mod SameLaws
 pub mod CallLaws
 pub mod FaultLaws
 pub mod Theorems

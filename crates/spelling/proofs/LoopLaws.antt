@@ -16,7 +16,7 @@ use Rattle.spelling.specs.declared.Refusal.the-variants.{AtFault}
 use Rattle.spelling.specs.declared.Spelled.the-variants as spelled
 use Rattle.spelling.specs.declared.SpelledCode.{SpelledCode}
 use Rattle.spelling.specs.Spelling.{codeSpelling, faultOr, firstAtFault, bytesIf, spellingBytes, faultOf, bytesFor}
-use Rattle.spelling.specs.Steps.{SpelledRead, countedUnless, countedOf, Passed}
+use Rattle.spelling.specs.Steps.{SpelledRead, countedUnless, countedOf, Passed, Begun}
 use Rattle.spelling.proofs.SpellLaws.{none-spells, code-spells, bytes-few}
 
 -- ---- codes passed
@@ -208,3 +208,22 @@ writing-put r index blocks text before place written out w able c s next after (
 -- what the writer requires
 pub writable : (r : Reader) (index blocks text before : List ℕ) → (faultOf r index blocks text ≡ none) × (length (bytesFor r index blocks text) ≤ length before) → Writable r index blocks text before
 writable r index blocks text before (a, b) = record { no-fault = a; fits = b }
+
+-- the rest of a spelling that is begun, written
+pub begun-writing : (r : Reader) (index blocks text : List ℕ) (from : ℕ) (out : List ℕ) → Begun r index blocks text from out → Writing r index blocks text out from from out
+begun-writing r index blocks text from out b = record { passed = b .passed; within = b .within; same = refl; kept = refl }
+
+pub begun-writable : (r : Reader) (index blocks text : List ℕ) (from : ℕ) (out : List ℕ) → Begun r index blocks text from out → Writable r index blocks text out
+begun-writable r index blocks text from out b = record { no-fault = b .no-fault; fits = b .fits }
+
+-- what is written over a beginning is written over what was there before
+pub writing-rest : (r : Reader) (index blocks text before : List ℕ) (place written : ℕ) (out : List ℕ) → Writing r index blocks text before place written out → (after : List ℕ)
+    → after ≡ over out (bytesFor r index blocks text) → after ≡ over before (bytesFor r index blocks text)
+unfolding over
+writing-rest r index blocks text before place written out w after e =
+    let total = bytesFor r index blocks text in
+    let rest = spellingBytes (codeSpelling r index blocks) (codes r (drop place text)) in
+    let size : length total ≡ written + length rest = ap (λ (l : List ℕ). length l) (w .passed .spelled) ∙ length-append (take written out) rest ∙ ap (λ (n : ℕ). n + length rest) (length-take-le written out (w .within)) in
+    let behind : drop (length total) out ≡ drop (length total) before =
+    ap (λ (n : ℕ). drop n out) size ∙ sym (drop-drop (length rest) written out) ∙ ap (drop (length rest)) (w .kept) ∙ drop-drop (length rest) written before ∙ ap (λ (n : ℕ). drop n before) (sym size) in
+    e ∙ ap (λ (l : List ℕ). total ++ l) behind

@@ -46,7 +46,7 @@ module _ (r : Reader) where
   read-one a = at-last r (a ∷ []) 0 refl .here ∙ ap (λ (l : List Code). alone r a ∷ l) none-left
 
   -- a lead and a byte that joins it are one code
-  read-two : (a b : ℕ) → r .waits a ≡ true → r .joins a b ≡ true → codes r (a ∷ b ∷ []) ≡ together r a b ∷ []
+  pub read-two : (a b : ℕ) → r .waits a ≡ true → r .joins a b ≡ true → codes r (a ∷ b ∷ []) ≡ together r a b ∷ []
   read-two a b w j = at-two r (a ∷ b ∷ []) 0 (omega arith) w j .here ∙ ap (λ (l : List Code). together r a b ∷ l) none-left
 
   -- any other two bytes are two codes

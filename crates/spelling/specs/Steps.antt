@@ -1,15 +1,17 @@
 -- Definitions that the private functions' contracts cite, and that no promise does.
-use mathlib.Core.Bool.{true}
+use mathlib.Core.Bool.{true, false}
 use mathlib.Core.List.{List, _++_}
 use mathlib.Core.Option.{Option, none, some}
 use mathlib.Core.Path.{_≡_}
-use Prim.Native.Nat.{ℕ, _+_, _*_, _≤_, _<_}
-use lib.ListN.{length, drop}
+use Prim.Native.Nat.{ℕ, _+_, _-_, _*_, _≤_, _<_}
+use lib.ListN.{length, take, drop}
 use Rattle.codepage.specs.CodePage.{entryAt, isLead, leadsBelow}
-use Rattle.codepage.specs.Reading.{Reader, Code, sizeOf, codes}
+use Rattle.codepage.specs.Reading.{byteAlone, bytePair, unitAlone, Reader, Code, sizeOf, codes}
 use Rattle.codepage.specs.declared.Lookup.{Lookup}
+use Rattle.codepage.specs.declared.Lookup.the-variants.{Found}
 use Rattle.codepage_lookup.specs.declared.profile.Leads.{Leads}
 use Rattle.codepage_lookup.specs.Profile.{LeadsAt}
+use Rattle.convert.specs.Runs.{pieceLimit}
 use Rattle.codepage_walk.specs.Walk.{placedFrom, CodeAt}
 use Rattle.spelling.specs.declared.Refusal.the-variants.{AtFault}
 use Rattle.spelling.specs.declared.Spelled.{Spelled}
@@ -54,3 +56,38 @@ countedOf r index blocks text = countedUnless (faultOf r index blocks text) (len
 pub record Passed (r : Reader) (spell : Lookup → Option ℕ) (text : List ℕ) (from to : ℕ) (bytes : List ℕ) : Type 0 where
   pub fault : firstAtFault spell (placedFrom from (codes r (drop from text))) ≡ firstAtFault spell (placedFrom to (codes r (drop to text)))
   pub spelled : spellingBytes spell (codes r (drop from text)) ≡ bytes ++ spellingBytes spell (codes r (drop to text))
+
+-- Codes are spelled as they stand, from one place to another.
+pub record PassedSame (r : Reader) (index blocks text : List ℕ) (from to : ℕ) : Type 0 where
+  pub from-on : from ≤ to
+  pub inside : to ≤ length text
+  pub passed : Passed r (codeSpelling r index blocks) text from to (take (to - from) (drop from text))
+
+-- A spelling that is begun: up to `from` its bytes are written, and the rest fits the output.
+pub record Begun (r : Reader) (index blocks text : List ℕ) (from : ℕ) (out : List ℕ) : Type 0 where
+  pub short : length text ≤ pieceLimit
+  pub inside : from ≤ length text
+  pub within : from ≤ length out
+  pub passed : Passed r (codeSpelling r index blocks) text 0 from (take from out)
+  pub no-fault : faultOf r index blocks text ≡ none
+  pub fits : length (bytesFor r index blocks text) ≤ length out
+
+-- A byte that is a code and is spelled by itself.
+pub record SameSingle (classes singles index blocks : List ℕ) (byte : ℕ) : Type 0 where
+  pub single : isLead (entryAt classes byte) ≡ false
+  pub unit : ℕ
+  pub character : byteAlone classes singles byte ≡ Found unit
+  pub own : unitAlone index blocks unit ≡ Found byte
+
+-- Two bytes that are a code and are spelled by themselves.
+pub record SamePair (classes pairs index blocks : List ℕ) (first second : ℕ) : Type 0 where
+  pub lead : isLead (entryAt classes first) ≡ true
+  pub unit : ℕ
+  pub character : bytePair classes pairs first second ≡ Found unit
+  pub own : unitAlone index blocks unit ≡ Found (256 * first + second)
+
+-- The promise of looking at two bytes: 1 or 2 only where so many of them are spelled by themselves.
+pub record SameSize (classes singles pairs index blocks : List ℕ) (first second size : ℕ) : Type 0 where
+  pub few : size ≤ 2
+  pub one : size ≡ 1 → SameSingle classes singles index blocks first
+  pub two : size ≡ 2 → SamePair classes pairs index blocks first second

@@ -7,17 +7,18 @@
 //
 // A refused call leaves `out` as it was.
 ghost use mathlib.Core.Path.{_≡_};
+ghost use mathlib.Core.Bool.{true};
 ghost use mathlib.Core.Option.{none};
-ghost use Prim.Native.Nat.{_+_, _≤_, _<_};
-ghost use lib.ListN.{length};
-ghost use lib.Seq.{sets};
+ghost use Prim.Native.Nat.{_+_, _-_, _≤_, _<_};
+ghost use lib.ListN.{length, drop};
+ghost use lib.Seq.{sets, paste};
 ghost use Rattle.codepage.specs.CodePage.{codePage};
 ghost use Rattle.codepage.specs.Lent.{over};
-ghost use Rattle.codepage.specs.Reading.{bytesOf, decoder};
+ghost use Rattle.codepage.specs.Reading.{isSurrogate, unitAlone, bytesOf, decoder};
 ghost use Rattle.convert.specs.Runs.{pieceLimit};
 ghost use Rattle.spelling.specs.Spelling.{isCharacter, readsBack, unitSpelling, faultOf, bytesFor};
 ghost use Rattle.spelling.specs.Calls.{spellingNumber, spellingOf, SpelledAs};
-ghost use Rattle.spelling.specs.Steps.{BytesTables, UnitsTables, orNone, SpelledRead, countedOf};
+ghost use Rattle.spelling.specs.Steps.{BytesTables, UnitsTables, orNone, SpelledRead, countedOf, SameSize, PassedSame, Begun};
 use codepage::Lookup;
 use codepage::Numbers;
 use codepage_lookup::profile::Leads;
@@ -170,7 +171,97 @@ fn byte_count(code: u16) -> usize
     2
 }
 
-// Checks every code, up to the first at fault, and counts the bytes of the spelling.
+// Whether a unit is a surrogate.
+fn is_surrogate(unit: u16) -> bool
+    ensures { λ r. ⌜ r ≡ isSurrogate unit ⌝ }
+{
+    if unit < 0xD800 {
+        return false;
+    }
+    unit <= 0xDFFF
+}
+
+// Whether a number is a character that is no surrogate and whose own code is this one.
+fn has_code(index: &[u8], blocks: &[u16], unit: u16, code: u16) -> bool
+    requires { ⌜ UnitsTables (now index) (now blocks) ⌝ }
+    ensures { λ r. ⌜ (r ≡ true → (unit ≡ 0xFFFF → ⊥) × (unitAlone (now (index .entry)) (now (blocks .entry)) unit ≡ Lookup.Found code)) ⌝ }
+{
+    if unit == NO_CODE {
+        return false;
+    }
+    if is_surrogate(unit) {
+        return false;
+    }
+    let own = codepage_lookup::code_of(index, blocks, unit);
+    if own == NO_CODE {
+        return false;
+    }
+    own == code
+}
+
+// How many bytes the code has that begins with these two, if it is spelled as it stands; 0 where that is not found here.
+fn same_size(
+    classes: &[u8],
+    singles: &[u16],
+    pairs: &[u16],
+    index: &[u8],
+    blocks: &[u16],
+    leads: Leads,
+    first: u8,
+    second: u8,
+) -> usize
+    requires { ⌜ BytesTables (now classes) (now singles) (now pairs) leads × UnitsTables (now index) (now blocks) ⌝ }
+    ensures { λ r. ⌜ SameSize (now (classes .entry)) (now (singles .entry)) (now (pairs .entry)) (now (index .entry)) (now (blocks .entry)) first second r ⌝ }
+{
+    if codepage_lookup::is_lead(classes, first) {
+        let unit = codepage_lookup::pair_unit(classes, pairs, leads, first, second);
+        if has_code(index, blocks, unit, 256 * (first as u16) + (second as u16)) {
+            return 2;
+        }
+        return 0;
+    }
+    let unit = codepage_lookup::single_unit(classes, singles, first);
+    if has_code(index, blocks, unit, first as u16) {
+        return 1;
+    }
+    0
+}
+
+// Passes over codes that are spelled as they stand, from a place on: the place behind them.
+fn pass_same(
+    classes: &[u8],
+    singles: &[u16],
+    pairs: &[u16],
+    index: &[u8],
+    blocks: &[u16],
+    leads: Leads,
+    text: &[u8],
+    from: usize,
+) -> usize
+    requires { ⌜ BytesTables (now classes) (now singles) (now pairs) leads × UnitsTables (now index) (now blocks) × (from ≤ length (now text)) ⌝ }
+    ensures { λ r. ⌜ PassedSame (decoder (now (classes .entry)) (now (singles .entry)) (now (pairs .entry))) (now (index .entry)) (now (blocks .entry)) (now (text .entry)) from r ⌝ }
+{
+    let mut place = from;
+    while 2 <= text.len() - place {
+        let size = same_size(
+            classes,
+            singles,
+            pairs,
+            index,
+            blocks,
+            leads,
+            text[place],
+            text[place + 1],
+        );
+        if size == 0 {
+            return place;
+        }
+        place += size;
+    }
+    place
+}
+
+// Checks every code, up to the first at fault, and counts the bytes of the spelling. Up to `from` it is the text as it stands.
 fn count_spelling(
     classes: &[u8],
     singles: &[u16],
@@ -179,19 +270,22 @@ fn count_spelling(
     blocks: &[u16],
     leads: Leads,
     text: &[u8],
+    from: usize,
 ) -> Spelled
     requires { ⌜ BytesTables (now classes) (now singles) (now pairs) leads × UnitsTables (now index) (now blocks) × (length (now text) ≤ pieceLimit) ⌝ }
+    requires { ⌜ PassedSame (decoder (now classes) (now singles) (now pairs)) (now index) (now blocks) (now text) 0 from ⌝ }
     ensures { λ r. ⌜ r ≡ countedOf (decoder (now (classes .entry)) (now (singles .entry)) (now (pairs .entry))) (now (index .entry)) (now (blocks .entry)) (now (text .entry)) ⌝ }
 {
-    let mut place: usize = 0;
-    let mut bytes: usize = 0;
+    let mut place = from;
+    let mut bytes = from;
     while place < text.len() {
         let next = spelled_at(classes, singles, pairs, index, blocks, leads, text, place);
         if next.code == NO_CODE {
             return Spelled::Refused(Refusal::AtFault(place));
         }
-        place += next.size;
-        bytes += byte_count(next.code);
+        let after = place + next.size;
+        place = pass_same(classes, singles, pairs, index, blocks, leads, text, after);
+        bytes = bytes + byte_count(next.code) + (place - after);
     }
     Spelled::Bytes(bytes)
 }
@@ -210,7 +304,48 @@ fn put_code(code: u16, out: &mut [u8], at: usize) -> usize
     at + 2
 }
 
-// Writes the spelling of a text that has no code at fault, at the front of the output.
+// Copies a part of the text into the output at a place: the place behind it.
+fn copy_part(text: &[u8], from: usize, to: usize, out: &mut [u8], at: usize) -> usize
+    requires { ⌜ (from ≤ to) × (to ≤ length (now text)) × (at + (to - from) ≤ length (now out)) ⌝ }
+    ensures { λ r. ⌜ (r ≡ at + (to - from)) × (now (out .exit) ≡ paste (now (out .entry)) at (drop from (now (text .entry))) (to - from)) ⌝ }
+{
+    let count = to - from;
+    let mut i: usize = 0;
+    while i < count {
+        out[at + i] = text[from + i];
+        i += 1;
+    }
+    at + count
+}
+
+// Writes what is left of a spelling whose first bytes, up to `from`, are written and are the text's own.
+fn write_rest(
+    classes: &[u8],
+    singles: &[u16],
+    pairs: &[u16],
+    index: &[u8],
+    blocks: &[u16],
+    leads: Leads,
+    text: &[u8],
+    from: usize,
+    out: &mut [u8],
+)
+    requires { ⌜ BytesTables (now classes) (now singles) (now pairs) leads × UnitsTables (now index) (now blocks) ⌝ }
+    requires { ⌜ Begun (decoder (now classes) (now singles) (now pairs)) (now index) (now blocks) (now text) from (now out) ⌝ }
+    ensures { λ _. ⌜ now (out .exit) ≡ over (now (out .entry)) (bytesFor (decoder (now (classes .entry)) (now (singles .entry)) (now (pairs .entry))) (now (index .entry)) (now (blocks .entry)) (now (text .entry))) ⌝ }
+{
+    let mut place = from;
+    let mut written = from;
+    while place < text.len() {
+        let next = spelled_at(classes, singles, pairs, index, blocks, leads, text, place);
+        let at = put_code(next.code, out, written);
+        let after = place + next.size;
+        place = pass_same(classes, singles, pairs, index, blocks, leads, text, after);
+        written = copy_part(text, after, place, out, at);
+    }
+}
+
+// Writes the spelling of a text that has no code at fault, at the front of the output. Up to `from` it is the text as it stands.
 fn write_spelling(
     classes: &[u8],
     singles: &[u16],
@@ -219,19 +354,26 @@ fn write_spelling(
     blocks: &[u16],
     leads: Leads,
     text: &[u8],
+    from: usize,
     out: &mut [u8],
 )
     requires { ⌜ BytesTables (now classes) (now singles) (now pairs) leads × UnitsTables (now index) (now blocks) ⌝ }
+    requires { ⌜ PassedSame (decoder (now classes) (now singles) (now pairs)) (now index) (now blocks) (now text) 0 from × (length (now text) ≤ pieceLimit) ⌝ }
     requires { ⌜ (faultOf (decoder (now classes) (now singles) (now pairs)) (now index) (now blocks) (now text) ≡ none) × (length (bytesFor (decoder (now classes) (now singles) (now pairs)) (now index) (now blocks) (now text)) ≤ length (now out)) ⌝ }
     ensures { λ _. ⌜ now (out .exit) ≡ over (now (out .entry)) (bytesFor (decoder (now (classes .entry)) (now (singles .entry)) (now (pairs .entry))) (now (index .entry)) (now (blocks .entry)) (now (text .entry))) ⌝ }
 {
-    let mut place: usize = 0;
-    let mut written: usize = 0;
-    while place < text.len() {
-        let next = spelled_at(classes, singles, pairs, index, blocks, leads, text, place);
-        written = put_code(next.code, out, written);
-        place += next.size;
-    }
+    copy_part(text, 0, from, out, 0);
+    write_rest(
+        classes,
+        singles,
+        pairs,
+        index,
+        blocks,
+        leads,
+        text,
+        from,
+        out,
+    );
 }
 
 // The standard spelling of a text, at the front of the output: the bytes behind it stay as they are.
@@ -254,7 +396,8 @@ pub fn standard_spelling(
         return Spelled::Refused(Refusal::TooLong);
     }
     let leads = codepage_lookup::profile::leads_of(classes);
-    let counted = count_spelling(classes, singles, pairs, index, blocks, leads, text);
+    let same = pass_same(classes, singles, pairs, index, blocks, leads, text, 0);
+    let counted = count_spelling(classes, singles, pairs, index, blocks, leads, text, same);
     let Spelled::Bytes(bytes) = counted else {
         return counted;
     };
@@ -264,6 +407,16 @@ pub fn standard_spelling(
     if out.len() < bytes {
         return Spelled::Refused(Refusal::SpellingTooLong);
     }
-    write_spelling(classes, singles, pairs, index, blocks, leads, text, out);
+    write_spelling(
+        classes,
+        singles,
+        pairs,
+        index,
+        blocks,
+        leads,
+        text,
+        same,
+        out,
+    );
     Spelled::Bytes(bytes)
 }

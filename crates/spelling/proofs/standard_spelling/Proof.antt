@@ -1,7 +1,6 @@
-use mathlib.Core.Path.{sym, ap, _∙_}
+use mathlib.Core.Path.{sym, _∙_}
 use native.Mathlib.Omega.{arith}
 use borrow.Author.Tests.{not-true, not-false}
-use Rattle.codepage.specs.CodePage.{codePage}
 use Rattle.spelling.proofs.CallLaws.{leads-need, bytes-tables, units-tables, counted-bytes, spelling-bad, spelling-long, spelling-over, spelling-no-room, spelling-accepted, spelled-refused, spelled-given, spelled-fault}
 use borrow.Author.Needs.{needs}
 use Rattle.spelling.proofs.standard_spelling.Statement.{statement}
@@ -26,12 +25,19 @@ leads-of-requires c κs =
     let good = sym (at-if1 .before .good-shape .ensures) ∙ not-false _ (at-if1 .if1 .left) in
     leads-need _ good
 
-count-spelling-requires : tie.Need-count-spelling-requires
-count-spelling-requires c κs =
+pass-same-requires : tie.Need-pass-same-requires
+pass-same-requires c κs =
     let at-if2 = c .before in
     let at-if1 = at-if2 .before in
     let good = sym (at-if1 .before .good-shape .ensures) ∙ not-false _ (at-if1 .if1 .left) in
-    (bytes-tables _ good _ (c .leads-of .ensures), units-tables _ good, at-if2 .if2 .left)
+    (bytes-tables _ good _ (c .leads-of .ensures), units-tables _ good, omega arith)
+
+count-spelling-requires : tie.Need-count-spelling-requires
+count-spelling-requires c κs =
+    let at-if2 = c .before .before in
+    let at-if1 = at-if2 .before in
+    let good = sym (at-if1 .before .good-shape .ensures) ∙ not-false _ (at-if1 .if1 .left) in
+    ((bytes-tables _ good _ (c .before .leads-of .ensures), units-tables _ good, at-if2 .if2 .left), c .pass-same .ensures)
 
 enum-known-counted : tie.Need-enum-known-counted
 enum-known-counted c = search needs
@@ -41,14 +47,14 @@ enum-told c = search needs
 
 returns-3 : tie.Need-returns-3
 returns-3 c =
-    let at-if2 = c .before .before .before .before in
+    let at-if2 = c .before .before .before .before .before in
     let at-if1 = at-if2 .before in
     let good = sym (at-if1 .before .good-shape .ensures) ∙ not-false _ (at-if1 .if1 .left) in
     spelled-fault _ good _ _ (at-if2 .if2 .left) _ (c .before .before .count-spelling .ensures) _ (c .enum-told .given .1)
 
 returns-4 : tie.Need-returns-4
 returns-4 c =
-    let at-if2 = c .before .before .before .before .before .before in
+    let at-if2 = c .before .before .before .before .before .before .before in
     let at-if1 = at-if2 .before in
     let good = sym (at-if1 .before .good-shape .ensures) ∙ not-false _ (at-if1 .if1 .left) in
     let (clear, size) = counted-bytes _ good _ _ (c .before .before .before .before .count-spelling .ensures) _ (c .before .before .counted .given .1) in
@@ -56,7 +62,7 @@ returns-4 c =
 
 returns-5 : tie.Need-returns-5
 returns-5 c =
-    let at-if2 = c .before .before .before .before .before .before .before in
+    let at-if2 = c .before .before .before .before .before .before .before .before in
     let at-if1 = at-if2 .before in
     let good = sym (at-if1 .before .good-shape .ensures) ∙ not-false _ (at-if1 .if1 .left) in
     let (clear, size) = counted-bytes _ good _ _ (c .before .before .before .before .before .count-spelling .ensures) _ (c .before .before .before .counted .given .1) in
@@ -64,18 +70,18 @@ returns-5 c =
 
 write-spelling-requires : tie.Need-write-spelling-requires
 write-spelling-requires c κs =
-    let at-if2 = c .before .before .before .before .before .before .before .before in
+    let at-if2 = c .before .before .before .before .before .before .before .before .before in
     let at-if1 = at-if2 .before in
     let good = sym (at-if1 .before .good-shape .ensures) ∙ not-false _ (at-if1 .if1 .left) in
     let (clear, size) = counted-bytes _ good _ _ (c .before .before .before .before .before .before .count-spelling .ensures) _ (c .before .before .before .before .counted .given .1) in
-    ((bytes-tables _ good _ (c .before .before .before .before .before .before .before .leads-of .ensures), units-tables _ good), (clear, omega (arith, size, c .before .if4 .left)))
+    ((bytes-tables _ good _ (c .before .before .before .before .before .before .before .before .leads-of .ensures), units-tables _ good), ((c .before .before .before .before .before .before .before .pass-same .ensures, at-if2 .if2 .left), (clear, omega (arith, size, c .before .if4 .left))))
 
 same-length : tie.Need-same-length
 same-length c = search needs
 
 returns-6 : tie.Need-returns-6
 returns-6 c =
-    let at-if2 = c .before .before .before .before .before .before .before .before .before .before .before in
+    let at-if2 = c .before .before .before .before .before .before .before .before .before .before .before .before in
     let at-if1 = at-if2 .before in
     let good = sym (at-if1 .before .good-shape .ensures) ∙ not-false _ (at-if1 .if1 .left) in
     let (clear, size) = counted-bytes _ good _ _ (c .before .before .before .before .before .before .before .before .before .count-spelling .ensures) _ (c .before .before .before .before .before .before .before .counted .given .1) in
@@ -89,6 +95,7 @@ standard-spelling-spec =
     returns
     returns-2
     leads-of-requires
+    pass-same-requires
     count-spelling-requires
     enum-known-counted
     enum-told
