@@ -85,6 +85,24 @@ def notes_line(r):
     return '|'.join(' '.join(r.choice(ENGLISH) for _ in range(40))[:r.randrange(40, 250)] for _ in range(3)) + '\n'
 
 
+COMPANIES = '㈱佐藤商店 髙橋酒店 山﨑製菓 鈴木青果 ㈱港町水産 田中文具 髙田米店 宮﨑書店 ﾔﾏﾓﾄ薬局 ｶﾄｳ電器'.split()
+
+# Three characters that page 932 has two codes for: the character's own, and the one that another till writes.
+TWO_CODES = {'㈱': (b'\x87\x8a', b'\xfa\x58'), '髙': (b'\xfb\xfc', b'\xee\xe0'), '﨑': (b'\xfa\xb1', b'\xed\x95')}
+
+
+def names_line(r):
+    """A list of customers: number, firm, clerk, telephone."""
+    return '%05d\t%s\t%s\t0%d-%04d-%04d\n' % (
+        r.randrange(100000), r.choice(COMPANIES), r.choice(CLERKS), r.randrange(3, 10), r.randrange(10000), r.randrange(10000))
+
+
+def names_text(r):
+    """The list as bytes of page 932, every third line from another till."""
+    lines = text_of(names_line, r, 'cp932').splitlines(True)
+    return b''.join(TWO_CODES[c][i % 3 == 0] if c in TWO_CODES else c.encode('cp932') for i, line in enumerate(lines) for c in line)
+
+
 def text_of(line, r, page):
     """Lines until they have SIZE bytes on the page; a character that it has not counts one."""
     lines = []
@@ -107,6 +125,7 @@ def main():
         text = text_of(line, random.Random('till ' + name), page)
         write(name + '.bytes', text.encode(page))
         write(name + '.units', text.encode('utf-16-le'))
+    write('names.bytes', names_text(random.Random('till names')))
     write('emoji.units', text_of(emoji_line, random.Random('till emoji'), 'cp932').encode('utf-16-le'))
     r = random.Random('till damaged')
     write('damaged.bytes', bytes(r.randrange(256) for _ in range(SIZE)))

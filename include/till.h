@@ -1,5 +1,5 @@
 /* The C interface of the till converter (crates capi, capi_text and capi_products). Link the archive that `rt staticlib capi` writes, for
- * the calls on a whole text that of `rt staticlib capi_text`, and for breaks of lines and the index that of `rt staticlib capi_products`.
+ * the calls on a whole text that of `rt staticlib capi_text`, and for the products on byte texts that of `rt staticlib capi_products`.
  *
  * Every call ends and answers on any numbers and any contents of its slices; none keeps anything between calls, takes memory or
  * does input or output. A slice is a pointer and a number of elements: the pointer is not NULL (also for 0 elements), aligned,
@@ -111,6 +111,13 @@ typedef struct {
     uint8_t number; /* 0, or that of the refusal */
 } till_found;
 
+/* What the spelling of a text answers. */
+typedef struct {
+    size_t written; /* bytes of the spelling */
+    size_t place;   /* of 24: that of the first code at fault */
+    uint8_t number; /* 0, or that of the refusal */
+} till_spelled;
+
 /* The parameters of a table set: page, default byte, default unit, and the five tables. */
 #define TILL_TABLES \
     uint16_t page, uint8_t default_byte, uint16_t default_unit, const uint8_t *classes, size_t classes_len, const uint16_t *singles, \
@@ -178,6 +185,12 @@ till_breaks till_propose_breaks(TILL_TABLES, const uint8_t *text, size_t text_le
  * Finding code n, from 0: 0 with its place and length; 10, 11, 28 entries are too few, 29 there is no such code. */
 till_appended till_append_index(TILL_TABLES, const uint8_t *journal, size_t journal_len, size_t former, uint32_t *entries, size_t entries_len);
 till_found till_find_code(TILL_TABLES, const uint8_t *journal, size_t journal_len, const uint32_t *entries, size_t entries_len, uint64_t n);
+
+/* The standard spelling of a byte text of at most 65,536 bytes, at the front of out: the text decoded, and encoded again. Two texts that
+ * have one mean the same units exactly if their spellings are equal bytes. Archive libcapi_products.a. 0 and the bytes written; 10, 11, 24
+ * with the place of the first code at fault (it has no character, or one whose own code does not read back as it), 25 the spelling has over
+ * 65,536 bytes or does not fit; then out is as it was. */
+till_spelled till_spell(TILL_TABLES, const uint8_t *text, size_t text_len, uint8_t *out, size_t out_len);
 
 #ifdef __cplusplus
 }

@@ -1,2 +1,3 @@
 pub mod IndexLaws
 pub mod LineLaws
+pub mod SpellingLaws
