@@ -344,6 +344,23 @@ def surrogate_codes(tables):
     )
 
 
+def double_codes(tables):
+    """Characters with two codes, and characters whose own code does not read back (spell_scripts.py has the spelling of each)."""
+    tables.singles[0x80] = 0x4E00
+    for place, unit in enumerate((
+        0x3000, 0x0041, 0x3002, 0x3003, 0xD83D, 0xD800, 0xDBFF, 0xDC00, 0xDFFF, 0xDE00, 0xD7FF, 0xE000, 0x3004, 0x3005, 0x3006, 0x3007,
+        0x3008, 0x3009, 0x30FB, 0xFFFE, 0x300A, 0x300B,
+    )):
+        tables.set_pair(0x8142 + place, unit)
+    codes = {unit: unit for unit in range(0x80) if unit != 0x0042}
+    codes.update({
+        0x0042: 0x4242, 0x00A0: 0x20, 0x3000: 0x8140, 0x3001: 0x8141, 0x4E00: 0x827C, 0x3003: 0x8141, 0xD83D: 0x8146, 0xD800: 0x8147,
+        0xDBFF: 0x8148, 0xDC00: 0x8149, 0xDFFF: 0x814A, 0xD7FF: 0x814C, 0xE000: 0x814D, 0x3004: 0x0081, 0x3005: 0x4142, 0x3006: 0x0083,
+        0x3007: 0x815A, 0x3008: 0x810A, 0x3009: 0xFFFE, 0x30FB: 0x8154, 0xFFFE: 0x8155, 0x300A: 0x8180, 0x300B: 0x0080,
+    })
+    tables.set_codes(codes)
+
+
 def odd_defaults(tables):
     tables.default_byte = 0x81
     tables.default_unit = 0xD800
@@ -388,6 +405,7 @@ OTHERS = {
     "default_character": default_as_character,
     "odd_codes": odd_codes,
     "surrogate_codes": surrogate_codes,
+    "double_codes": double_codes,
     "odd_defaults": odd_defaults,
     "default_ffff": default_ffff,
     "spread_leads": spread_leads,
@@ -463,6 +481,8 @@ def initial_script():
     script.expect("propose 1 0 1 5", "?")
     script.expect("append 0 0", "append 10 -")
     script.expect("find 0 0", "find 10")
+    script.expect("spell 0 0 0", "spell 10 kept")
+    script.expect("spell 0 1 5", "?")
     script.expect("entry 0 0 0", "?")
     script.note("no field buffer, and nothing held")
     script.expect("field 0 0 more", "field 20 0 -")
@@ -481,6 +501,7 @@ def initial_script():
     script.expect("propose 0 0 0 0", "propose 0 0 kept")
     script.expect("append 0 0", "append 0 -")
     script.expect("find 0 0", "find 29")
+    script.expect("spell 0 0 0", "spell 0 0 - kept")
     return script
 
 
@@ -642,6 +663,8 @@ def grammar_script():
         # index, entry, append and find
         "index", "index 301", "index 03", "index 3 3", "entry 0 0", "entry 300 0 0", "append 0", "append 0 3", "append 00 2", "append -1 2",
         "find 0", "find 0 3", "find 00 2", "find 18446744073709551616 2",
+        # spell
+        "spell", "spell 0 2", "spell 0 3 5", "spell 2 1 5", "spell 0 2 140001", "spell 0 2 05", "spell 00 2 5", "spell 0 2 5 5", "spell D 0 2 5",
         # nothing else is a command
         "quit", "help", "decodes 0 1 last 5", "tables sample.tbl", "policy 555", "shape\tgood",
     )

@@ -1,14 +1,15 @@
 #!/usr/bin/env python3
 """Makes the tests of the real code pages: a console script and its expected answers for each page.
 
-    page_scripts.py            writes scripts/cpNNN.in and .out, scripts/undefined_units.in and .out
+    page_scripts.py            writes scripts/cpNNN.in and .out, scripts/undefined_units.in and .out, scripts/spell_pages.in and .out
     page_scripts.py --check    makes them in memory and compares them with the stored files
 
 Either way each script is played on second_converter.py, which must give the expected answers.
 
 A page's script decodes every single byte, every lead with every second byte 00 to FF, and every lead alone at the end
 of the text; it encodes every unit that has a code and the units around those. The script undefined_units encodes all
-other units on every page. So each unit 0000 to FFFF is encoded on each page.
+other units on every page. So each unit 0000 to FFFF is encoded on each page. The script spell_pages has the standard spelling of every
+code of every page (spell_scripts.py).
 
 The expected answers come neither from our tables nor from second_converter.py. They are worked out from three things:
 the mapping of Java's charsets, changed in the entries that tables/DIFFERENCES.md lists; the shape of each page as it
@@ -22,6 +23,7 @@ import sys
 
 import independent_converters
 import second_converter
+import spell_scripts
 
 ROOT = os.path.dirname(os.path.dirname(os.path.abspath(__file__)))
 SCRIPTS = os.path.join(ROOT, "scripts")
@@ -292,6 +294,7 @@ def all_scripts():
     mappings = expected_mappings()
     scripts = {f"cp{page}": page_script(page, mappings[page]) for page in PAGES}
     scripts["undefined_units"] = undefined_script(mappings)
+    scripts["spell_pages"] = spell_scripts.spell_pages_script(Script(), SHAPES, mappings, table_answer)
     return scripts
 
 

@@ -757,6 +757,48 @@ def find_call(table, journal, index, number):
 
 
 # ---------------------------------------------------------------------------------------------------------------
+# The standard spelling (document 02, CR 8)
+# ---------------------------------------------------------------------------------------------------------------
+
+
+def own_code(table, unit):
+    """The bytes of a unit's own code in the encoding table, if it "reads back as it"; else None."""
+    code = read_unit(table, unit, None).meaning
+    if not code:
+        return None
+    back = read_code(table, code[0], code[1] if len(code) == 2 else None)
+    return code if back == Code(len(code), 0, [unit]) else None
+
+
+def spelled(table, code):
+    """The bytes of a code's standard spelling, or None if it is at fault."""
+    # "every code has a character, no character is a surrogate, each character's own code in the encoding table reads back as it"
+    if code.kind != 0 or code.meaning[0] in HIGH_SURROGATES or code.meaning[0] in LOW_SURROGATES:
+        return None
+    return own_code(table, code.meaning[0])
+
+
+def spell_call(table, text, out):
+    """ "decode, then encode": writes the spelling to the front of out and answers its length as ('length', n), or refuses: a number, or
+    ('fault', place)."""
+    refusal = text_refusal(table, text)
+    if refusal is not None:
+        return refusal
+    spelling = []
+    for place, code in codes_from(table, text, 0):
+        part = spelled(table, code)
+        # "24 with the place of the first code at fault"
+        if part is None:
+            return ("fault", place)
+        spelling += part
+    # "the spelling has at most 65,536 bytes and fits the room"; "25 the spelling is too long"
+    if len(spelling) > PIECE_LIMIT or len(spelling) > len(out):
+        return 25
+    out[: len(spelling)] = spelling
+    return ("length", len(spelling))
+
+
+# ---------------------------------------------------------------------------------------------------------------
 # The console: the command language of docs/CONSOLE.md, and the decisions of docs/CONSOLE-NOTES.md
 # ---------------------------------------------------------------------------------------------------------------
 
@@ -918,6 +960,7 @@ class Console:
             b"entry": (3, self.do_entry),
             b"append": (2, self.do_append),
             b"find": (2, self.do_find),
+            b"spell": (3, self.do_spell),
         }
 
     def answer(self, line):
@@ -1125,6 +1168,17 @@ class Console:
         if found in (10, 11, 28, 29):
             return f"find {found}"
         return f"find 0 {found[1]} {found[2]}"
+
+    def do_spell(self, start, count, room):
+        text = self.part_of(self.byte_text, start, count)
+        out = [BYTE_FILL] * number_word(room, BYTES_ROOM_LIMIT)
+        answer = spell_call(self.table, text, out)
+        if answer in (10, 11, 25):
+            return f"spell {answer} {kept_text(out, 0, BYTE_FILL)}"
+        kind, number = answer
+        if kind == "fault":
+            return f"spell 24 {number} {kept_text(out, 0, BYTE_FILL)}"
+        return f"spell 0 {number} {hex_text(out[:number], 2)} {kept_text(out, number, BYTE_FILL)}"
 
 
 def script_lines(script):

@@ -146,6 +146,7 @@ def check_coverage(options):
         "propose": (0, 10, 11, 31, 32),
         "append": (0, 10, 11, 28, 33),
         "find": (0, 10, 11, 28, 29),
+        "spell": (0, 10, 11, 24, 25),
     }
     seen = {command: set() for command in wanted}
     shown = set()
@@ -629,6 +630,53 @@ def check_index(options):
             asked = chance.randrange(len(text) + 2)
             wanted = found_by(reader, text, index, asked)
             expect(converter.find_call(table, text, index, asked) == wanted, f"journal {number}: code {asked} by a wrong index")
+
+
+# ---------------------------------------------------------------------------------------------------------------
+# The standard spelling against decoding and encoding
+# ---------------------------------------------------------------------------------------------------------------
+
+
+def spelled_again(table, text):
+    """The units of a byte text and its spelling, by the uncut readings, with the digits 000: decoded, then encoded, then decoded unit by
+    unit to see whether each reads back. None if that fails somewhere."""
+    units, flags, _ = whole_reading(table, "D", (0, 0, 0), text)
+    spelling, encoding_flags, _ = whole_reading(table, "E", (0, 0, 0), units)
+    if flags or encoding_flags:
+        return None
+    for unit in units:
+        own = whole_reading(table, "E", (0, 0, 0), [unit])[0]
+        if whole_reading(table, "D", (0, 0, 0), own) != ([unit], 0, len(own)):
+            return None
+    return units, spelling
+
+
+def check_spelling(options):
+    """Random texts: accepted exactly if they are decoded and encoded and read back, else the first code at fault is told; two accepted texts
+    have one spelling exactly if they mean the same units; a spelling is its own."""
+    chance = random.Random(8)
+    for name in ("double_codes.tbl", "sample.tbl", "cp932.tbl", "cp950.tbl", *(f"random_{number}.tbl" for number in range(10))):
+        table = load_table(name)
+        reader, meanings = byte_reader(table), {}
+        codes = [bytes(code) for size in (1, 2) for code in itertools.product(range(256), repeat=size)]
+        codes = [code for code in chance.sample(codes, 3000) + codes[:256] if spans_of(reader, code) == [(0, len(code))]]
+        good = [code for code in codes if spelled_again(table, code)] or codes
+        for _ in range(300):
+            text = b"".join(chance.choices(good, k=chance.randrange(4)) + chance.choices(codes, k=chance.choice((0, 0, 0, 1))))
+            wanted, out = spelled_again(table, text), [-1] * 9
+            answer = converter.spell_call(table, text, out)
+            if wanted is None:
+                fault = next(start for start, end in spans_of(reader, text) if spelled_again(table, text[start:end]) is None)
+                expect((answer, out) == (("fault", fault), [-1] * 9), f"{name}, {text.hex()}: the first fault")
+                continue
+            units, spelling = wanted
+            expect(answer == ("length", len(spelling)), f"{name}, {text.hex()}: the length")
+            expect(out == spelling + [-1] * (9 - len(spelling)), f"{name}, {text.hex()}: the spelling")
+            again = [-1] * len(spelling)
+            expect(converter.spell_call(table, spelling, again) == answer and again == spelling, f"{name}, {text.hex()}: spelled again")
+            expect(converter.spell_call(table, text, [-1] * (len(spelling) - 1)) == 25 or not spelling, f"{name}, {text.hex()}: 25")
+            expect(meanings.setdefault(tuple(units), spelling) == spelling, f"{name}, {text.hex()}: one meaning, two spellings")
+        expect(len({tuple(spelling) for spelling in meanings.values()}) == len(meanings), f"{name}: one spelling, two meanings")
 
 
 # ---------------------------------------------------------------------------------------------------------------
@@ -1727,6 +1775,8 @@ def check_wrong_converters(options):
     expect_found_out(wrong_field_converters(), ("fields",))
     expect_found_out(wrong_break_converters(), ("breaks",))
     expect_found_out(wrong_converters.wrong_index_converters(), ("index",))
+    expect_found_out(wrong_converters.wrong_spell_converters(), ("spell",))
+    expect_found_out(wrong_converters.wrong_spell_calls()[:1], ("spell_pages",))
 
 
 def check_standard_is_told(options):
@@ -1795,6 +1845,7 @@ CHECKS = (
     ("lists of calls against the fields of the uncut text", check_fields),
     ("receipt lines against a search of all proposals", check_breaks),
     ("the index of a journal against all its codes", check_index),
+    ("the standard spelling against decoding and encoding", check_spelling),
     ("wrong converters are found out", check_wrong_converters),
     ("the standard policy is told and not used", check_standard_is_told),
     ("wrong page tables are found out", check_wrong_pages),

@@ -502,3 +502,268 @@ def wrong_index_converters():
         *wrong_finders(), *wrong_appenders(), *wrong_entries(), *wrong_append_refusals(), *wrong_index_consoles(), *wrong_readings(),
         *wrong_text_refusals(), *wrong_numbers(),
     )
+
+
+# ---------------------------------------------------------------------------------------------------------------
+# The standard spelling (CR 8)
+# ---------------------------------------------------------------------------------------------------------------
+
+
+def looked_up(table, unit):
+    """The bytes that the encoding table has for a unit, surrogate or not; empty if none."""
+    code = table.blocks[256 * table.index[unit >> 8] + (unit & 0xFF)]
+    return [] if code == 0xFFFF else [code] if code < 0x100 else [code >> 8, code & 0xFF]
+
+
+def read_back(table, code):
+    return RIGHT["read_code"](table, code[0], code[1] if len(code) == 2 else None)
+
+
+def wrong_own_codes():
+    """Other rules for a character's own code."""
+
+    def accepted_if(rule):
+        """The code is taken where rule accepts what is read back from it: it gets this code, its bytes and the unit."""
+
+        def wrong(table, unit):
+            code = RIGHT["read_unit"](table, unit, None).meaning
+            return code if code and rule(read_back(table, code), code, unit) else None
+
+        return wrong
+
+    def second_code(choose):
+        """Of all codes of a character one is chosen by another rule."""
+
+        def wrong(table, unit):
+            own = RIGHT["own_code"](table, unit)
+            if own is None:
+                return None
+            codes = [[byte] for byte in range(256) if table.classes[byte] in (1, 5) and table.singles[byte] == unit]
+            leads = [byte for byte in range(256) if is_lead(table, byte)]
+            codes += [[leads[place // 256], place % 256] for place, other in enumerate(table.pairs)
+                      if other == unit and table.classes[place % 256] in (4, 5, 6)]
+            return choose(codes)
+
+        return wrong
+
+    return named("own_code", (
+        ("nothing is read back", accepted_if(lambda back, code, unit: True)),
+        ("what is read back has any character", accepted_if(lambda back, code, unit: back.kind == 0)),
+        ("what is read back has all bytes", accepted_if(lambda back, code, unit: back.size == len(code))),
+        ("what is read back has all bytes and any character", accepted_if(lambda back, code, unit: back.kind == 0 and back.size == len(code))),
+        ("the first code that is read back is asked only", accepted_if(lambda back, code, unit: back.meaning == [unit])),
+        ("a code of two bytes is not read back", accepted_if(lambda back, code, unit: len(code) == 2 or back.meaning == [unit])),
+        ("a code of one byte is not read back",
+         accepted_if(lambda back, code, unit: len(code) == 1 or (back.size == 2 and back.meaning == [unit]))),
+        ("the first code of a character", second_code(min)),
+        ("the last code of a character", second_code(max)),
+        ("the shortest code of a character", second_code(lambda codes: min(codes, key=len))),
+    ))
+
+
+def wrong_spelled():
+    """Other spellings of a code."""
+    spelled = RIGHT["spelled"]
+
+    def surrogates_in(which):
+        """Surrogates that which asks for are spelled by what the encoding table has, if it reads back."""
+
+        def wrong(table, code):
+            if code.kind == 0 and code.meaning[0] in which:
+                own = looked_up(table, code.meaning[0])
+                return own if own and read_back(table, own).meaning == code.meaning else None
+            return spelled(table, code)
+
+        return wrong
+
+    def faults_too(units):
+        return lambda table, code: None if code.kind == 0 and code.meaning[0] in units(table) else spelled(table, code)
+
+    def default_for(kinds):
+        return lambda table, code: [table.default_byte] if code.kind in kinds else spelled(table, code)
+
+    def default_if_no_code(table, code):
+        if code.kind == 0 and not RIGHT["read_unit"](table, code.meaning[0], None).meaning:
+            return [table.default_byte]
+        return spelled(table, code)
+
+    return named("spelled", (
+        ("a surrogate that has a code is accepted", surrogates_in(range(0xD800, 0xE000))),
+        ("a high surrogate that has a code is accepted", surrogates_in(range(0xD800, 0xDC00))),
+        ("a low surrogate that has a code is accepted", surrogates_in(range(0xDC00, 0xE000))),
+        ("D800 is accepted", surrogates_in((0xD800,))),
+        ("DBFF is accepted", surrogates_in((0xDBFF,))),
+        ("DC00 is accepted", surrogates_in((0xDC00,))),
+        ("DFFF is accepted", surrogates_in((0xDFFF,))),
+        ("D7FF is a surrogate", faults_too(lambda table: (0xD7FF,))),
+        ("E000 is a surrogate", faults_too(lambda table: (0xE000,))),
+        ("the default unit is at fault", faults_too(lambda table: (table.default_unit,))),
+        ("00 is at fault", faults_too(lambda table: (0,))),
+        ("FFFE is at fault", faults_too(lambda table: (0xFFFE,))),
+        ("a code without a character is spelled by the default", default_for((1, 2, 4))),
+        ("an undefined single is spelled by the default", default_for((1,))),
+        ("an undefined pair is spelled by the default", default_for((2,))),
+        ("an invalid code is spelled by the default", default_for((4,))),
+        ("a character without a code is spelled by the default", default_if_no_code),
+        ("a code without a character is left out", lambda table, code: [] if code.kind else spelled(table, code)),
+    ))
+
+
+def code_starts(table, text):
+    return [place for place, _ in RIGHT["codes_from"](table, text, 0)]
+
+
+def wrong_spell_calls():
+    spell_call = RIGHT["spell_call"]
+
+    def spelling_of(table, text):
+        """The codes of a text as (place, spelling or None)."""
+        return [(place, RIGHT["spelled"](table, code)) for place, code in RIGHT["codes_from"](table, text, 0)]
+
+    def fault_at(place_of):
+        """Another place of a fault."""
+
+        def wrong(table, text, out):
+            answer = spell_call(table, text, out)
+            if not isinstance(answer, tuple) or answer[0] == "length":
+                return answer
+            return ("fault", place_of(table, text, answer[1]))
+
+        return wrong
+
+    def last_fault(table, text, place):
+        return [fault for fault, spelling in spelling_of(table, text) if spelling is None][-1]
+
+    def spelling_before(table, text, place):
+        return [byte for at, spelling in spelling_of(table, text) if at < place for byte in spelling]
+
+    def with_room(change):
+        """The length is asked of otherwise: change gets text, spelling, room and the right answer."""
+
+        def wrong(table, text, out):
+            answer = spell_call(table, text, out)
+            if answer in (10, 11) or (isinstance(answer, tuple) and answer[0] == "fault"):
+                return answer
+            spelling = [byte for _, part in spelling_of(table, text) for byte in part]
+            if change(len(text), len(spelling), len(out)):
+                out[:] = [RIGHT["BYTE_FILL"]] * len(out)
+                return 25
+            out[: len(spelling)] = spelling[: len(out)]
+            return ("length", len(spelling))
+
+        return wrong
+
+    def first_if(number, holds):
+        """25, or a fault, is found ahead of the right refusal."""
+
+        def wrong(table, text, out):
+            answer = spell_call(table, text, out)
+            return number if holds(answer, table, text, out) else answer
+
+        return wrong
+
+    def room_ends(answer, table, text, out):
+        """The room ends before the fault."""
+        return isinstance(answer, tuple) and answer[0] == "fault" and len(spelling_before(table, text, answer[1])) > len(out)
+
+    def limit_ends(answer, table, text, out):
+        return isinstance(answer, tuple) and answer[0] == "fault" and len(spelling_before(table, text, answer[1])) > 65536
+
+    def touched(numbers, change):
+        """A call that touches more than it should: numbers are refusals, 'fault' or 'length'."""
+
+        def wrong(table, text, out):
+            answer = spell_call(table, text, out)
+            if (answer if isinstance(answer, int) else answer[0]) in numbers:
+                change(table, text, answer, out)
+            return answer
+
+        return wrong
+
+    def written_before(table, text, answer, out):
+        part = spelling_before(table, text, answer[1] if isinstance(answer, tuple) else len(text))
+        out[: len(part)] = part[: len(out)]
+
+    def cleared_behind(table, text, answer, out):
+        out[answer[1] :] = [0] * (len(out) - answer[1])
+
+    def zero_behind(table, text, answer, out):
+        out[answer[1] : answer[1] + 1] = [0] * len(out[answer[1] : answer[1] + 1])
+
+    def own_spelling(table, text, out):
+        answer = spell_call(table, text, list(out))
+        if not isinstance(answer, tuple) or answer[0] == "fault" or len(text) > len(out):
+            return answer
+        out[: len(text)] = text
+        return ("length", len(text))
+
+    return named("spell_call", (
+        ("an accepted text is its own spelling", own_spelling),
+        ("the place counts codes", fault_at(lambda table, text, place: code_starts(table, text).index(place))),
+        ("the place is counted in the spelling", fault_at(lambda table, text, place: len(spelling_before(table, text, place)))),
+        ("the place is the code's end", fault_at(lambda table, text, place: [*code_starts(table, text), len(text)][
+            code_starts(table, text).index(place) + 1])),
+        ("the place is counted from 1", fault_at(lambda table, text, place: place + 1)),
+        ("the last fault is told", fault_at(last_fault)),
+        ("the place is always 0", fault_at(lambda table, text, place: 0)),
+        ("the limit is the room only", with_room(lambda size, length, room: length > room)),
+        ("the limit is 65,535", with_room(lambda size, length, room: length > room or length > 65535)),
+        ("the spelling must leave a byte of room", with_room(lambda size, length, room: length >= room and length > 0)),
+        ("the room goes by the text", with_room(lambda size, length, room: max(size, length) > room or length > 65536)),
+        ("the room goes by the text only", with_room(lambda size, length, room: size > room or length > 65536)),
+        ("a longer spelling is too long", with_room(lambda size, length, room: length > size or length > room)),
+        ("an empty spelling needs room", with_room(lambda size, length, room: length > min(room, 65536) or room == 0)),
+        ("25 where the room ends before the fault", first_if(25, room_ends)),
+        ("25 where the limit is passed before the fault", first_if(25, limit_ends)),
+        ("24 before 11", first_if(("fault", 0), lambda answer, table, text, out: answer == 11 and RIGHT["spelled"](
+            table, RIGHT["read_code"](table, text[0], text[1])) is None)),
+        ("25 before 11", first_if(25, lambda answer, table, text, out: answer == 11)),
+        ("25 before 10", first_if(25, lambda answer, table, text, out: answer == 10 and len(text) > len(out))),
+        ("the spelling is written up to the fault", touched(("fault",), written_before)),
+        ("the spelling is written up to the room's end", touched((25,), written_before)),
+        ("the room behind the spelling is cleared", touched(("length",), cleared_behind)),
+        ("a zero ends the spelling", touched(("length",), zero_behind)),
+    ))
+
+
+def wrong_spell_consoles():
+    class CountsFromTheWhole(converter.Console):
+        """The place of a fault is counted from the beginning of the whole text."""
+
+        def do_spell(self, start, count, room):
+            words = super().do_spell(start, count, room).split(" ")
+            return " ".join([*words[:2], str(int(words[2]) + int(start)), *words[3:]]) if words[1:2] == ["24"] else " ".join(words)
+
+    class TakesTheSpelling(converter.Console):
+        """The spelling is the byte text from then on."""
+
+        def do_spell(self, start, count, room):
+            words = super().do_spell(start, count, room).split(" ")
+            if words[1:2] == ["0"]:
+                self.byte_text = RIGHT["hex_word"](words[3].encode("ascii"), 2)
+            return " ".join(words)
+
+    class StartsAnew(converter.Console):
+        """Spelling gives up the run in hand."""
+
+        def do_spell(self, *words):
+            answer = super().do_spell(*words)
+            self.run = converter.Run("D", self.table.page, (5, 5, 5), None, 0, 0, 0, False)
+            return answer
+
+    return (
+        ("the place is counted from the whole text's beginning", "Console", CountsFromTheWhole),
+        ("the spelling becomes the text", "Console", TakesTheSpelling),
+        ("spelling gives up the run in hand", "Console", StartsAnew),
+        ("140,001 bytes of room are a command", "BYTES_ROOM_LIMIT", 140001),
+        ("140,000 bytes of room are no command", "BYTES_ROOM_LIMIT", 139999),
+    )
+
+
+def wrong_spell_converters():
+    """The standard spelling (document 02, CR 8). What is no character is at fault, whatever its size; index and blocks are needed."""
+    return (
+        *wrong_own_codes(), *wrong_spelled(), *wrong_spell_calls(), *wrong_spell_consoles(),
+        ("every code is one byte", "codes_from", read_as(lambda code, table, first, second: 1)), *wrong_text_refusals()[:-1],
+        *wrong_numbers(),
+    )
