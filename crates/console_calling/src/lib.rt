@@ -100,6 +100,7 @@ fn call_product(
     index: &[u8],
     blocks: &[u16],
     bytes: &[u8],
+    lent_bytes: &mut [u8],
     entries: &mut [u32],
     out: &mut [u8],
 ) -> Next {
@@ -113,6 +114,19 @@ fn call_product(
         index,
         blocks,
         bytes,
+        out,
+    );
+    let after = console_spelling::run_spelling(
+        command,
+        line,
+        after,
+        classes,
+        singles,
+        pairs,
+        index,
+        blocks,
+        bytes,
+        lent_bytes,
         out,
     );
     console_indexing::run_index(
@@ -188,6 +202,7 @@ pub fn run_call(
         index,
         blocks,
         bytes,
+        lent_bytes,
         entries,
         out,
     )

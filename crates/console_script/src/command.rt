@@ -28,10 +28,19 @@ pub enum Command {
     Entry,
     Append,
     Find,
+    Spell,
     // A line that is passed over.
     Nothing,
     // A line that is no command.
     Unknown,
+}
+
+// The command that a word names, if it is the one that spells the byte text.
+fn named_spelling(word: &[u8]) -> Command {
+    if words::is_word(word, b"spell") {
+        return Command::Spell;
+    }
+    Command::Unknown
 }
 
 // The command that a word names, among those on the index of the byte text.
@@ -48,7 +57,7 @@ fn named_index(word: &[u8]) -> Command {
     if words::is_word(word, b"find") {
         return Command::Find;
     }
-    Command::Unknown
+    named_spelling(word)
 }
 
 // The command that a word names, among those that break the byte text into lines.
