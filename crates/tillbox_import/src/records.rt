@@ -59,7 +59,7 @@ fn flush(progress: Progress, out: &[u16], target: i32, path: &[u8]) -> Progress 
     let mut p = progress;
     let waiting = tillbox_layout::front_units(p.waiting, out);
     let mut bytes = [0u8; 2048];
-    let length = tillbox_layout::utf16::to_bytes(&out[..waiting], &mut bytes);
+    let length = utf16::to_bytes(&out[..waiting], &mut bytes);
     if !files::write(target, &bytes[..length], path) {
         return failed(p);
     }

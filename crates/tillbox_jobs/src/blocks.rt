@@ -154,7 +154,7 @@ fn decode_block(
     );
     let filled = tillbox_layout::front_units(outcome.written, &units);
     let mut bytes = [0u8; 2048];
-    let length = tillbox_layout::utf16::to_bytes(&units[..filled], &mut bytes);
+    let length = utf16::to_bytes(&units[..filled], &mut bytes);
     if !files::write(target, &bytes[..length], output) {
         return broken(run);
     }
@@ -261,7 +261,7 @@ fn encode_block(
         return broken(run);
     }
     let mut units = [0u16; 512];
-    let length = tillbox_layout::utf16::to_units(&block[..count], &mut units);
+    let length = utf16::to_units(&block[..count], &mut units);
     encode_units(
         job,
         run,

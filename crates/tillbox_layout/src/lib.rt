@@ -1,10 +1,8 @@
-// Inner: numbers about files, places and sizes, the blocks of an input. The bytes of UTF-16 units are in `utf16`.
+// Inner: numbers about files, places and sizes, the blocks of an input.
 ghost use mathlib.Core.Path.{_≡_};
 ghost use Prim.Native.Nat.{_+_, _-_, _≤_, min};
 ghost use lib.IntN.{pos};
 ghost use Rattle.tillbox_layout.specs.Files.{greatest, Front, fileSize, unitsIn, isWhole, placeOf, blockLen, isFinal, blockCount};
-
-pub mod utf16;
 
 // The most units in a block.
 pub const BLOCK: u64 = 512;

@@ -36,7 +36,7 @@ fn next_block(
         return page.broken();
     }
     let mut units = [0u16; 512];
-    let length = tillbox_layout::utf16::to_units(&block[..count], &mut units);
+    let length = utf16::to_units(&block[..count], &mut units);
     let run = page.run;
     mark::note_mark(run, &units[..length]);
     lines::put_units(

@@ -1,9 +1,15 @@
-// UTF-16 units as bytes, low byte first.
+// Inner: UTF-16 units as bytes, low byte first.
 ghost use mathlib.Core.Path.{_≡_};
-ghost use Prim.Native.Nat.{_+_, _*_, _/_, _%_};
+ghost use Prim.Native.Nat.{_+_, _*_, _/_, _%_, _≤_, min};
 ghost use lib.ListN.{length, take};
-ghost use Rattle.tillbox_layout.specs.Files.{Front};
-ghost use Rattle.tillbox_layout.specs.Utf16.{utf16Bytes, utf16Units, Laid};
+ghost use Rattle.utf16.specs.Utf16.{utf16Bytes, utf16Units, Laid};
+
+// The smaller of two numbers.
+fn least(a: usize, b: usize) -> usize
+    ensures { λ r. ⌜ r ≡ min a b ⌝ }
+{
+    if a < b { a } else { b }
+}
 
 // The byte of a unit that is written first.
 fn low_half(unit: u16) -> u8
@@ -29,9 +35,9 @@ fn joined(low: u8, high: u8) -> u16
 // Lays the bytes of units over the front of a buffer, as many units as fit, and answers how many bytes these are.
 pub fn to_bytes(units: &[u16], bytes: &mut [u8]) -> usize
     ensures { λ r. ⌜ Laid (utf16Bytes (take (length (now (bytes .entry)) / 2) (now (units .entry)))) (now (bytes .entry)) (now (bytes .exit)) r ⌝ }
-    ensures { λ r. ⌜ Front r (now (bytes .exit)) ⌝ }
+    ensures { λ r. ⌜ (r ≤ length (now (bytes .exit))) × (r ≡ length (take r (now (bytes .exit)))) ⌝ }
 {
-    let count = crate::least(units.len(), bytes.len() / 2);
+    let count = least(units.len(), bytes.len() / 2);
     let mut i = 0;
     while i < count {
         bytes[2 * i] = low_half(units[i]);
@@ -44,9 +50,9 @@ pub fn to_bytes(units: &[u16], bytes: &mut [u8]) -> usize
 // Lays the units of bytes over the front of a buffer, as many as fit, and answers how many these are.
 pub fn to_units(bytes: &[u8], units: &mut [u16]) -> usize
     ensures { λ r. ⌜ Laid (take (length (now (units .entry))) (utf16Units (now (bytes .entry)))) (now (units .entry)) (now (units .exit)) r ⌝ }
-    ensures { λ r. ⌜ Front r (now (units .exit)) ⌝ }
+    ensures { λ r. ⌜ (r ≤ length (now (units .exit))) × (r ≡ length (take r (now (units .exit)))) ⌝ }
 {
-    let count = crate::least(bytes.len() / 2, units.len());
+    let count = least(bytes.len() / 2, units.len());
     let mut i = 0;
     while i < count {
         units[i] = joined(bytes[2 * i], bytes[2 * i + 1]);

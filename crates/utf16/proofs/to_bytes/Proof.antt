@@ -1,13 +1,13 @@
-use Rattle.tillbox_layout.proofs.Utf16Laws.{fitting-bytes, fitting-low, fitting-high, two-turn, lay-end}
-use Rattle.tillbox_layout.specs.Utf16.{utf16Bytes}
+use Rattle.utf16.proofs.Utf16Laws.{fitting-bytes, fitting-low, fitting-high, two-turn, lay-end}
+use Rattle.utf16.specs.Utf16.{utf16Bytes}
 use lib.Seq.{length-take-le}
 use lib.ListN.{length, take, drop, length-set}
 use Prim.Native.Nat.{_*_, _-_, _/_, _≤_, min}
 use mathlib.Core.List.{_++_}
 use mathlib.Core.Path.{_≡_, refl, sym, _∙_}
 use native.Mathlib.Omega.{arith}
-use Rattle.tillbox_layout.proofs.utf16.to_bytes.Statement.{statement}
-use Rattle.tillbox_layout.proofs.utf16.to_bytes.Tie as tie
+use Rattle.utf16.proofs.to_bytes.Statement.{statement}
+use Rattle.utf16.proofs.to_bytes.Tie as tie
 
 abbrev Inv-loop : tie.InvT-loop
 Inv-loop units bytes₀ count i₀ bytes i = (i ≤ count) × (count ≡ min (length units) (length bytes₀ / 2)) × (length bytes ≡ length bytes₀) × (length (utf16Bytes (take (length bytes₀ / 2) units)) ≡ 2 * count) × (bytes ≡ take (2 * i) (utf16Bytes (take (length bytes₀ / 2) units)) ++ drop (2 * i) bytes₀)

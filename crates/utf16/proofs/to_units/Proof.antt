@@ -1,13 +1,13 @@
-use Rattle.tillbox_layout.proofs.Utf16Laws.{fitting-units, fitting-unit, lay-turn, lay-end}
-use Rattle.tillbox_layout.specs.Utf16.{utf16Units}
+use Rattle.utf16.proofs.Utf16Laws.{fitting-units, fitting-unit, lay-turn, lay-end}
+use Rattle.utf16.specs.Utf16.{utf16Units}
 use lib.Seq.{length-take-le}
 use lib.ListN.{length, take, drop, length-set}
 use Prim.Native.Nat.{_-_, _/_, _≤_, min}
 use mathlib.Core.List.{_++_}
 use mathlib.Core.Path.{_≡_, refl, sym, _∙_}
 use native.Mathlib.Omega.{arith}
-use Rattle.tillbox_layout.proofs.utf16.to_units.Statement.{statement}
-use Rattle.tillbox_layout.proofs.utf16.to_units.Tie as tie
+use Rattle.utf16.proofs.to_units.Statement.{statement}
+use Rattle.utf16.proofs.to_units.Tie as tie
 
 abbrev Inv-loop : tie.InvT-loop
 Inv-loop bytes units₀ count i₀ units i = (i ≤ count) × (count ≡ min (length bytes / 2) (length units₀)) × (length units ≡ length units₀) × (length (take (length units₀) (utf16Units bytes)) ≡ count) × (units ≡ take i (take (length units₀) (utf16Units bytes)) ++ drop i units₀)

@@ -5,9 +5,9 @@ use Prim.Native.Nat.{ℕ, zero, suc, _+_, _*_, _/_, _%_, _≤_, _<_, min}
 use native.Mathlib.Numerals.{add-one}
 use native.Mathlib.Omega.{arith}
 use lib.ListN.{length, getD, take, drop, set, length-take}
-use lib.Seq.{drop-cons, set-at, append-snoc, take-suc, take-length, length-take-le, getD-take}
+use lib.Seq.{drop-nil, drop-cons, set-at, append-snoc, take-suc, take-length, length-take-le, getD-take}
 use Rattle.codepage.specs.Lent.{over}
-use Rattle.tillbox_layout.specs.Utf16.{utf16Bytes, utf16Units, Laid}
+use Rattle.utf16.specs.Utf16.{utf16Bytes, utf16Units, Laid}
 
 -- ---- a loop that lays elements over a buffer
 module _ (elements before : List ℕ) where
@@ -103,6 +103,18 @@ unit-at (low ∷ high ∷ bytes) (suc i) h =
     ap (λ (n : ℕ). getD (low ∷ high ∷ bytes) n 0 + 256 * getD (low ∷ high ∷ bytes) (2 * suc i + 1) 0) e
     ∙ ap (λ (n : ℕ). getD bytes (2 * i) 0 + 256 * getD (low ∷ high ∷ bytes) n 0) f
     ∙ unit-at bytes i (omega arith)
+
+-- the units behind the first n are those of the bytes behind the first 2 n
+pub units-drop : (bytes : List ℕ) (n : ℕ) → utf16Units (drop (2 * n) bytes) ≡ drop n (utf16Units bytes)
+unfolding utf16Units
+units-drop bytes zero = refl
+units-drop [] (suc n) = rw (drop-nil)
+units-drop (low ∷ []) (suc n) =
+    let e : 2 * suc n ≡ suc (suc (2 * n)) = omega arith in
+    rw (e, drop-nil)
+units-drop (low ∷ high ∷ bytes) (suc n) =
+    let e : 2 * suc n ≡ suc (suc (2 * n)) = omega arith in
+    ap (λ (m : ℕ). utf16Units (drop m (low ∷ high ∷ bytes))) e ∙ units-drop bytes n
 
 -- as many units as fit a room
 module _ (bytes : List ℕ) (room count : ℕ) (fitting : count ≡ min (length bytes / 2) room) where
