@@ -89,7 +89,50 @@ fn call_converter(
     }
 }
 
-// Runs a command of a product on the byte text, on the tables and the text that are set.
+// Runs the command that spells the byte text, or the one that encodes inside one buffer.
+fn call_coding(
+    command: Command,
+    line: &[u8],
+    next: Next,
+    classes: &[u8],
+    singles: &[u16],
+    pairs: &[u16],
+    index: &[u8],
+    blocks: &[u16],
+    bytes: &[u8],
+    lent_bytes: &mut [u8],
+    out: &mut [u8],
+) -> Next {
+    match command {
+        Command::InPlace => console_inplace::run_in_place(
+            command,
+            line,
+            next,
+            classes,
+            singles,
+            pairs,
+            index,
+            blocks,
+            lent_bytes,
+            out,
+        ),
+        _ => console_spelling::run_spelling(
+            command,
+            line,
+            next,
+            classes,
+            singles,
+            pairs,
+            index,
+            blocks,
+            bytes,
+            lent_bytes,
+            out,
+        ),
+    }
+}
+
+// Runs a command of a product above the converter, on the tables and the byte text that are set.
 fn call_product(
     command: Command,
     line: &[u8],
@@ -116,7 +159,7 @@ fn call_product(
         bytes,
         out,
     );
-    let after = console_spelling::run_spelling(
+    let after = call_coding(
         command,
         line,
         after,

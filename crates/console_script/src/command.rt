@@ -29,16 +29,20 @@ pub enum Command {
     Append,
     Find,
     Spell,
+    InPlace,
     // A line that is passed over.
     Nothing,
     // A line that is no command.
     Unknown,
 }
 
-// The command that a word names, if it is the one that spells the byte text.
-fn named_spelling(word: &[u8]) -> Command {
+// The command that a word names, if it spells the byte text or encodes inside one buffer.
+fn named_coding(word: &[u8]) -> Command {
     if words::is_word(word, b"spell") {
         return Command::Spell;
+    }
+    if words::is_word(word, b"inplace") {
+        return Command::InPlace;
     }
     Command::Unknown
 }
@@ -57,7 +61,7 @@ fn named_index(word: &[u8]) -> Command {
     if words::is_word(word, b"find") {
         return Command::Find;
     }
-    named_spelling(word)
+    named_coding(word)
 }
 
 // The command that a word names, among those that break the byte text into lines.

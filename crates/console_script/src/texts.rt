@@ -38,6 +38,14 @@ fn following(place: usize, count: usize) -> usize {
     place + 1
 }
 
+// Whether a byte at a place, from another place on, is not what it was.
+fn differs_behind(before: u8, now: u8, place: usize, from: usize) -> bool {
+    if place < from {
+        return false;
+    }
+    before != now
+}
+
 // The bytes of some hex digits, over and over.
 pub fn repeat_bytes(digits: &[u8], text: &mut [u8]) {
     let count = digits.len() / 2;
@@ -60,6 +68,22 @@ pub fn repeat_units(digits: &[u8], text: &mut [u16]) {
         place = following(place, count);
         i += 1;
     }
+}
+
+// Whether the bytes of a text from a place on are still those of some hex digits, over and over from its front.
+pub fn repeats_from(digits: &[u8], text: &[u8], from: usize) -> bool {
+    let count = digits.len() / 2;
+    let mut kept = true;
+    let mut place = 0;
+    let mut i = 0;
+    while i < text.len() {
+        if differs_behind(words::byte_of(digits, place), text[i], i, from) {
+            kept = false;
+        }
+        place = following(place, count);
+        i += 1;
+    }
+    kept
 }
 
 // Fills lent bytes before a call, so that what it left as it was is seen after it.
