@@ -482,6 +482,9 @@ def initial_script():
     script.expect("append 0 0", "append 10 -")
     script.expect("find 0 0", "find 10")
     script.expect("spell 0 0 0", "spell 10 kept")
+    script.expect("inplace 755 0 -", "inplace 17 kept")
+    script.expect("inplace 555 0 -", "inplace 10 kept")
+    script.expect("inplace 555 3 41", "inplace 10 kept")
     script.expect("spell 0 1 5", "?")
     script.expect("entry 0 0 0", "?")
     script.note("no field buffer, and nothing held")
@@ -502,6 +505,7 @@ def initial_script():
     script.expect("append 0 0", "append 0 -")
     script.expect("find 0 0", "find 29")
     script.expect("spell 0 0 0", "spell 0 0 - kept")
+    script.expect("inplace 555 0 -", "inplace 0 0 0 0 - kept")
     return script
 
 
@@ -665,6 +669,9 @@ def grammar_script():
         "find 0", "find 0 3", "find 00 2", "find 18446744073709551616 2",
         # spell
         "spell", "spell 0 2", "spell 0 3 5", "spell 2 1 5", "spell 0 2 140001", "spell 0 2 05", "spell 00 2 5", "spell 0 2 5 5", "spell D 0 2 5",
+        # inplace
+        "inplace", "inplace 555 2", "inplace 55 2 4100", "inplace 555 02 4100", "inplace 555 140001 41", "inplace 555 2 -", "inplace 555 2 4",
+        "inplace 555 2 4100 5", "inplace E 555 2 4100",
         # nothing else is a command
         "quit", "help", "decodes 0 1 last 5", "tables sample.tbl", "policy 555", "shape\tgood",
     )

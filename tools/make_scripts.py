@@ -6,8 +6,8 @@
     make_scripts.py --seed N --lists M --out FOLDER       writes M further lists of each random kind, from seed N, into FOLDER
 
 NAME.out has the answers of second_converter.py. In the fixed scripts (fixed_scripts.py, bad_half_scripts.py,
-surrogate_scripts.py, one_call_scripts.py, standard_scripts.py, field_scripts.py, break_scripts.py, index_scripts.py, spell_scripts.py) an
-expected answer is written by hand, from the documents and the readings of them, for every command, and making the scripts fails where
+surrogate_scripts.py, one_call_scripts.py, standard_scripts.py, field_scripts.py, break_scripts.py, index_scripts.py, spell_scripts.py,
+inplace_scripts.py) an expected answer is written by hand, from the documents and the readings of them, for every command, and making the scripts fails where
 second_converter.py answers otherwise. The random scripts (random_scripts.py) are the same for the same seed. join_scripts.py joins all scripts for the console.
 """
 
@@ -21,6 +21,7 @@ import break_scripts
 import field_scripts
 import fixed_scripts
 import index_scripts
+import inplace_scripts
 import one_call_scripts
 import random_scripts
 import second_converter
@@ -43,6 +44,7 @@ LISTS = {
     "runs": 120,
     "lists_fields": 25,
     "lists_index": 80,
+    "lists_inplace": 60,
 }
 
 
@@ -66,6 +68,7 @@ def scripts_by_hand():
         "breaks": break_scripts.breaks_script(),
         "index": index_scripts.index_script(),
         "spell": spell_scripts.spell_script(),
+        "inplace": inplace_scripts.inplace_script(),
     }
 
 

@@ -11,6 +11,7 @@ Kinds of script:
     runs             runs of random numbers, most of which break the rules, and the calls on them
     lists_fields     texts cut into fields: blocks cut anywhere, fields about the limit, buffers and states of all sizes
     lists_index      journals that grow, their index gone on with, and codes found by it, also by wrong entries
+    lists_inplace    units encoded in their own buffer, with surrogates in pairs and alone, some buffers of an odd size
 
 The generator plays each command on second_converter.py as it goes, only to know where the run stands, so that the next
 piece begins there; the answers stored are those of that play.
@@ -572,6 +573,18 @@ def play_index(player, chance, names, tables):
             player.do(f"find {number} {chance.choice((former, former, size, chance.randrange(size + 1)))}")
 
 
+def play_in_place(player, chance, names, tables):
+    """A few buffers of units, low byte first, under random policies; now and then a byte is missing."""
+    name = chance.choice(names)
+    player.do(f"table {name}")
+    for _ in range(6):
+        make_text = chance.choice((random_units, random_surrogates))
+        text = make_text(chance, tables[name], chance.choice((0, 1, 2, 3, chance.randrange(30), chance.randrange(30))))
+        buffer = [byte for unit in text for byte in (unit & 0xFF, unit >> 8)]
+        size = max(len(buffer) - (chance.random() < 0.05), 0)
+        player.do(f"inplace {random_policy(chance, 'E')} {size} {hex_text(buffer, 2)}")
+
+
 def random_script(kind, seed, count, tables, folder):
     """The two files of a random script; folder has the images of the tables."""
     chance = random.Random(f"{kind} {seed}")
@@ -600,6 +613,8 @@ def random_script(kind, seed, count, tables, folder):
             play_long_list(player, chance, random_names + ["sample.tbl"], tables)
         elif kind == "lists_fields":
             play_fields(player, chance)
+        elif kind == "lists_inplace":
+            play_in_place(player, chance, random_names + ["sample.tbl"], tables)
         elif kind == "lists_index":
             play_index(player, chance, random_names + ["sample.tbl"], tables)
         else:

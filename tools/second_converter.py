@@ -799,6 +799,39 @@ def spell_call(table, text, out):
 
 
 # ---------------------------------------------------------------------------------------------------------------
+# Encoding in one buffer (document 02, CR 9)
+# ---------------------------------------------------------------------------------------------------------------
+
+
+def in_place_refusal(digits, table, buffer):
+    """ "Checks: 17, 10, then 26 odd number of bytes, then 11 by units": the first that holds, or None."""
+    if not digits_allowed(ENCODING, digits):
+        return 17
+    if not shape_is_good(table):
+        return 10
+    if len(buffer) % 2 != 0:
+        return 26
+    if len(buffer) // 2 > PIECE_LIMIT:
+        return 11
+    return None
+
+
+def in_place_call(digits, table, buffer):
+    """ "Encode inside it, result at the front": answers what was taken, or a refusal's number; the buffer is changed in place."""
+    refusal = in_place_refusal(digits, table, buffer)
+    if refusal is not None:
+        return refusal
+    # "a single lent buffer holding units as two bytes each, low byte first"
+    units = [low + 256 * high for low, high in zip(buffer[0::2], buffer[1::2])]
+    # "The result, counts and flags equal encoding from a separate buffer of ample room"
+    taken = take_whole_text(ENCODING, digits, table, units, NO_END_OF_ROOM)
+    # "bytes beyond the result are unchanged. Stopping leaves the result so far at the front."
+    for place, byte in enumerate(taken.output):
+        buffer[place] = byte
+    return taken
+
+
+# ---------------------------------------------------------------------------------------------------------------
 # The console: the command language of docs/CONSOLE.md, and the decisions of docs/CONSOLE-NOTES.md
 # ---------------------------------------------------------------------------------------------------------------
 
@@ -961,6 +994,7 @@ class Console:
             b"append": (2, self.do_append),
             b"find": (2, self.do_find),
             b"spell": (3, self.do_spell),
+            b"inplace": (3, self.do_inplace),
         }
 
     def answer(self, line):
@@ -1002,8 +1036,8 @@ class Console:
         self.unit_text = hex_word(text, 4)
         return f"units {len(self.unit_text)}"
 
-    def fill(self, count, pattern, digits):
-        count = number_word(count, TEXT_LIMIT)
+    def fill(self, count, pattern, digits, most=TEXT_LIMIT):
+        count = number_word(count, most)
         pattern = hex_word(pattern, digits)
         if not pattern:
             raise NotACommand
@@ -1179,6 +1213,18 @@ class Console:
         if kind == "fault":
             return f"spell 24 {number} {kept_text(out, 0, BYTE_FILL)}"
         return f"spell 0 {number} {hex_text(out[:number], 2)} {kept_text(out, number, BYTE_FILL)}"
+
+    def do_inplace(self, policy, count, pattern):
+        digits = policy_word(policy)
+        # "COUNT 0 takes `-`"
+        before = [] if (count, pattern) == (b"0", b"-") else self.fill(count, pattern, 2, BYTES_ROOM_LIMIT)
+        buffer = list(before)
+        taken = in_place_call(digits, self.table, buffer)
+        written = 0 if isinstance(taken, int) else len(taken.output)
+        kept = "kept" if buffer[written:] == before[written:] else "changed"
+        if isinstance(taken, int):
+            return f"inplace {taken} {kept}"
+        return f"inplace {taken.number} {taken.flags} {taken.read} {written} {hex_text(buffer[:written], 2)} {kept}"
 
 
 def script_lines(script):

@@ -147,6 +147,7 @@ def check_coverage(options):
         "append": (0, 10, 11, 28, 33),
         "find": (0, 10, 11, 28, 29),
         "spell": (0, 10, 11, 24, 25),
+        "inplace": (0, 3, 10, 11, 17, 26),
     }
     seen = {command: set() for command in wanted}
     shown = set()
@@ -677,6 +678,34 @@ def check_spelling(options):
             expect(converter.spell_call(table, text, [-1] * (len(spelling) - 1)) == 25 or not spelling, f"{name}, {text.hex()}: 25")
             expect(meanings.setdefault(tuple(units), spelling) == spelling, f"{name}, {text.hex()}: one meaning, two spellings")
         expect(len({tuple(spelling) for spelling in meanings.values()}) == len(meanings), f"{name}: one spelling, two meanings")
+
+
+# ---------------------------------------------------------------------------------------------------------------
+# Encoding in one buffer against the uncut reading
+# ---------------------------------------------------------------------------------------------------------------
+
+
+def check_in_place(options):
+    """Random buffers: the result, counts and flags are those of the uncut reading and of one call with ample room; what is behind the
+    result is as it was."""
+    chance = random.Random(9)
+    good = [tables for name, tables in random_scripts.random_tables(1).items() if not name.startswith("damaged")]
+    pairs = [(tables, converter.read_image(tables.image())) for tables in good]
+    for number in range(600):
+        tables, table = chance.choice(pairs)
+        digits = tuple(chance.choice((0, 1, 2, 3, 4, 5, 5)) for _ in range(3))
+        make_text = chance.choice((random_scripts.random_units, random_scripts.random_surrogates))
+        units = make_text(chance, tables, chance.randrange(12))
+        buffer = list(struct.pack(f"<{len(units)}H", *units))
+        before, out = list(buffer), [-1] * len(buffer)
+        output, flags, read_count = whole_reading(table, "E", digits, units)
+        taken = converter.in_place_call(digits, table, buffer)
+        separate = converter.convert_call("E", digits, table, units, out)
+        answer = (taken.number, taken.flags, taken.read, len(taken.output))
+        expect(answer == (3 if flags & 8 else 0, flags, read_count, len(output)), f"buffer {number}: not as the uncut reading")
+        expect(answer == (separate.number, separate.flags, separate.read, separate.written), f"buffer {number}: not as one call")
+        expect(buffer == output + before[len(output) :], f"buffer {number}: the bytes")
+        expect(out[: len(output)] == output, f"buffer {number}: not the bytes of one call")
 
 
 # ---------------------------------------------------------------------------------------------------------------
@@ -1777,6 +1806,9 @@ def check_wrong_converters(options):
     expect_found_out(wrong_converters.wrong_index_converters(), ("index",))
     expect_found_out(wrong_converters.wrong_spell_converters(), ("spell",))
     expect_found_out(wrong_converters.wrong_spell_calls()[:1], ("spell_pages",))
+    expect_found_out(wrong_converters.wrong_in_place_converters(), ("inplace",))
+    readings = ("read_unit", "HIGH_SURROGATES", "LOW_SURROGATES")
+    expect_found_out([wrong for wrong in wrong_surrogate_converters() if wrong[1] in readings], ("inplace",))
 
 
 def check_standard_is_told(options):
@@ -1846,6 +1878,7 @@ CHECKS = (
     ("receipt lines against a search of all proposals", check_breaks),
     ("the index of a journal against all its codes", check_index),
     ("the standard spelling against decoding and encoding", check_spelling),
+    ("encoding in one buffer against the uncut reading", check_in_place),
     ("wrong converters are found out", check_wrong_converters),
     ("the standard policy is told and not used", check_standard_is_told),
     ("wrong page tables are found out", check_wrong_pages),

@@ -92,6 +92,28 @@ def wrong_text_refusals():
     ))
 
 
+def after(command, change):
+    """A console that does something else after a command: change gets the console and the command's words."""
+
+    class Wrong(converter.Console):
+        def __init__(self, folders=(".",)):
+            super().__init__(folders)
+            count, right = self.commands[command]
+
+            def wrong(*words):
+                answer = right(*words)
+                change(self, words)
+                return answer
+
+            self.commands[command] = (count, wrong)
+
+    return Wrong
+
+
+def give_up_run(console, words):
+    console.run = converter.Run("E", console.table.page, (5, 5, 5), None, 0, 0, 0, False)
+
+
 # ---------------------------------------------------------------------------------------------------------------
 # The index of a journal (CR 11)
 # ---------------------------------------------------------------------------------------------------------------
@@ -448,12 +470,11 @@ def wrong_append_refusals():
 
 
 def wrong_index_consoles():
-    class ClearsTheIndex(converter.Console):
-        """A new byte text gives up the index."""
+    def fill_index(console, words):
+        console.index = [RIGHT["ENTRY_FILL"]] * len(console.index)
 
-        def do_bytes(self, text):
-            self.index = [RIGHT["ENTRY_FILL"]] * len(self.index)
-            return super().do_bytes(text)
+    def cut_text(console, words):
+        console.byte_text = console.byte_text[: int(words[1])]
 
     class KeepsTheIndex(converter.Console):
         """A new index has the former one's entries."""
@@ -464,27 +485,11 @@ def wrong_index_consoles():
             self.index[: len(before)] = before[: len(self.index)]
             return answer
 
-    class StartsAnew(converter.Console):
-        """Finding gives up the run in hand."""
-
-        def do_find(self, number, count):
-            answer = super().do_find(number, count)
-            self.run = converter.Run("D", self.table.page, (5, 5, 5), None, 0, 0, 0, False)
-            return answer
-
-    class CutsTheText(converter.Console):
-        """The journal is the text from then on."""
-
-        def do_append(self, former, count):
-            answer = super().do_append(former, count)
-            self.byte_text = self.byte_text[: int(count)]
-            return answer
-
     return (
-        ("a new text gives up the index", "Console", ClearsTheIndex),
+        ("a new text gives up the index", "Console", after(b"bytes", fill_index)),
         ("a new index has the former entries", "Console", KeepsTheIndex),
-        ("finding gives up the run in hand", "Console", StartsAnew),
-        ("appending cuts the text", "Console", CutsTheText),
+        ("finding gives up the run in hand", "Console", after(b"find", give_up_run)),
+        ("appending cuts the text", "Console", after(b"append", cut_text)),
         ("301 entries are a command", "INDEX_LIMIT", 301),
         ("300 entries are no command", "INDEX_LIMIT", 299),
         ("an entry counts up to 32 bits", "ENTRY_LIMIT", 2**32 - 1),
@@ -743,18 +748,10 @@ def wrong_spell_consoles():
                 self.byte_text = RIGHT["hex_word"](words[3].encode("ascii"), 2)
             return " ".join(words)
 
-    class StartsAnew(converter.Console):
-        """Spelling gives up the run in hand."""
-
-        def do_spell(self, *words):
-            answer = super().do_spell(*words)
-            self.run = converter.Run("D", self.table.page, (5, 5, 5), None, 0, 0, 0, False)
-            return answer
-
     return (
         ("the place is counted from the whole text's beginning", "Console", CountsFromTheWhole),
         ("the spelling becomes the text", "Console", TakesTheSpelling),
-        ("spelling gives up the run in hand", "Console", StartsAnew),
+        ("spelling gives up the run in hand", "Console", after(b"spell", give_up_run)),
         ("140,001 bytes of room are a command", "BYTES_ROOM_LIMIT", 140001),
         ("140,000 bytes of room are no command", "BYTES_ROOM_LIMIT", 139999),
     )
@@ -766,4 +763,217 @@ def wrong_spell_converters():
         *wrong_own_codes(), *wrong_spelled(), *wrong_spell_calls(), *wrong_spell_consoles(),
         ("every code is one byte", "codes_from", read_as(lambda code, table, first, second: 1)), *wrong_text_refusals()[:-1],
         *wrong_numbers(),
+    )
+
+
+# ---------------------------------------------------------------------------------------------------------------
+# Encoding in one buffer (CR 9)
+# ---------------------------------------------------------------------------------------------------------------
+
+
+def wrong_in_place_calls():
+    in_place_call = RIGHT["in_place_call"]
+
+    def with_buffer(change):
+        """The bytes of the buffer are read otherwise."""
+
+        def wrong(digits, table, buffer):
+            other = change(list(buffer))
+            taken = in_place_call(digits, table, other)
+            if not isinstance(taken, int):
+                buffer[: len(taken.output)] = taken.output[: len(buffer)]
+            return taken
+
+        return wrong
+
+    def high_first(buffer):
+        return [byte for low, high in zip(buffer[0::2], buffer[1::2]) for byte in (high, low)] + buffer[len(buffer) // 2 * 2 :]
+
+    def answered(change):
+        """Where it is accepted, something else is answered, or done to the buffer: change gets what was taken, the buffer before and after."""
+
+        def wrong(digits, table, buffer):
+            before = list(buffer)
+            taken = in_place_call(digits, table, buffer)
+            return taken if isinstance(taken, int) else change(taken, before, buffer) or taken
+
+        return wrong
+
+    def behind(size_of, value):
+        """Bytes beyond the result are set."""
+
+        def change(taken, before, buffer):
+            first = len(taken.output)
+            size = len(buffer[first : first + size_of(taken, buffer)])
+            buffer[first : first + size] = [value] * size
+
+        return answered(change)
+
+    def stop_leaves_all(taken, before, buffer):
+        if taken.number == 3:
+            buffer[:] = before
+
+    def stop_writes_nothing(taken, before, buffer):
+        if taken.number == 3:
+            buffer[:] = before
+            return converter.replace(taken, output=[])
+        return None
+
+    def stop_reads(change):
+        return answered(lambda taken, before, buffer: converter.replace(taken, read=change(taken, before)) if taken.number == 3 else None)
+
+    def stop_flags(change):
+        return answered(lambda taken, before, buffer: converter.replace(taken, flags=change(taken.flags)) if taken.number == 3 else None)
+
+    def end_at_back(taken, before, buffer):
+        """The result stands at the buffer's end."""
+        size = len(taken.output)
+        buffer[:] = before[: len(before) - size] + taken.output
+
+    def as_words(taken, before, buffer):
+        """Each byte of the result has two bytes of the buffer."""
+        words = [byte for code in taken.output for byte in (code, 0)]
+        buffer[: len(words)] = words[: len(buffer)]
+
+    def with_room(room_of):
+        """The room ends: what fits is taken, with the answer 2."""
+
+        def wrong(digits, table, buffer):
+            taken = in_place_call(digits, table, list(buffer))
+            if isinstance(taken, int):
+                return taken
+            units = [low + 256 * high for low, high in zip(buffer[0::2], buffer[1::2])]
+            taken = RIGHT["take_codes"]("E", table, digits, None, units, True, room_of(len(buffer)))
+            buffer[: len(taken.output)] = taken.output
+            return taken
+
+        return wrong
+
+    def each_alone(digits, table, buffer):
+        """The unit behind is not looked at: each unit is a text of its own."""
+        taken = in_place_call(digits, table, list(buffer))
+        if isinstance(taken, int):
+            return taken
+        whole = RIGHT["Taken"](0, 0, [], 0, None)
+        for place in range(0, len(buffer), 2):
+            part = in_place_call(digits, table, buffer[place : place + 2])
+            whole = RIGHT["Taken"](part.number, whole.read + 1, whole.output + part.output, whole.flags | part.flags, None)
+            if part.number == 3:
+                break
+        buffer[: len(whole.output)] = whole.output
+        return whole
+
+    def result_first(digits, table, buffer):
+        """A unit that is looked at ahead has what the code in front of it has written over it: two bytes a code."""
+        taken = in_place_call(digits, table, list(buffer))
+        if isinstance(taken, int):
+            return taken
+        place, whole = 0, RIGHT["Taken"](0, 0, [], 0, None)
+        while 2 * place < len(buffer):
+            rest = buffer[2 * place :]
+            if whole.output and len(whole.output) == 2 * place:
+                rest[0] = whole.output[-1]
+            units = [low + 256 * high for low, high in zip(rest[0::2], rest[1::2])]
+            code = RIGHT["read_unit"](table, units[0], units[1] if len(units) > 1 else None)
+            part = RIGHT["take_codes"]("E", table, digits, None, units[: code.size], True, 2)
+            whole = RIGHT["Taken"](part.number, place + code.size, whole.output + part.output, whole.flags | part.flags, None)
+            place += code.size
+            if part.number == 3:
+                break
+        buffer[: len(whole.output)] = whole.output
+        return whole
+
+    def refusal_touches(digits, table, buffer):
+        taken = in_place_call(digits, table, buffer)
+        if isinstance(taken, int) and buffer:
+            buffer[0] ^= 1
+        return taken
+
+    return named("in_place_call", (
+        ("the high byte is first", with_buffer(high_first)),
+        ("the buffer is read from its second byte", with_buffer(lambda buffer: buffer[1:] + buffer[:1])),
+        ("only the low bytes are read", with_buffer(lambda buffer: [0 if place % 2 else byte for place, byte in enumerate(buffer)])),
+        ("the last unit is not read", with_buffer(lambda buffer: buffer[:-2] if len(buffer) % 2 == 0 and len(buffer) < 131073 else buffer)),
+        ("a zero unit ends the text", with_buffer(lambda buffer: buffer[: next(
+            (place for place in range(0, len(buffer) - 1, 2) if buffer[place] == buffer[place + 1] == 0), len(buffer))])),
+        ("an odd byte is left alone", with_buffer(lambda buffer: buffer[: len(buffer) // 2 * 2])),
+        ("all behind the result is cleared", behind(lambda taken, buffer: len(buffer), 0)),
+        ("a zero ends the result", behind(lambda taken, buffer: 1, 0)),
+        ("a code of one byte is written with its high half", behind(lambda taken, buffer: 1 if taken.output else 0, 0)),
+        ("what was read is cleared", behind(lambda taken, buffer: 2 * taken.read - len(taken.output), 0)),
+        ("what is behind the result is filled with blanks", behind(lambda taken, buffer: len(buffer), 0x20)),
+        ("a stop leaves the buffer as it was", answered(stop_leaves_all)),
+        ("a stop writes nothing", answered(stop_writes_nothing)),
+        ("a stop does not read its code", stop_reads(lambda taken, before: taken.read - 1)),
+        ("a stop reads all", stop_reads(lambda taken, before: len(before) // 2)),
+        ("a stop does not set flag 8", stop_flags(lambda flags: flags - 8)),
+        ("a stop does not set its code's flag", stop_flags(lambda flags: 8)),
+        ("what was read is counted in bytes", answered(lambda taken, before, buffer: converter.replace(taken, read=2 * taken.read))),
+        ("the result stands at the end", answered(end_at_back)),
+        ("each byte of the result has two bytes", answered(as_words)),
+        ("room for one byte a unit", with_room(lambda size: size // 2)),
+        ("room for one byte less than the buffer", with_room(lambda size: max(size - 1, 0))),
+        ("the unit behind is not looked at", each_alone),
+        ("a unit is read after it was written over", result_first),
+        ("a refusal touches the buffer", refusal_touches),
+    ))
+
+
+def wrong_in_place_refusals():
+    in_place_refusal = RIGHT["in_place_refusal"]
+
+    def first_if(number, later, holds):
+        """A refusal is given ahead of others."""
+
+        def wrong(digits, table, buffer):
+            right = in_place_refusal(digits, table, buffer)
+            return number if right in later and holds(table, buffer) else right
+
+        return wrong
+
+    def odd(table, buffer):
+        return len(buffer) % 2 == 1
+
+    def too_long(table, buffer):
+        return len(buffer) // 2 > 65536
+
+    def bad(table, buffer):
+        return not RIGHT["shape_is_good"](table)
+
+    def never(number):
+        return lambda digits, table, buffer: None if in_place_refusal(digits, table, buffer) == number else in_place_refusal(digits, table, buffer)
+
+    return named("in_place_refusal", (
+        ("10 before 17", first_if(10, (17,), bad)),
+        ("26 before 17", first_if(26, (17,), odd)),
+        ("11 before 17", first_if(11, (17,), too_long)),
+        ("26 before 10", first_if(26, (10,), odd)),
+        ("11 before 10", first_if(11, (10,), too_long)),
+        ("11 before 26", first_if(11, (26,), lambda table, buffer: len(buffer) > 131072)),
+        ("11 before 26, by whole units", first_if(11, (26,), lambda table, buffer: too_long(table, buffer) or len(buffer) == 131075)),
+        ("11 by bytes", first_if(11, (None,), lambda table, buffer: len(buffer) > 65536)),
+        ("11 at 65,536 units", first_if(11, (None,), lambda table, buffer: len(buffer) == 131072)),
+        ("no buffer is too long", never(11)),
+        ("26 for an empty buffer", first_if(26, (None,), lambda table, buffer: not buffer)),
+        ("an empty buffer asks nothing", lambda digits, table, buffer: in_place_refusal(digits, table, buffer) if buffer else None),
+        ("17 by the rule of decoding", lambda digits, table, buffer: in_place_refusal((5 if digits[0] == 6 else digits[0], *digits[1:]),
+                                                                                     table, buffer)),
+        ("17 by the first digit only", lambda digits, table, buffer: in_place_refusal((digits[0], 5, 5), table, buffer)),
+        ("17 not by the second digit", lambda digits, table, buffer: in_place_refusal((digits[0], 5, digits[2]), table, buffer)),
+        ("page 0 is good", lambda digits, table, buffer: in_place_refusal(digits, converter.replace(table, page=table.page or 1), buffer)),
+        ("classes and pairs are not asked for", lambda digits, table, buffer: in_place_refusal(
+            digits, converter.replace(table, classes=[0] * 256, pairs=[]), buffer)),
+    ))
+
+
+def wrong_in_place_converters():
+    """Encoding in one buffer (document 02, CR 9)."""
+
+    def give_up_units(console, words):
+        console.unit_text = []
+
+    return (
+        *wrong_in_place_calls(), *wrong_in_place_refusals(), ("the unit text is given up", "Console", after(b"inplace", give_up_units)),
+        ("the run in hand is given up", "Console", after(b"inplace", give_up_run)), ("140,001 bytes are a command", "BYTES_ROOM_LIMIT", 140001),
+        ("140,000 bytes are no command", "BYTES_ROOM_LIMIT", 139999), *wrong_numbers(),
     )
