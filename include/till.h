@@ -118,6 +118,14 @@ typedef struct {
     uint8_t number; /* 0, or that of the refusal */
 } till_spelled;
 
+/* What encoding inside one buffer answers. */
+typedef struct {
+    size_t read;    /* units */
+    size_t written; /* bytes at the buffer's front */
+    uint8_t number; /* 0, 3, or that of the refusal */
+    uint8_t flags;
+} till_in_place;
+
 /* The parameters of a table set: page, default byte, default unit, and the five tables. */
 #define TILL_TABLES \
     uint16_t page, uint8_t default_byte, uint16_t default_unit, const uint8_t *classes, size_t classes_len, const uint16_t *singles, \
@@ -191,6 +199,11 @@ till_found till_find_code(TILL_TABLES, const uint8_t *journal, size_t journal_le
  * with the place of the first code at fault (it has no character, or one whose own code does not read back as it), 25 the spelling has over
  * 65,536 bytes or does not fit; then out is as it was. */
 till_spelled till_spell(TILL_TABLES, const uint8_t *text, size_t text_len, uint8_t *out, size_t out_len);
+
+/* Encodes the units that a buffer holds, two bytes each, low byte first, at most 65,536 of them. The result stands at the buffer's front;
+ * the bytes behind it are as they were. Archive libcapi_products.a. 0 all read, 3 stopped with the result so far at the front; 17, 10, 26 the
+ * number of bytes is odd, 11; then the buffer is as it was. */
+till_in_place till_encode_in_place(uint8_t single, uint8_t pair, uint8_t invalid, TILL_TABLES, uint8_t *buffer, size_t buffer_len);
 
 #ifdef __cplusplus
 }

@@ -1,3 +1,4 @@
+pub mod BufferLaws
 pub mod IndexLaws
 pub mod LineLaws
 pub mod SpellingLaws

@@ -1,3 +1,4 @@
+pub mod Buffer
 pub mod Index
 pub mod Lines
 pub mod Spelling

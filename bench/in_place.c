@@ -1,0 +1,67 @@
+/* Encoding inside the one buffer that holds the units beside encoding from a separate buffer by the call on a whole text.
+ * Use: in_place TEXTS TABLES PASSES. */
+#include "common.h"
+
+enum way { SEPARATE, IN_PLACE, WAYS };
+
+static const struct {
+    const char *name;
+    int page;
+} texts[] = {{"ascii", 0}, {"japanese", 0}, {"journal", 0}, {"latin", 1}, {"emoji", 0}};
+static const size_t sizes[] = {512, 8192, 65536}; /* bytes of a buffer */
+static uint16_t units[32768];
+static uint8_t out[65537], buffer[65536];
+
+/* One pass over a text, a buffer of `size` bytes a call: the bytes written. Each way is given its units anew, by a copy. */
+static size_t pass(enum way way, const table_set *t, const uint8_t *text, size_t all, size_t size)
+{
+    size_t sum = 0;
+    for (size_t at = 0; at + size <= all; at += size) {
+        if (way == SEPARATE) {
+            memcpy(units, text + at, size);
+            sum += till_encode_text(TILL_REPLACING, TABLES(t), units, size / 2, out, size + 1).written;
+        } else {
+            memcpy(buffer, text + at, size);
+            sum += till_encode_in_place(TILL_REPLACING, TABLES(t), buffer, size).written;
+        }
+    }
+    return sum;
+}
+
+int main(int argc, char **argv)
+{
+    int under = 0;
+    char path[4096];
+    table_set pages[2];
+    static const char *const names[2] = {"cp932.tbl", "cp1252.tbl"};
+    if (argc != 4)
+        die("use: in_place TEXTS TABLES PASSES");
+    for (int i = 0; i < 2; i++) {
+        snprintf(path, sizeof path, "%s/%s", argv[2], names[i]);
+        pages[i] = read_image(path);
+    }
+    printf("| Text | Buffer | separate | in place |\n|---|---|---|---|\n");
+    for (size_t k = 0; k < sizeof texts / sizeof *texts; k++)
+        for (size_t b = 0; b < sizeof sizes / sizeof *sizes; b++) {
+            size_t all, sums[WAYS] = {0};
+            double best[WAYS] = {1e9, 1e9};
+            snprintf(path, sizeof path, "%s/%s.units", argv[1], texts[k].name);
+            uint8_t *text = read_file(path, &all);
+            for (int turn = 0; turn < atoi(argv[3]); turn++)
+                for (enum way way = SEPARATE; way < WAYS; way++) {
+                    double from = now();
+                    sums[way] = pass(way, &pages[texts[k].page], text, all, sizes[b]);
+                    double took = now() - from;
+                    if (took < best[way])
+                        best[way] = took;
+                }
+            free(text);
+            if (sums[SEPARATE] != sums[IN_PLACE])
+                die("another number of bytes was written");
+            double ratio = best[SEPARATE] / best[IN_PLACE];
+            printf("| %s | %d | %.0f | %.0f (%.2f%s) |\n", texts[k].name, (int)sizes[b], all / best[SEPARATE] / 1e6, all / best[IN_PLACE] / 1e6, ratio, ratio < 0.5 ? " !" : "");
+            under += ratio < 0.5;
+        }
+    printf("\n%d ratios below their bound.\n", under);
+    return 0;
+}
