@@ -18,6 +18,7 @@ use Rattle.codepage.proofs.ReadingLaws.{pair-joins}
 use Rattle.codepage_lookup.proofs.LeadLaws.{lead-high}
 use Rattle.convert.specs.Runs.{pieceLimit}
 use Rattle.codepage_walk.proofs.WalkLaws.{at-one, at-two}
+use Rattle.engine_fastpath.specs.Runs.{EachBelow}
 use Rattle.spelling.specs.Spelling.{isCharacter, isOneCode, readsBack, unitSpelling, codeSpelling}
 use Rattle.spelling.specs.Steps.{Passed, PassedSame, Begun, SameSingle, SamePair, SameSize}
 use Rattle.spelling.proofs.SpellLaws.{one-byte, two-bytes, read-two, back-single, own-back}
@@ -135,6 +136,28 @@ module _ (r : Reader) (index blocks text : List ℕ) where
     where
       none-less : (n : ℕ) → n - 0 ≡ n
       none-less n = omega arith
+
+-- ---- a text below 80, on a page that keeps such text as it is both ways
+module _ (classes singles pairs index blocks text : List ℕ) (below : EachBelow 0x80 text)
+    (bytes : (byte : ℕ) → byte < 0x80 → (isLead (entryAt classes byte) ≡ false) × (byteAlone classes singles byte ≡ Found byte))
+    (units : (unit : ℕ) → unit < 0x80 → unitAlone index blocks unit ≡ Found unit) where
+  plain-byte-same : (place : ℕ) → place < length text → SameSingle classes singles index blocks (entryAt text place)
+  plain-byte-same place h =
+      let low = below place h in
+      record { single = bytes (entryAt text place) low .0; unit = entryAt text place; character = bytes (entryAt text place) low .1; own = units (entryAt text place) low }
+
+  plain-front : (n : ℕ) → n ≤ length text → PassedSame (decoder classes singles pairs) index blocks text 0 n
+  plain-front zero h = same-start (decoder classes singles pairs) index blocks text 0 (omega arith)
+  plain-front (suc n) h =
+      let one : n + 1 ≡ suc n = add-one n in
+      let low = below n (omega arith) in
+      subst (λ (to : ℕ). PassedSame (decoder classes singles pairs) index blocks text 0 to) one
+      (same-more (decoder classes singles pairs) index blocks text 0 n 1 (plain-front n (omega arith)) (omega arith)
+      (single-passed classes singles pairs index blocks text n (omega arith) (omega arith) (plain-byte-same n (omega arith))))
+
+  -- it is its own spelling
+  pub plain-passed : PassedSame (decoder classes singles pairs) index blocks text 0 (length text)
+  plain-passed = plain-front (length text) (omega arith)
 
 -- one code more that two bytes were looked at for
 pub same-turn : (classes singles pairs index blocks text : List ℕ) (from place size : ℕ) → PassedSame (decoder classes singles pairs) index blocks text from place → NoLowLead classes → place + 1 < length text

@@ -21,8 +21,10 @@ ghost use Rattle.spelling.specs.Calls.{spellingNumber, spellingOf, Spell
 ghost use Rattle.spelling.specs.Steps.{BytesTables, UnitsTables, orNone, SpelledRead, countedOf, SameSize, PassedSame, Begun};
 use codepage::Lookup;
 use codepage::Numbers;
+use codepage_lookup::profile;
 use codepage_lookup::profile::Leads;
 use convert::Run;
+use engine_fastpath::plain;
 
 // Why a call is refused.
 pub enum Refusal {
@@ -261,6 +263,47 @@ fn pass_same(
     place
 }
 
+// Whether a text is below 80 throughout, on a page that keeps such text as it is both ways: then it is its own spelling.
+fn is_plain(
+    classes: &[u8],
+    singles: &[u16],
+    pairs: &[u16],
+    index: &[u8],
+    blocks: &[u16],
+    leads: Leads,
+    text: &[u8],
+) -> bool
+    requires { ⌜ BytesTables (now classes) (now singles) (now pairs) leads × UnitsTables (now index) (now blocks) ⌝ }
+    ensures { λ r. ⌜ (r ≡ true → PassedSame (decoder (now (classes .entry)) (now (singles .entry)) (now (pairs .entry))) (now (index .entry)) (now (blocks .entry)) (now (text .entry)) 0 (length (now (text .entry)))) ⌝ }
+{
+    if !plain::bytes_below_80(text) {
+        return false;
+    }
+    if !profile::plain_bytes(classes, singles) {
+        return false;
+    }
+    profile::plain_units(index, blocks)
+}
+
+// How much of a text's front is spelled as it stands.
+fn same_front(
+    classes: &[u8],
+    singles: &[u16],
+    pairs: &[u16],
+    index: &[u8],
+    blocks: &[u16],
+    leads: Leads,
+    text: &[u8],
+) -> usize
+    requires { ⌜ BytesTables (now classes) (now singles) (now pairs) leads × UnitsTables (now index) (now blocks) ⌝ }
+    ensures { λ r. ⌜ PassedSame (decoder (now (classes .entry)) (now (singles .entry)) (now (pairs .entry))) (now (index .entry)) (now (blocks .entry)) (now (text .entry)) 0 r ⌝ }
+{
+    if is_plain(classes, singles, pairs, index, blocks, leads, text) {
+        return text.len();
+    }
+    pass_same(classes, singles, pairs, index, blocks, leads, text, 0)
+}
+
 // Checks every code, up to the first at fault, and counts the bytes of the spelling. Up to `from` it is the text as it stands.
 fn count_spelling(
     classes: &[u8],
@@ -395,8 +438,8 @@ pub fn standard_spelling(
     if Run::PIECE_LIMIT < text.len() {
         return Spelled::Refused(Refusal::TooLong);
     }
-    let leads = codepage_lookup::profile::leads_of(classes);
-    let same = pass_same(classes, singles, pairs, index, blocks, leads, text, 0);
+    let leads = profile::leads_of(classes);
+    let same = same_front(classes, singles, pairs, index, blocks, leads, text);
     let counted = count_spelling(classes, singles, pairs, index, blocks, leads, text, same);
     let Spelled::Bytes(bytes) = counted else {
         return counted;

@@ -25,19 +25,19 @@ leads-of-requires c κs =
     let good = sym (at-if1 .before .good-shape .ensures) ∙ not-false _ (at-if1 .if1 .left) in
     leads-need _ good
 
-pass-same-requires : tie.Need-pass-same-requires
-pass-same-requires c κs =
+same-front-requires : tie.Need-same-front-requires
+same-front-requires c κs =
     let at-if2 = c .before in
     let at-if1 = at-if2 .before in
     let good = sym (at-if1 .before .good-shape .ensures) ∙ not-false _ (at-if1 .if1 .left) in
-    (bytes-tables _ good _ (c .leads-of .ensures), units-tables _ good, omega arith)
+    (bytes-tables _ good _ (c .leads-of .ensures), units-tables _ good)
 
 count-spelling-requires : tie.Need-count-spelling-requires
 count-spelling-requires c κs =
     let at-if2 = c .before .before in
     let at-if1 = at-if2 .before in
     let good = sym (at-if1 .before .good-shape .ensures) ∙ not-false _ (at-if1 .if1 .left) in
-    ((bytes-tables _ good _ (c .before .leads-of .ensures), units-tables _ good, at-if2 .if2 .left), c .pass-same .ensures)
+    ((bytes-tables _ good _ (c .before .leads-of .ensures), units-tables _ good, at-if2 .if2 .left), c .same-front .ensures)
 
 enum-known-counted : tie.Need-enum-known-counted
 enum-known-counted c = search needs
@@ -74,7 +74,7 @@ write-spelling-requires c κs =
     let at-if1 = at-if2 .before in
     let good = sym (at-if1 .before .good-shape .ensures) ∙ not-false _ (at-if1 .if1 .left) in
     let (clear, size) = counted-bytes _ good _ _ (c .before .before .before .before .before .before .count-spelling .ensures) _ (c .before .before .before .before .counted .given .1) in
-    ((bytes-tables _ good _ (c .before .before .before .before .before .before .before .before .leads-of .ensures), units-tables _ good), ((c .before .before .before .before .before .before .before .pass-same .ensures, at-if2 .if2 .left), (clear, omega (arith, size, c .before .if4 .left))))
+    ((bytes-tables _ good _ (c .before .before .before .before .before .before .before .before .leads-of .ensures), units-tables _ good), ((c .before .before .before .before .before .before .before .same-front .ensures, at-if2 .if2 .left), (clear, omega (arith, size, c .before .if4 .left))))
 
 same-length : tie.Need-same-length
 same-length c = search needs
@@ -95,7 +95,7 @@ standard-spelling-spec =
     returns
     returns-2
     leads-of-requires
-    pass-same-requires
+    same-front-requires
     count-spelling-requires
     enum-known-counted
     enum-told
