@@ -112,7 +112,7 @@ fn encode_in_place(
 ) -> Next {
     let digits = words::policy_at(line, from);
     let size = words::number_at(line, digits.next, words::BYTES_ROOM);
-    let hex = words::hex_bytes_at(line, size.next);
+    let hex = words::bytes_at(line, size.next);
     if !words::at_end(line, hex.next) {
         return state.answered(console_print::put_refusal(out, at));
     }

@@ -431,8 +431,8 @@ fn hex_at(line: &[u8], at: usize) -> Part
     }
 }
 
-// Bytes in hex, as many as the line has.
-pub fn hex_bytes_at(line: &[u8], at: usize) -> Part
+// Bytes in hex, at most 66,000.
+pub fn bytes_at(line: &[u8], at: usize) -> Part
     ensures { λ r. ⌜ (r .from ≤ r .to) × (r .to ≤ length (now (line .entry))) ⌝ }
 {
     let digits = hex_at(line, at);
@@ -444,15 +444,6 @@ pub fn hex_bytes_at(line: &[u8], at: usize) -> Part
             next: nowhere(line),
         };
     }
-    digits
-}
-
-// Bytes in hex, at most 66,000.
-pub fn bytes_at(line: &[u8], at: usize) -> Part
-    ensures { λ r. ⌜ (r .from ≤ r .to) × (r .to ≤ length (now (line .entry))) ⌝ }
-{
-    let digits = hex_bytes_at(line, at);
-    let size = digits.to - digits.from;
     if 2 * TEXT_LIMIT < size {
         return Part {
             from: 0,
