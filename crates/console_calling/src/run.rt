@@ -1,10 +1,12 @@
 // The commands on the run in hand, and the shape report.
 use crate::answers;
+use codepage::Numbers;
 use console_script::state::Next;
 use console_script::state::State;
 use console_script::texts;
 use console_script::words;
 use convert::Outcome;
+use convert::Run;
 
 // `shape`.
 pub fn shape(
@@ -30,10 +32,25 @@ pub fn shape(
     }
 }
 
+// The name of a run call: of the form that updates a record where it stands (CR 13), or of the other.
+fn put_name(here: bool, named_here: &[u8], named: &[u8], out: &mut [u8], at: usize) -> usize {
+    if here {
+        return console_print::put(named_here, out, at);
+    }
+    console_print::put(named, out, at)
+}
+
 // Answers `decode FROM COUNT more ROOM`; the new run is in hand.
-fn answer_decode(outcome: Outcome, room: &[u16], state: State, out: &mut [u8], at: usize) -> Next {
+fn answer_decode(
+    here: bool,
+    outcome: Outcome,
+    room: &[u16],
+    state: State,
+    out: &mut [u8],
+    at: usize,
+) -> Next {
     let run = outcome.run;
-    let end = console_print::put(b"decode", out, at);
+    let end = put_name(here, b"decodehere", b"decode", out, at);
     let end = answers::put_outcome(outcome, out, end);
     let end = answers::put_units(room, outcome.written, out, end);
     Next {
@@ -43,9 +60,16 @@ fn answer_decode(outcome: Outcome, room: &[u16], state: State, out: &mut [u8], a
 }
 
 // Answers `encode FROM COUNT more ROOM`; the new run is in hand.
-fn answer_encode(outcome: Outcome, room: &[u8], state: State, out: &mut [u8], at: usize) -> Next {
+fn answer_encode(
+    here: bool,
+    outcome: Outcome,
+    room: &[u8],
+    state: State,
+    out: &mut [u8],
+    at: usize,
+) -> Next {
     let run = outcome.run;
-    let end = console_print::put(b"encode", out, at);
+    let end = put_name(here, b"encodehere", b"encode", out, at);
     let end = answers::put_outcome(outcome, out, end);
     let end = answers::put_bytes(room, outcome.written, out, end);
     Next {
@@ -54,8 +78,51 @@ fn answer_encode(outcome: Outcome, room: &[u8], state: State, out: &mut [u8], at
     }
 }
 
+// Calls decoding by one of the two forms.
+fn decode_by(
+    here: bool,
+    run: Run,
+    numbers: Numbers,
+    classes: &[u8],
+    singles: &[u16],
+    pairs: &[u16],
+    index: &[u8],
+    blocks: &[u16],
+    piece: &[u8],
+    last: bool,
+    room: &mut [u16],
+) -> Outcome {
+    if here {
+        return runrecord::decode_through(
+            run,
+            numbers,
+            classes,
+            singles,
+            pairs,
+            index,
+            blocks,
+            piece,
+            last,
+            room,
+        );
+    }
+    convert::decode(
+        run,
+        numbers,
+        classes,
+        singles,
+        pairs,
+        index,
+        blocks,
+        piece,
+        last,
+        room,
+    )
+}
+
 // Calls decoding on a piece with the run in hand, with room that is filled before.
 fn decode_piece(
+    here: bool,
     state: State,
     classes: &[u8],
     singles: &[u16],
@@ -71,7 +138,8 @@ fn decode_piece(
     let run = state.run;
     let numbers = state.numbers;
     texts::fill_units(room);
-    let outcome = convert::decode(
+    let outcome = decode_by(
+        here,
         run,
         numbers,
         classes,
@@ -83,11 +151,54 @@ fn decode_piece(
         last,
         room,
     );
-    answer_decode(outcome, room, state, out, at)
+    answer_decode(here, outcome, room, state, out, at)
+}
+
+// Calls encoding by one of the two forms.
+fn encode_by(
+    here: bool,
+    run: Run,
+    numbers: Numbers,
+    classes: &[u8],
+    singles: &[u16],
+    pairs: &[u16],
+    index: &[u8],
+    blocks: &[u16],
+    piece: &[u16],
+    last: bool,
+    room: &mut [u8],
+) -> Outcome {
+    if here {
+        return runrecord::encode_through(
+            run,
+            numbers,
+            classes,
+            singles,
+            pairs,
+            index,
+            blocks,
+            piece,
+            last,
+            room,
+        );
+    }
+    convert::encode(
+        run,
+        numbers,
+        classes,
+        singles,
+        pairs,
+        index,
+        blocks,
+        piece,
+        last,
+        room,
+    )
 }
 
 // Calls encoding on a piece with the run in hand, with room that is filled before.
 fn encode_piece(
+    here: bool,
     state: State,
     classes: &[u8],
     singles: &[u16],
@@ -103,7 +214,8 @@ fn encode_piece(
     let run = state.run;
     let numbers = state.numbers;
     texts::fill_bytes(room);
-    let outcome = convert::encode(
+    let outcome = encode_by(
+        here,
         run,
         numbers,
         classes,
@@ -115,13 +227,14 @@ fn encode_piece(
         last,
         room,
     );
-    answer_encode(outcome, room, state, out, at)
+    answer_encode(here, outcome, room, state, out, at)
 }
 
-// `decode FROM COUNT more ROOM`.
+// `decode FROM COUNT more ROOM`, or `decodehere`.
 pub fn decode(
     line: &[u8],
     from: usize,
+    here: bool,
     state: State,
     classes: &[u8],
     singles: &[u16],
@@ -143,6 +256,7 @@ pub fn decode(
     let end = piece.to;
     let room = texts::front_units(size.value as usize, lent);
     decode_piece(
+        here,
         state,
         classes,
         singles,
@@ -157,10 +271,11 @@ pub fn decode(
     )
 }
 
-// `encode FROM COUNT more ROOM`.
+// `encode FROM COUNT more ROOM`, or `encodehere`.
 pub fn encode(
     line: &[u8],
     from: usize,
+    here: bool,
     state: State,
     classes: &[u8],
     singles: &[u16],
@@ -182,6 +297,7 @@ pub fn encode(
     let end = piece.to;
     let room = texts::front_bytes(size.value as usize, lent);
     encode_piece(
+        here,
         state,
         classes,
         singles,

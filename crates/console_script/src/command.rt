@@ -16,6 +16,8 @@ pub enum Command {
     Run,
     Decode,
     Encode,
+    DecodeHere,
+    EncodeHere,
     Save,
     Load,
     Convert,
@@ -36,6 +38,17 @@ pub enum Command {
     Unknown,
 }
 
+// The command that a word names, among the run calls on a record that is updated where it stands.
+fn named_here(word: &[u8]) -> Command {
+    if words::is_word(word, b"decodehere") {
+        return Command::DecodeHere;
+    }
+    if words::is_word(word, b"encodehere") {
+        return Command::EncodeHere;
+    }
+    Command::Unknown
+}
+
 // The command that a word names, if it spells the byte text or encodes inside one buffer.
 fn named_coding(word: &[u8]) -> Command {
     if words::is_word(word, b"spell") {
@@ -44,7 +57,7 @@ fn named_coding(word: &[u8]) -> Command {
     if words::is_word(word, b"inplace") {
         return Command::InPlace;
     }
-    Command::Unknown
+    named_here(word)
 }
 
 // The command that a word names, among those on the index of the byte text.
