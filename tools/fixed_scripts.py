@@ -471,6 +471,9 @@ def initial_script():
     script.expect("encode 0 0 more 0", "encode 10 0 0 - kept D 0 0 0 0 - 0 0 0 on")
     script.expect("decode 0 1 last 3", "?")
     script.expect("encode 0 1 last 3", "?")
+    script.expect("decodehere 0 0 last 3", "decodehere 10 0 0 - kept D 0 0 0 0 - 0 0 0 on")
+    script.expect("encodehere 0 0 more 0", "encodehere 10 0 0 - kept D 0 0 0 0 - 0 0 0 on")
+    script.expect("decodehere 0 1 last 3", "?")
     script.expect("convert D 555 0 0 0", "convert 10 kept")
     script.expect("convert D 755 0 0 0", "convert 17 kept")
     script.expect("convert E 555 0 0 5", "convert 10 kept")
@@ -668,10 +671,16 @@ def grammar_script():
         "index", "index 301", "index 03", "index 3 3", "entry 0 0", "entry 300 0 0", "append 0", "append 0 3", "append 00 2", "append -1 2",
         "find 0", "find 0 3", "find 00 2", "find 18446744073709551616 2",
         # spell
-        "spell", "spell 0 2", "spell 0 3 5", "spell 2 1 5", "spell 0 2 140001", "spell 0 2 05", "spell 00 2 5", "spell 0 2 5 5", "spell D 0 2 5",
+        "spell", "spell 0 2", "spell 0 3 5", "spell 2 1 5", "spell 0 2 140001", "spell 0 2 05", "spell 00 2 5", "spell 0 2 5 5",
+        "spell D 0 2 5",
         # inplace
-        "inplace", "inplace 555 2", "inplace 55 2 4100", "inplace 555 02 4100", "inplace 555 140001 41", "inplace 555 2 -", "inplace 555 2 4",
+        "inplace", "inplace 555 2", "inplace 55 2 4100", "inplace 555 02 4100", "inplace 555 140001 41", "inplace 555 2 -",
+        "inplace 555 2 4",
         "inplace 555 2 4100 5", "inplace E 555 2 4100",
+        # decodehere and encodehere
+        "decodehere", "decodehere 0 3 last 5", "decodehere 0 1 last 66001", "decodehere 0 1 5", "decodehere 0 1 last 5 5",
+        "decode here 0 1 last 5",
+        "encodehere 0 3 last 5", "encodehere 0 1 last 140001", "encodehere 0 1 more", "here 0 1 last 5",
         # nothing else is a command
         "quit", "help", "decodes 0 1 last 5", "tables sample.tbl", "policy 555", "shape\tgood",
     )

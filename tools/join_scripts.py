@@ -20,8 +20,9 @@ IMAGES = (os.path.join(SCRIPTS, "data"), os.path.join(ROOT, "tables"))
 # `initial`, on the console before anything is set, comes first.
 ORDER = (
     "initial", "rows", "calls", "bad_halves", "surrogates", "one_call", "standard", "policies", "shapes", "refusals", "lines",
-    "edges", "grammar", "images", "fields", "field_cuttings", "breaks", "index", "spell", "inplace", "lists_sample", "lists_small", "lists_damaged",
-    "lists_halves", "lists_surrogates", "lists_long", "runs", "lists_fields", "lists_index", "lists_inplace", "cp437", "cp850", "cp874", "cp1252", "cp932", "cp936",
+    "edges", "grammar", "images", "fields", "field_cuttings", "breaks", "index", "spell", "inplace", "here",
+    "lists_sample", "lists_small", "lists_damaged", "lists_halves", "lists_surrogates", "lists_long", "runs", "lists_fields",
+    "lists_index", "lists_inplace", "lists_here", "cp437", "cp850", "cp874", "cp1252", "cp932", "cp936",
     "cp949", "cp950", "undefined_units", "spell_pages",
 )
 

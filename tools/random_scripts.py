@@ -12,6 +12,7 @@ Kinds of script:
     lists_fields     texts cut into fields: blocks cut anywhere, fields about the limit, buffers and states of all sizes
     lists_index      journals that grow, their index gone on with, and codes found by it, also by wrong entries
     lists_inplace    units encoded in their own buffer, with surrogates in pairs and alone, some buffers of an odd size
+    lists_here       lists of calls of both forms on all tables: by value, and on the record where it stands
 
 The generator plays each command on second_converter.py as it goes, only to know where the run stands, so that the next
 piece begins there; the answers stored are those of that play.
@@ -323,7 +324,12 @@ HALVES = (("D", random_halves),)
 SURROGATES = (("E", random_surrogates),)
 
 
-def play_list(player, chance, names, tables, text_size, call_count, makers=PLAIN):
+# The forms of a run call: what follows its name.
+BY_VALUE = ("",)
+BOTH_FORMS = ("", "here")
+
+
+def play_list(player, chance, names, tables, text_size, call_count, makers=PLAIN, forms=BY_VALUE):
     """One list: a start, then calls that go on from the run's own position, lines saved and read back."""
     direction, make_text = chance.choice(makers)
     name = chance.choice(names)
@@ -342,11 +348,11 @@ def play_list(player, chance, names, tables, text_size, call_count, makers=PLAIN
         if player.run.ended and turn < 0.8:
             # an ended run: read an earlier line back, or leave it at one refused call
             if not saved or chance.random() < 0.3:
-                play_run_call(player, chance, direction, text_size)
+                play_run_call(player, chance, direction, text_size, forms)
                 return
             player.do(f"load {hex_text(chance.choice(saved), 2)}")
         elif turn < 0.68:
-            play_run_call(player, chance, direction, text_size)
+            play_run_call(player, chance, direction, text_size, forms)
         elif turn < 0.82:
             answer = player.do(f"save {chance.choice((44, 44, 44, 44, 60, 18, 19, 20, 26, chance.randrange(50)))}")
             words = answer.split(" ")
@@ -365,7 +371,12 @@ def play_list(player, chance, names, tables, text_size, call_count, makers=PLAIN
             player.do("shape")
 
 
-def play_run_call(player, chance, direction, text_size):
+def formed(chance, name, forms):
+    """The name of a run call in one of the forms."""
+    return name + (chance.choice(forms) if len(forms) > 1 else forms[0])
+
+
+def play_run_call(player, chance, direction, text_size, forms):
     """A run call from the run's position on; now and then from anywhere, or of the other direction."""
     position = player.run.read if player.run.read <= text_size else text_size
     if chance.random() < 0.03:
@@ -380,9 +391,9 @@ def play_run_call(player, chance, direction, text_size):
     name = {"D": "decode", "E": "encode"}[direction]
     if chance.random() < 0.015:
         # of the other direction, on an empty piece
-        player.do(f"{'encode' if name == 'decode' else 'decode'} 0 0 {mark} 2")
+        player.do(f"{formed(chance, 'encode' if name == 'decode' else 'decode', forms)} 0 0 {mark} 2")
         return
-    player.do(f"{name} {position} {count} {mark} {random_room(chance, count)}")
+    player.do(f"{formed(chance, name, forms)} {position} {count} {mark} {random_room(chance, count)}")
 
 
 def play_one_go(player, chance, direction, text_size):
@@ -475,7 +486,7 @@ def random_run(chance):
     return " ".join(words)
 
 
-def play_runs(player, chance):
+def play_runs(player, chance, forms=BY_VALUE):
     """Runs of random numbers, and what each call says to them."""
     player.do("table sample.tbl")
     player.do("bytes 4182807C81408341815A")
@@ -488,10 +499,22 @@ def play_runs(player, chance):
             start = chance.randrange(size + 1)
             count = chance.choice((0, 1, 2, chance.randrange(size + 1)))
             count = min(count, size - start)
-            player.do(f"{name} {start} {count} {chance.choice(('more', 'last'))} {chance.randrange(6)}")
+            player.do(f"{formed(chance, name, forms)} {start} {count} {chance.choice(('more', 'last'))} {chance.randrange(6)}")
         words = before.split(" ")
         if words[1] == "0":
             player.do(f"load {words[3]}")
+
+
+def play_here(player, chance, names, damaged_names, tables, text_size, call_count):
+    """A list of calls of both forms, on good tables, or changing between damaged and good ones; or runs of random numbers."""
+    turn = chance.random()
+    if turn < 0.2:
+        play_runs(player, chance, BOTH_FORMS)
+    elif turn < 0.35:
+        play_list(player, chance, [chance.choice(damaged_names), "sample.tbl"], tables, text_size, call_count, PLAIN, BOTH_FORMS)
+    else:
+        makers = chance.choice((PLAIN, HALVES, SURROGATES))
+        play_list(player, chance, [chance.choice(names)], tables, text_size, call_count, makers, BOTH_FORMS)
 
 
 def random_fields_text(chance):
@@ -613,6 +636,8 @@ def random_script(kind, seed, count, tables, folder):
             play_long_list(player, chance, random_names + ["sample.tbl"], tables)
         elif kind == "lists_fields":
             play_fields(player, chance)
+        elif kind == "lists_here":
+            play_here(player, chance, [*random_names, "sample.tbl"], damaged_names, tables, size, calls)
         elif kind == "lists_inplace":
             play_in_place(player, chance, random_names + ["sample.tbl"], tables)
         elif kind == "lists_index":

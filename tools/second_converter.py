@@ -343,6 +343,15 @@ def run_call(direction, run, table, piece, last, out):
     return Outcome(taken.number, taken.read, len(taken.output), after)
 
 
+def run_call_here(direction, record, table, piece, last, out):
+    """Document 02, CR 13: "that record updated where it stands"; record is a list of one run. Answers number, read and written."""
+    outcome = run_call(direction, record[0], table, piece, last, out)
+    # "with equal answers, output and new run; on refusal the record holds what it held"
+    if outcome.number in (ALL_READ, CARRIED, DOES_NOT_FIT, STOPPED_BY_POLICY):
+        record[0] = outcome.run
+    return outcome.number, outcome.read, outcome.written
+
+
 def text_refusal(table, text):
     """The refusals of every call on a whole text: "after 10 and 11" (document 02)."""
     if not shape_is_good(table):
@@ -980,6 +989,8 @@ class Console:
             b"run": (10, self.do_run),
             b"decode": (4, self.do_decode),
             b"encode": (4, self.do_encode),
+            b"decodehere": (4, self.do_decodehere),
+            b"encodehere": (4, self.do_encodehere),
             b"save": (1, self.do_save),
             b"load": (1, self.do_load),
             b"convert": (5, self.do_convert),
@@ -1082,25 +1093,42 @@ class Console:
             raise NotACommand
         return text[start : start + count]
 
-    def do_decode(self, start, count, mark, room):
-        piece = self.part_of(self.byte_text, start, count)
-        last = choice_word(mark, {b"more": False, b"last": True})
-        out = [UNIT_FILL] * number_word(room, UNITS_ROOM_LIMIT)
-        outcome = run_call(DECODING, self.run, self.table, piece, last, out)
-        return "decode " + self.outcome_text(outcome, out, 4, UNIT_FILL)
+    def lent_for(self, direction):
+        """The text that is read, the hex digits and the fill of an element of the output, and the most elements that it may have."""
+        if direction == DECODING:
+            return self.byte_text, 4, UNIT_FILL, UNITS_ROOM_LIMIT
+        return self.unit_text, 2, BYTE_FILL, BYTES_ROOM_LIMIT
 
-    def do_encode(self, start, count, mark, room):
-        piece = self.part_of(self.unit_text, start, count)
-        last = choice_word(mark, {b"more": False, b"last": True})
-        out = [BYTE_FILL] * number_word(room, BYTES_ROOM_LIMIT)
-        outcome = run_call(ENCODING, self.run, self.table, piece, last, out)
-        return "encode " + self.outcome_text(outcome, out, 2, BYTE_FILL)
-
-    def outcome_text(self, outcome, out, digits, fill):
+    def by_value(self, direction, piece, last, out):
+        outcome = run_call(direction, self.run, self.table, piece, last, out)
         self.run = outcome.run
-        written = hex_text(out[: outcome.written], digits)
-        kept = kept_text(out, outcome.written, fill)
-        return f"{outcome.number} {outcome.read} {outcome.written} {written} {kept} {run_text(self.run)}"
+        return outcome.number, outcome.read, outcome.written
+
+    def where_it_stands(self, direction, piece, last, out):
+        record = [self.run]
+        answer = run_call_here(direction, record, self.table, piece, last, out)
+        self.run = record[0]
+        return answer
+
+    def run_call_text(self, direction, form, start, count, mark, room):
+        text, digits, fill, most = self.lent_for(direction)
+        piece = self.part_of(text, start, count)
+        last = choice_word(mark, {b"more": False, b"last": True})
+        out = [fill] * number_word(room, most)
+        number, read, written = form(direction, piece, last, out)
+        return f"{number} {read} {written} {hex_text(out[:written], digits)} {kept_text(out, written, fill)} {run_text(self.run)}"
+
+    def do_decode(self, *words):
+        return "decode " + self.run_call_text(DECODING, self.by_value, *words)
+
+    def do_encode(self, *words):
+        return "encode " + self.run_call_text(ENCODING, self.by_value, *words)
+
+    def do_decodehere(self, *words):
+        return "decodehere " + self.run_call_text(DECODING, self.where_it_stands, *words)
+
+    def do_encodehere(self, *words):
+        return "encodehere " + self.run_call_text(ENCODING, self.where_it_stands, *words)
 
     def do_save(self, room):
         out = [BYTE_FILL] * number_word(room, BYTES_ROOM_LIMIT)
@@ -1120,10 +1148,7 @@ class Console:
     def do_convert(self, direction, policy, start, count, room):
         direction = direction_word(direction)
         digits = policy_word(policy)
-        if direction == DECODING:
-            text, width, fill, most = self.byte_text, 4, UNIT_FILL, UNITS_ROOM_LIMIT
-        else:
-            text, width, fill, most = self.unit_text, 2, BYTE_FILL, BYTES_ROOM_LIMIT
+        text, width, fill, most = self.lent_for(direction)
         text = self.part_of(text, start, count)
         out = [fill] * number_word(room, most)
         converted = convert_call(direction, digits, self.table, text, out)

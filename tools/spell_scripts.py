@@ -200,9 +200,11 @@ def bad_tables(script):
 
 NOT_COMMANDS = (
     "spell", "spell ", "spell 0", "spell 0 3", "spell 0 3 ", "spell 0 3 9 ", "spell 0 3 9 9", " spell 0 3 9", "spell  0 3 9", "Spell 0 3 9",
-    "SPELL 0 3 9", "spells 0 3 9", "spelling 0 3 9", "spell\t0 3 9", "spell 0 3,9", "spell - 3 9", "spell 0 - 9", "spell 0 3 -", "spell 00 3 9",
+    "SPELL 0 3 9", "spells 0 3 9", "spelling 0 3 9", "spell\t0 3 9", "spell 0 3,9", "spell - 3 9", "spell 0 - 9", "spell 0 3 -",
+    "spell 00 3 9",
     "spell 0 03 9", "spell 0 3 09", "spell -1 3 9", "spell +0 3 9", "spell x 3 9", "spell 0 4 9", "spell 1 3 9", "spell 4 0 9",
-    f"spell {MOST} 2 9", f"spell 1 {MOST} 9", f"spell {MOST + 1} 3 9", f"spell 0 {2**32 + 3} 9", "spell 0 3 140001", f"spell 0 3 {2**32 + 9}",
+    f"spell {MOST} 2 9", f"spell 1 {MOST} 9", f"spell {MOST + 1} 3 9", f"spell 0 {2**32 + 3} 9", "spell 0 3 140001",
+    f"spell 0 3 {2**32 + 9}",
     f"spell 0 3 {MOST}", f"spell 0 3 {MOST + 10}", f"spell 0 3 {'1' * 5000}", "spell D 0 3 9", "spell 555 0 3 9",
 )
 

@@ -136,6 +136,8 @@ def check_coverage(options):
     wanted = {
         "decode": (0, 1, 2, 3, 10, 11, 12, 13, 14, 15, 16),
         "encode": (0, 1, 2, 3, 10, 11, 12, 13, 15, 16),
+        "decodehere": (0, 1, 2, 3, 10, 11, 12, 13, 14, 15, 16),
+        "encodehere": (0, 1, 2, 3, 10, 11, 12, 13, 15, 16),
         "start": (0, 17),
         "convert": (0, 2, 3, 10, 11, 17),
         "save": (0, 12, 19),
@@ -653,8 +655,8 @@ def spelled_again(table, text):
 
 
 def check_spelling(options):
-    """Random texts: accepted exactly if they are decoded and encoded and read back, else the first code at fault is told; two accepted texts
-    have one spelling exactly if they mean the same units; a spelling is its own."""
+    """Random texts: accepted exactly if they are decoded and encoded and read back, else the first code at fault is told; two accepted
+    texts have one spelling exactly if they mean the same units; a spelling is its own."""
     chance = random.Random(8)
     for name in ("double_codes.tbl", "sample.tbl", "cp932.tbl", "cp950.tbl", *(f"random_{number}.tbl" for number in range(10))):
         table = load_table(name)
@@ -706,6 +708,30 @@ def check_in_place(options):
         expect(answer == (separate.number, separate.flags, separate.read, separate.written), f"buffer {number}: not as one call")
         expect(buffer == output + before[len(output) :], f"buffer {number}: the bytes")
         expect(out[: len(output)] == output, f"buffer {number}: not the bytes of one call")
+
+
+# ---------------------------------------------------------------------------------------------------------------
+# The two forms of a run call
+# ---------------------------------------------------------------------------------------------------------------
+
+LISTS_OF_CALLS = (
+    "lists_sample", "lists_small", "lists_damaged", "lists_halves", "lists_surrogates", "lists_long", "runs", "refusals", "edges",
+)
+
+
+def check_forms(options):
+    """Every stored list of calls, each call in one of the two forms by chance, has the answers that it has by value, but for the name."""
+    chance = random.Random(13)
+    for name in LISTS_OF_CALLS:
+        commands, answers = (read(os.path.join(SCRIPTS, name + ending)).splitlines() for ending in (".in", ".out"))
+        commands = [line for line in commands if line and not line.startswith(b"#")]
+        console = converter.Console(FOLDERS)
+        for line, answer in zip(commands, answers):
+            call = line.split(b" ")[0]
+            if call in (b"decode", b"encode") and answer != b"?" and chance.random() < 0.5:
+                line, answer = (call + b"here" + words[len(call) :] for words in (line, answer))
+            got = console.answer(line).encode("ascii")
+            expect(got == answer, f"{name}: {line[:80]!r} is answered {got[:120]!r}, and by value {answer[:120]!r}")
 
 
 # ---------------------------------------------------------------------------------------------------------------
@@ -1807,6 +1833,7 @@ def check_wrong_converters(options):
     expect_found_out(wrong_converters.wrong_spell_converters(), ("spell",))
     expect_found_out(wrong_converters.wrong_spell_calls()[:1], ("spell_pages",))
     expect_found_out(wrong_converters.wrong_in_place_converters(), ("inplace",))
+    expect_found_out(wrong_converters.wrong_here_converters(), ("here",))
     readings = ("read_unit", "HIGH_SURROGATES", "LOW_SURROGATES")
     expect_found_out([wrong for wrong in wrong_surrogate_converters() if wrong[1] in readings], ("inplace",))
 
@@ -1879,6 +1906,7 @@ CHECKS = (
     ("the index of a journal against all its codes", check_index),
     ("the standard spelling against decoding and encoding", check_spelling),
     ("encoding in one buffer against the uncut reading", check_in_place),
+    ("lists of calls of both forms", check_forms),
     ("wrong converters are found out", check_wrong_converters),
     ("the standard policy is told and not used", check_standard_is_told),
     ("wrong page tables are found out", check_wrong_pages),

@@ -16,6 +16,22 @@ def named(name, wrong_ones):
     return tuple((title, name, wrong) for title, wrong in wrong_ones)
 
 
+def ahead(name, number, later, holds):
+    """A function that gives a refusal ahead of others: where the right one is among them, and holds says so of what it is asked."""
+    right = RIGHT[name]
+
+    def wrong(*asked):
+        refusal = right(*asked)
+        return number if refusal in later and holds(*asked) else refusal
+
+    return wrong
+
+
+def without(name, number):
+    """A function that never gives a refusal."""
+    return lambda *asked: None if RIGHT[name](*asked) == number else RIGHT[name](*asked)
+
+
 # ---------------------------------------------------------------------------------------------------------------
 # Words, codes and refusals of any call on a whole text
 # ---------------------------------------------------------------------------------------------------------------
@@ -76,15 +92,10 @@ def wrong_readings():
 def wrong_text_refusals():
     """10 and 11."""
     text_refusal = RIGHT["text_refusal"]
-
-    def never_too_long(table, text):
-        refusal = text_refusal(table, text)
-        return None if refusal == 11 else refusal
-
     return named("text_refusal", (
-        ("11 before 10", lambda table, text: 11 if len(text) > 65536 else text_refusal(table, text)),
-        ("11 at 65,536 bytes", lambda table, text: text_refusal(table, text) or (11 if len(text) == 65536 else None)),
-        ("no text is too long", never_too_long),
+        ("11 before 10", ahead("text_refusal", 11, (10,), lambda table, text: len(text) > 65536)),
+        ("11 at 65,536 bytes", ahead("text_refusal", 11, (None,), lambda table, text: len(text) == 65536)),
+        ("no text is too long", without("text_refusal", 11)),
         ("an empty text asks nothing of the tables", lambda table, text: text_refusal(table, text) if text else None),
         ("page 0 is good", lambda table, text: text_refusal(converter.replace(table, page=table.page or 1), text)),
         ("index and blocks are not asked for",
@@ -225,7 +236,8 @@ def wrong_finders():
         ("where no block counts at most n, from the front",
          with_index(lambda index, journal, number: index if any(entry.count <= number for entry in index[: blocks_of(journal)])
                     else [FRONT] * len(index))),
-        ("counts have 16 bits", with_index(lambda index, journal, number: [converter.Entry(entry.count % 2**16, entry.mark) for entry in index])),
+        ("counts have 16 bits",
+         with_index(lambda index, journal, number: [converter.Entry(entry.count % 2**16, entry.mark) for entry in index])),
         ("n has 16 bits", with_number(lambda number: number % 2**16)),
         ("n has 31 bits", with_number(lambda number: number % 2**31)),
         ("n has 32 bits", with_number(lambda number: number % 2**32)),
@@ -433,20 +445,15 @@ def wrong_append_refusals():
         return wrong
 
     def first_if(number, later, holds):
-        """A refusal is given ahead of another."""
+        return ahead("append_refusal", number, later, holds)
 
-        def wrong(table, journal, former, index):
-            right = append_refusal(table, journal, former, index)
-            return number if right in later and holds(journal, former, index) else right
+    def some_entry_over(table, journal, former, index):
+        return any(index[block].count > BLOCK * block for block in range(RIGHT["block_count"](former)))
 
-        return wrong
+    def former_over(table, journal, former, index):
+        return former > len(journal)
 
-    def all_entries_checked(table, journal, former, index):
-        right = append_refusal(table, journal, former, index)
-        blocks = range(RIGHT["block_count"](former))
-        return 28 if right is None and any(index[block].count > BLOCK * block for block in blocks) else right
-
-    def too_short(journal, former, index):
+    def too_short(table, journal, former, index):
         return len(index) < blocks_of(journal)
 
     return named("append_refusal", (
@@ -455,17 +462,16 @@ def wrong_append_refusals():
         ("28 goes by the block's end", counted(lambda last, former: BLOCK * (last + 1))),
         ("the former last entry is not asked", counted(lambda last, former: 2**32)),
         ("entry 0 is not asked", counted(lambda last, former: BLOCK * last if last else 2**32)),
-        ("every former entry is asked", all_entries_checked),
+        ("every former entry is asked", first_if(28, (None,), some_entry_over)),
         ("33 for an equal length",
          lambda table, journal, former, index: append_refusal(table, journal, former + 1 if former else 0, index)),
         ("28 before 33", first_if(28, (33,), too_short)),
-        ("33 before 11", first_if(33, (11,), lambda journal, former, index: former > len(journal))),
+        ("33 before 11", first_if(33, (11,), former_over)),
         ("28 before 11", first_if(28, (11,), too_short)),
-        ("33 before 10", first_if(33, (10,), lambda journal, former, index: former > len(journal))),
+        ("33 before 10", first_if(33, (10,), former_over)),
         ("28 before 10", first_if(28, (10,), too_short)),
-        ("nothing new asks nothing",
-         lambda table, journal, former, index: None if append_refusal(table, journal, former, index) == 28 and former == len(journal)
-         and not too_short(journal, former, index) else append_refusal(table, journal, former, index)),
+        ("nothing new asks nothing", first_if(None, (28,), lambda table, journal, former, index: former == len(journal)
+                                              and not too_short(table, journal, former, index))),
     ))
 
 
@@ -555,7 +561,8 @@ def wrong_own_codes():
         ("nothing is read back", accepted_if(lambda back, code, unit: True)),
         ("what is read back has any character", accepted_if(lambda back, code, unit: back.kind == 0)),
         ("what is read back has all bytes", accepted_if(lambda back, code, unit: back.size == len(code))),
-        ("what is read back has all bytes and any character", accepted_if(lambda back, code, unit: back.kind == 0 and back.size == len(code))),
+        ("what is read back has all bytes and any character",
+         accepted_if(lambda back, code, unit: back.kind == 0 and back.size == len(code))),
         ("the first code that is read back is asked only", accepted_if(lambda back, code, unit: back.meaning == [unit])),
         ("a code of two bytes is not read back", accepted_if(lambda back, code, unit: len(code) == 2 or back.meaning == [unit])),
         ("a code of one byte is not read back",
@@ -790,7 +797,7 @@ def wrong_in_place_calls():
         return [byte for low, high in zip(buffer[0::2], buffer[1::2]) for byte in (high, low)] + buffer[len(buffer) // 2 * 2 :]
 
     def answered(change):
-        """Where it is accepted, something else is answered, or done to the buffer: change gets what was taken, the buffer before and after."""
+        """Where it is accepted, something else is answered or done: change gets what was taken, the buffer before and after."""
 
         def wrong(digits, table, buffer):
             before = list(buffer)
@@ -923,25 +930,16 @@ def wrong_in_place_refusals():
     in_place_refusal = RIGHT["in_place_refusal"]
 
     def first_if(number, later, holds):
-        """A refusal is given ahead of others."""
+        return ahead("in_place_refusal", number, later, holds)
 
-        def wrong(digits, table, buffer):
-            right = in_place_refusal(digits, table, buffer)
-            return number if right in later and holds(table, buffer) else right
-
-        return wrong
-
-    def odd(table, buffer):
+    def odd(digits, table, buffer):
         return len(buffer) % 2 == 1
 
-    def too_long(table, buffer):
+    def too_long(digits, table, buffer):
         return len(buffer) // 2 > 65536
 
-    def bad(table, buffer):
+    def bad(digits, table, buffer):
         return not RIGHT["shape_is_good"](table)
-
-    def never(number):
-        return lambda digits, table, buffer: None if in_place_refusal(digits, table, buffer) == number else in_place_refusal(digits, table, buffer)
 
     return named("in_place_refusal", (
         ("10 before 17", first_if(10, (17,), bad)),
@@ -949,12 +947,12 @@ def wrong_in_place_refusals():
         ("11 before 17", first_if(11, (17,), too_long)),
         ("26 before 10", first_if(26, (10,), odd)),
         ("11 before 10", first_if(11, (10,), too_long)),
-        ("11 before 26", first_if(11, (26,), lambda table, buffer: len(buffer) > 131072)),
-        ("11 before 26, by whole units", first_if(11, (26,), lambda table, buffer: too_long(table, buffer) or len(buffer) == 131075)),
-        ("11 by bytes", first_if(11, (None,), lambda table, buffer: len(buffer) > 65536)),
-        ("11 at 65,536 units", first_if(11, (None,), lambda table, buffer: len(buffer) == 131072)),
-        ("no buffer is too long", never(11)),
-        ("26 for an empty buffer", first_if(26, (None,), lambda table, buffer: not buffer)),
+        ("11 before 26", first_if(11, (26,), lambda digits, table, buffer: len(buffer) > 131072)),
+        ("11 before 26, by whole units", first_if(11, (26,), too_long)),
+        ("11 by bytes", first_if(11, (None,), lambda digits, table, buffer: len(buffer) > 65536)),
+        ("11 at 65,536 units", first_if(11, (None,), lambda digits, table, buffer: len(buffer) == 131072)),
+        ("no buffer is too long", without("in_place_refusal", 11)),
+        ("26 for an empty buffer", first_if(26, (None,), lambda digits, table, buffer: not buffer)),
         ("an empty buffer asks nothing", lambda digits, table, buffer: in_place_refusal(digits, table, buffer) if buffer else None),
         ("17 by the rule of decoding", lambda digits, table, buffer: in_place_refusal((5 if digits[0] == 6 else digits[0], *digits[1:]),
                                                                                      table, buffer)),
@@ -974,6 +972,177 @@ def wrong_in_place_converters():
 
     return (
         *wrong_in_place_calls(), *wrong_in_place_refusals(), ("the unit text is given up", "Console", after(b"inplace", give_up_units)),
-        ("the run in hand is given up", "Console", after(b"inplace", give_up_run)), ("140,001 bytes are a command", "BYTES_ROOM_LIMIT", 140001),
+        ("the run in hand is given up", "Console", after(b"inplace", give_up_run)),
+        ("140,001 bytes are a command", "BYTES_ROOM_LIMIT", 140001),
         ("140,000 bytes are no command", "BYTES_ROOM_LIMIT", 139999), *wrong_numbers(),
+    )
+
+
+# ---------------------------------------------------------------------------------------------------------------
+# A record updated where it stands (CR 13)
+# ---------------------------------------------------------------------------------------------------------------
+
+
+def wrong_here_calls():
+    run_call, run_call_here = RIGHT["run_call"], RIGHT["run_call_here"]
+
+    def stored(change):
+        """What is stored: change gets the run before, the outcome and the piece, and answers the record after the call."""
+
+        def wrong(direction, record, table, piece, last, out):
+            before = record[0]
+            outcome = run_call(direction, before, table, piece, last, out)
+            record[0] = change(before, outcome, piece)
+            return outcome.number, outcome.read, outcome.written
+
+        return wrong
+
+    def stored_if(which):
+        return stored(lambda before, outcome, piece: outcome.run if which(before, outcome) else before)
+
+    def accepted_as(change):
+        """An accepted call stores the new run with a field changed: change gets the runs before and after."""
+        return stored(lambda before, outcome, piece: converter.replace(outcome.run, **change(before, outcome.run))
+                      if outcome.number < 10 else before)
+
+    def refused_as(change, numbers=range(10, 17)):
+        """A refused call stores something: change gets the run before."""
+        return stored(lambda before, outcome, piece: converter.replace(before, **change(before))
+                      if outcome.number in numbers else outcome.run)
+
+    def asked_as(change):
+        """The call is made with another mark, piece or output."""
+
+        def wrong(direction, record, table, piece, last, out):
+            piece, last, lent = change(piece, last, out)
+            answer = run_call_here(direction, record, table, piece, last, lent)
+            out[: len(lent)] = lent
+            return answer
+
+        return wrong
+
+    def with_record(change):
+        """The call is made on another record."""
+        return lambda direction, record, table, *rest: run_call_here(direction, change(record, direction, table), table, *rest)
+
+    def other_direction(record, direction, table):
+        record[0] = converter.replace(record[0], direction=direction)
+        return record
+
+    def own_page(record, direction, table):
+        record[0] = converter.replace(record[0], page=table.page)
+        return record
+
+    def rest_cleared(direction, record, table, piece, last, out):
+        answer = run_call_here(direction, record, table, piece, last, out)
+        out[answer[2] :] = [0] * (len(out) - answer[2])
+        return answer
+
+    def low_bits(run, bits):
+        return {"read": run.read % 2**bits, "written": run.written % 2**bits}
+
+    return named("run_call_here", (
+        ("nothing is stored", stored_if(lambda before, outcome: False)),
+        ("a stop is not stored", stored_if(lambda before, outcome: outcome.number != 3)),
+        ("only what is all read is stored", stored_if(lambda before, outcome: outcome.number == 0)),
+        ("what does not fit is not stored", stored_if(lambda before, outcome: outcome.number != 2)),
+        ("what is carried is not stored", stored_if(lambda before, outcome: outcome.number != 1)),
+        ("a call that reads nothing is not stored", stored_if(lambda before, outcome: outcome.read > 0)),
+        ("a call that reads and writes nothing is not stored", stored_if(lambda before, outcome: outcome.read + outcome.written > 0)),
+        ("a call that writes nothing is not stored", stored_if(lambda before, outcome: outcome.written > 0)),
+        ("the end is not stored", accepted_as(lambda before, run: {"ended": before.ended})),
+        ("the carried one is not stored", accepted_as(lambda before, run: {"carried": before.carried})),
+        ("the carried one is dropped", accepted_as(lambda before, run: {"carried": None})),
+        ("a settled one stays carried",
+         accepted_as(lambda before, run: {"carried": run.carried if before.carried is None else before.carried})),
+        ("flags are not stored", accepted_as(lambda before, run: {"flags": before.flags})),
+        ("flags are those of the call", accepted_as(lambda before, run: {"flags": run.flags & ~before.flags})),
+        ("flag 8 is not stored", accepted_as(lambda before, run: {"flags": run.flags & 7})),
+        ("the read total is not stored", accepted_as(lambda before, run: {"read": before.read})),
+        ("the read total is that of the call", accepted_as(lambda before, run: {"read": run.read - before.read})),
+        ("the written total is not stored", accepted_as(lambda before, run: {"written": before.written})),
+        ("the written total is that of the call", accepted_as(lambda before, run: {"written": run.written - before.written})),
+        ("digits are the standard's", accepted_as(lambda before, run: {"digits": (5, 5, 0)})),
+        ("the whole piece is counted as read",
+         stored(lambda before, outcome, piece: converter.replace(outcome.run, read=before.read + len(piece))
+                if outcome.number < 10 else before)),
+        ("a refusal ends the run", refused_as(lambda run: {"ended": True})),
+        ("a refusal sets flag 8", refused_as(lambda run: {"flags": run.flags | 8})),
+        ("a refusal drops what is carried", refused_as(lambda run: {"carried": None})),
+        ("a refusal clears the flags", refused_as(lambda run: {"flags": 0})),
+        ("a refusal clears the totals", refused_as(lambda run: {"read": 0, "written": 0})),
+        ("a refusal clears the digits", refused_as(lambda run: {"digits": (0, 0, 0)})),
+        ("a refusal sets the page of the call", refused_as(lambda run: {"page": 7})),
+        ("a refusal cuts the flags to what is allowed", refused_as(lambda run: {"flags": run.flags & 15})),
+        ("a refusal cuts the totals to 32 bits", refused_as(lambda run: low_bits(run, 32))),
+        ("a refusal cuts the totals to 63 bits", refused_as(lambda run: low_bits(run, 63))),
+        ("a refusal cuts the digits to what is allowed",
+         refused_as(lambda run: {"digits": tuple(min(digit, 9) for digit in run.digits)})),
+        *((f"the refusal {number} ends the run", refused_as(lambda run: {"ended": not run.ended}, (number,))) for number in range(10, 17)),
+        ("every call is marked last", asked_as(lambda piece, last, out: (piece, True, out))),
+        ("no call is marked last", asked_as(lambda piece, last, out: (piece, False, out))),
+        ("one place of the room is not used", asked_as(lambda piece, last, out: (piece, last, out[:-1]))),
+        ("a call on an empty piece does nothing", lambda direction, record, table, piece, last, out:
+         run_call_here(direction, record if piece else list(record), table, piece, last, out)),
+        ("a run of the other direction is taken", with_record(other_direction)),
+        ("a run of another page is taken", with_record(own_page)),
+        ("the call is made on a copy", with_record(lambda record, direction, table: list(record))),
+        ("the rest of the output is cleared", rest_cleared),
+    ))
+
+
+def wrong_here_consoles():
+    class RecordApart(converter.Console):
+        """The form on a record has a record of its own, which `start`, `run` and `load` do not set."""
+
+        apart = None
+
+        def where_it_stands(self, direction, piece, last, out):
+            before, self.run = self.run, self.apart or self.run
+            answer = super().where_it_stands(direction, piece, last, out)
+            self.apart, self.run = self.run, before
+            return answer
+
+    class RecordSetByTheOtherForm(converter.Console):
+        """What the form on a record leaves is not seen by the other form."""
+
+        hidden = None
+
+        def by_value(self, direction, piece, last, out):
+            self.run = self.hidden or self.run
+            return super().by_value(direction, piece, last, out)
+
+        def where_it_stands(self, direction, piece, last, out):
+            self.hidden = self.run
+            return super().where_it_stands(direction, piece, last, out)
+
+    class NamesTheOther(converter.Console):
+        def do_decodehere(self, *words):
+            return super().do_decode(*words)
+
+    class OneDirection(converter.Console):
+        """encodehere is the form by value."""
+
+        def do_encodehere(self, *words):
+            before = self.run
+            answer = super().do_encodehere(*words)
+            self.run = before
+            return answer
+
+    return tuple((title, "Console", wrong) for title, wrong in (
+        ("the record is not the run in hand", RecordApart),
+        ("the form by value does not see the record", RecordSetByTheOtherForm),
+        ("the answer has the other form's name", NamesTheOther),
+        ("encodehere leaves the record alone behind its answer", OneDirection),
+        ("decodehere gives up the text", after(b"decodehere", lambda console, words: console.byte_text.clear())),
+    ))
+
+
+def wrong_here_converters():
+    """A record updated where it stands (document 02, CR 13)."""
+    return (
+        *wrong_here_calls(), *wrong_here_consoles(), ("66,001 units of room are a command", "UNITS_ROOM_LIMIT", 66001),
+        ("66,000 units of room are no command", "UNITS_ROOM_LIMIT", 65999),
+        ("140,001 bytes of room are a command", "BYTES_ROOM_LIMIT", 140001),
+        ("140,000 bytes of room are no command", "BYTES_ROOM_LIMIT", 139999), *wrong_numbers(),
     )
