@@ -5,7 +5,7 @@ use mathlib.Core.List.{List, [], _∷_, _++_}
 use mathlib.Core.Logic.{_⊎_}
 use mathlib.Core.Path.{_≡_}
 use Prim.Native.Nat.{ℕ}
-use Rattle.traces.specs.Model.{Setting, Call, feeding, saving, loading, opened, play, wholeOf}
+use Rattle.traces.specs.Model.{Setting, byValue, Call, feeding, saving, loading, opened, play, wholeOf}
 use Rattle.traces.specs.Traces.{Entry as RunEntry, callsOf}
 use Rattle.convert.specs.Sample.{room}
 use Rattle.fields.specs.Fields.{Field, fieldsOf}
@@ -39,7 +39,7 @@ nightLine = 0x44 ∷ 9 ∷ 0x37 ∷ 9 ∷ 0x35 ∷ 0x35 ∷ 0x35 ∷ 9 ∷ 0x38 
 
 -- its calls: the piece 82, line writing, line reading, and 7C 7C marked last
 abbrev pub night : List Call
-night = feeding (0x82 ∷ []) false (room 9) ∷ saving (room 44) ∷ loading nightLine ∷ feeding (0x7C ∷ 0x7C ∷ []) true (room 9) ∷ []
+night = feeding byValue (0x82 ∷ []) false (room 9) ∷ saving (room 44) ∷ loading nightLine ∷ feeding byValue (0x7C ∷ 0x7C ∷ []) true (room 9) ∷ []
 
 -- The night that made one record of two: a broken half, 81, before a line feed (CR 2).
 abbrev pub brokenText : List ℕ

@@ -27,7 +27,7 @@ use Rattle.engine.proofs.DecodeLaws.{decoder-lead}
 use Rattle.convert.proofs.CallLaws.{Accepted, accepted-facts, count-le-one, feed-shape}
 use Rattle.convert.proofs.RuleLaws.{rules-exact}
 use Rattle.convert.proofs.RefusalLaws.{accepted-of}
-use Rattle.traces.specs.Model.{Setting, Call, feeding, Model, opened, says, isAccepted, inHand, joinedBy, acceptedBy, next, play, Allowed, AllAllowed, wholeOf}
+use Rattle.traces.specs.Model.{Setting, byValue, Call, feeding, Model, opened, says, isAccepted, inHand, joinedBy, acceptedBy, next, play, Allowed, AllAllowed, wholeOf}
 use Rattle.traces.specs.Traces.{Entry, callsOf, Proper, Trace}
 use Rattle.traces.proofs.ModelLaws.{Kept, kept-start, kept-next, fair-whole}
 use Rattle.traces.proofs.ListLaws.{kept-list, traces-exist, lead-pending, left-text}
@@ -63,7 +63,7 @@ module _ (s : Setting) (h : Proper s) (good : GoodShape (s .tables)) (own : s .p
       widen Encoding a n q = omega arith
 
   abbrev call : Call
-  call = feeding piece last (replicate enough 0)
+  call = feeding byValue piece last (replicate enough 0)
 
   call-allowed : Allowed s m call
   unfolding Allowed
@@ -172,19 +172,19 @@ module _ (s : Setting) (h : Proper s) (good : GoodShape (s .tables)) (own : s .p
       short : length piece ≤ pieceLimit
       short = omega (arith, size)
 
-      ok : Allowed s m (feeding piece false (replicate (widest (s .direction) * (1 + length piece)) 0))
+      ok : Allowed s m (feeding byValue piece false (replicate (widest (s .direction) * (1 + length piece)) 0))
       ok = call-allowed s h good own m g going piece others begins false (λ e. absurd (false≢true e)) short
 
-      by-end : (next s m (feeding piece false (replicate (widest (s .direction) * (1 + length piece)) 0)) .ended ≡ true)
-          ⊎ ((next s m (feeding piece false (replicate (widest (s .direction) * (1 + length piece)) 0)) .ended ≡ false)
-          × (next s m (feeding piece false (replicate (widest (s .direction) * (1 + length piece)) 0)) .position ≡ m .position + length piece)) → Ends s m
+      by-end : (next s m (feeding byValue piece false (replicate (widest (s .direction) * (1 + length piece)) 0)) .ended ≡ true)
+          ⊎ ((next s m (feeding byValue piece false (replicate (widest (s .direction) * (1 + length piece)) 0)) .ended ≡ false)
+          × (next s m (feeding byValue piece false (replicate (widest (s .direction) * (1 + length piece)) 0)) .position ≡ m .position + length piece)) → Ends s m
       by-end (inl e) = one-call s m _ ok e
       by-end (inr e) =
           then-more s m _ ok
-          (rest (next s m (feeding piece false (replicate (widest (s .direction) * (1 + length piece)) 0))) (kept-next s h m g _ ok) (e .0)
+          (rest (next s m (feeding byValue piece false (replicate (widest (s .direction) * (1 + length piece)) 0))) (kept-next s h m g _ ok) (e .0)
           (omega (
             arith,
-            length-drop (next s m (feeding piece false (replicate (widest (s .direction) * (1 + length piece)) 0)) .position) (s .text),
+            length-drop (next s m (feeding byValue piece false (replicate (widest (s .direction) * (1 + length piece)) 0)) .position) (s .text),
             length-drop (m .position) (s .text),
             e .1,
             size,

@@ -21,8 +21,9 @@ use Rattle.codepage.specs.Lent.{over}
 use Rattle.checkpoint.specs.declared.Written.{Written}
 use Rattle.checkpoint.specs.declared.Restored.{Restored}
 use Rattle.checkpoint.specs.Line.{Saving, writeOf, Loading, readOf, writtenAs, Saved, restoredAs, loaded, runOf}
-use Rattle.traces.specs.Model.{Setting, Call, feeding, saving, loading, Said, saidOfCall, saidOfSaving, saidOfLoading, says, isAccepted, inHand, Model, opened, joinedBy, notedBy, setBackTo, acceptedBy, next, play, notedBeside, Note, Allowed, AllAllowed, wholeOf}
-use Rattle.traces.specs.Traces.{Result, fed, saved, loaded as restored, Entry, Meets, observed, handAfter, handAtEnd, AllMeet, callsOf, lentBefore, lentAfter, AllAgree, Alike, AlikeFor, SameFor, ReadAt, Demand3, Proper, Trace}
+use Rattle.runrecord.specs.Records.{outcomeOf}
+use Rattle.traces.specs.Model.{Setting, byValue, inRecord, Call, feeding, saving, loading, Said, saidOfCall, saidOfSaving, saidOfLoading, says, isAccepted, inHand, Model, opened, joinedBy, notedBy, setBackTo, acceptedBy, next, play, notedBeside, Note, Allowed, AllAllowed, wholeOf}
+use Rattle.traces.specs.Traces.{Result, fed, fedHere, saved, loaded as restored, Entry, Meets, seenOf, observed, handAfter, handAtEnd, AllMeet, callsOf, lentBefore, lentAfter, AllAgree, Alike, AlikeFor, SameFor, ReadAt, Demand3, Proper, Trace}
 use Rattle.traces.proofs.ModelLaws.{Kept, kept-start, kept-next, fair-begins, fair-whole}
 
 -- ---- a result that meets its contract is what the rules say
@@ -33,30 +34,47 @@ front-is before ys after n e q = rw e (take-at ys (drop (length ys) before) n (s
 said-path : (a b : Said) → a .number ≡ b .number → a .read ≡ b .read → a .output ≡ b .output → a .run ≡ b .run → a ≡ b
 said-path a b p q r t = λ i. record { number = p i; read = q i; output = r i; run = t i }
 
+-- what is seen of a run call that meets its promise, in either form
+answered-seen : (c : Called) (r : Outcome) (before after : List ℕ) → Answered c r before after → seenOf r after ≡ saidOfCall c
+answered-seen c r before after w = said-path _ _ (w .number) (w .read) (front-is before (c .output) after (r .written) (w .lent) (w .written)) (ap some (w .run))
+
 -- a result that meets its contract is seen as what the model says, with the same run in hand
 pub meets-says : (s : Setting) (hand : Run) (c : Call) (r : Result) → Meets s hand c r → observed r ≡ says s hand c
 unfolding observed says
-meets-says s hand (feeding piece last before) (fed r after) w =
-    said-path _ _ (w .number) (w .read) (front-is before (runCall (s .direction) hand (s .tables) piece last (length before) .output) after (r .written) (w .lent) (w .written)) (ap some (w .run))
-meets-says s hand (feeding piece last before) (saved r after) w = absurd w
-meets-says s hand (feeding piece last before) (restored r) w = absurd w
+meets-says s hand (feeding byValue piece last before) (fed r after) w = answered-seen _ r before after w
+meets-says s hand (feeding byValue piece last before) (fedHere r held after) w = absurd w
+meets-says s hand (feeding byValue piece last before) (saved r after) w = absurd w
+meets-says s hand (feeding byValue piece last before) (restored r) w = absurd w
+meets-says s hand (feeding inRecord piece last before) (fed r after) w = absurd w
+meets-says s hand (feeding inRecord piece last before) (fedHere r held after) w = answered-seen _ (outcomeOf r held) before after w
+meets-says s hand (feeding inRecord piece last before) (saved r after) w = absurd w
+meets-says s hand (feeding inRecord piece last before) (restored r) w = absurd w
 meets-says s hand (saving before) (fed r after) w = absurd w
+meets-says s hand (saving before) (fedHere r held after) w = absurd w
 meets-says s hand (saving before) (saved r after) w =
     said-path _ _ (w .number) refl (front-is before (writeOf hand (length before) .line) after (writtenAs r .size) (w .lent) (w .size)) refl
 meets-says s hand (saving before) (restored r) w = absurd w
 meets-says s hand (loading line) (fed r after) w = absurd w
+meets-says s hand (loading line) (fedHere r held after) w = absurd w
 meets-says s hand (loading line) (saved r after) w = absurd w
 meets-says s hand (loading line) (restored r) w = ap saidOfLoading w
 
 meets-lent : (s : Setting) (hand : Run) (c : Call) (r : Result) → Meets s hand c r → lentAfter r ≡ over (lentBefore c) (says s hand c .output)
 unfolding says over
-meets-lent s hand (feeding piece last before) (fed r after) w = w .lent
-meets-lent s hand (feeding piece last before) (saved r after) w = absurd w
-meets-lent s hand (feeding piece last before) (restored r) w = absurd w
+meets-lent s hand (feeding byValue piece last before) (fed r after) w = w .lent
+meets-lent s hand (feeding byValue piece last before) (fedHere r held after) w = absurd w
+meets-lent s hand (feeding byValue piece last before) (saved r after) w = absurd w
+meets-lent s hand (feeding byValue piece last before) (restored r) w = absurd w
+meets-lent s hand (feeding inRecord piece last before) (fed r after) w = absurd w
+meets-lent s hand (feeding inRecord piece last before) (fedHere r held after) w = w .lent
+meets-lent s hand (feeding inRecord piece last before) (saved r after) w = absurd w
+meets-lent s hand (feeding inRecord piece last before) (restored r) w = absurd w
 meets-lent s hand (saving before) (fed r after) w = absurd w
+meets-lent s hand (saving before) (fedHere r held after) w = absurd w
 meets-lent s hand (saving before) (saved r after) w = w .lent
 meets-lent s hand (saving before) (restored r) w = absurd w
 meets-lent s hand (loading line) (fed r after) w = absurd w
+meets-lent s hand (loading line) (fedHere r held after) w = absurd w
 meets-lent s hand (loading line) (saved r after) w = absurd w
 meets-lent s hand (loading line) (restored r) w = refl
 
@@ -86,7 +104,7 @@ is-noted s m line (inr w) e q = let z : 18 < 10 = ltb-true 18 10 (sym (ap isAcce
 
 accepted-run : (s : Setting) (m : Model) (c : Call) → Allowed s m c → isAccepted (says s (m .run) c .number) ≡ true → acceptedBy m c (says s (m .run) c) .run ≡ inHand (m .run) (says s (m .run) c .run)
 unfolding acceptedBy joinedBy notedBy says
-accepted-run s m (feeding piece last lent) ok e = refl
+accepted-run s m (feeding form piece last lent) ok e = refl
 accepted-run s m (saving lent) ok e = refl
 accepted-run s m (loading line) ok e = back-run m (saidOfLoading (readOf line)) (notedBeside line (m .notes)) (is-noted s m line ok e)
 
@@ -129,16 +147,16 @@ module _ (s : Setting) (h : Proper s) where
 -- ---- second readings
 alike-says : (s : Setting) (hand : Run) (c d : Call) → Alike c d → says s hand c ≡ says s hand d
 unfolding says
-alike-says s hand (feeding piece last lent) (feeding piece′ last′ lent′) a =
+alike-says s hand (feeding form piece last lent) (feeding form′ piece′ last′ lent′) a =
     ap (λ (p : List ℕ). saidOfCall (runCall (s .direction) hand (s .tables) p last (length lent))) (a .0)
     ∙ ap (λ (t : Bool). saidOfCall (runCall (s .direction) hand (s .tables) piece′ t (length lent))) (a .1)
     ∙ ap (λ (n : ℕ). saidOfCall (runCall (s .direction) hand (s .tables) piece′ last′ n)) (a .2)
-alike-says s hand (feeding piece last lent) (saving lent′) a = absurd a
-alike-says s hand (feeding piece last lent) (loading line′) a = absurd a
-alike-says s hand (saving lent) (feeding piece′ last′ lent′) a = absurd a
+alike-says s hand (feeding form piece last lent) (saving lent′) a = absurd a
+alike-says s hand (feeding form piece last lent) (loading line′) a = absurd a
+alike-says s hand (saving lent) (feeding form′ piece′ last′ lent′) a = absurd a
 alike-says s hand (saving lent) (saving lent′) a = ap (λ (n : ℕ). saidOfSaving (writeOf hand n)) a
 alike-says s hand (saving lent) (loading line′) a = absurd a
-alike-says s hand (loading line) (feeding piece′ last′ lent′) a = absurd a
+alike-says s hand (loading line) (feeding form′ piece′ last′ lent′) a = absurd a
 alike-says s hand (loading line) (saving lent′) a = absurd a
 alike-says s hand (loading line) (loading line′) a = ap (λ (l : List ℕ). saidOfLoading (readOf l)) a
 

@@ -2,6 +2,7 @@ pub mod StepLaws
 pub mod ModelLaws
 pub mod ListLaws
 pub mod EveryTrace
+pub mod FormLaws
 pub mod Computing
 pub mod Witnesses
 pub mod EveryText

@@ -37,8 +37,8 @@ use Rattle.checkpoint.specs.declared.Written.the-variants as written
 use Rattle.checkpoint.specs.declared.Restored.{Restored}
 use Rattle.checkpoint.specs.declared.Restored.the-variants as restored
 use Rattle.checkpoint.specs.Line.{lineOf, runOf, writeOf, readOf, loaded, writtenAs, Saved, restoredAs}
-use Rattle.traces.specs.Model.{Setting, Call, feeding, saving, loading, Note, Model, opened, says, next, play, Allowed, AllAllowed}
-use Rattle.traces.specs.Traces.{Result, fed, saved, loaded as restoring, Entry, Meets, handAfter, AllMeet, callsOf, Proper, Trace}
+use Rattle.traces.specs.Model.{Setting, Form, byValue, inRecord, Call, feeding, saving, loading, Note, Model, opened, says, next, play, Allowed, AllAllowed}
+use Rattle.traces.specs.Traces.{Result, fed, fedHere, saved, loaded as restoring, Entry, Meets, handAfter, AllMeet, callsOf, Proper, Trace}
 use Rattle.traces.proofs.StepLaws.{Reads}
 use Rattle.traces.proofs.ModelLaws.{Doing, Fair, Kept, NoteFair, AllFair, kept-start, kept-next, notes-alike}
 
@@ -109,10 +109,16 @@ restored-exists line = by-run (runOf line)
 
 -- For every setting, run in hand and call there is a result that meets the contract: the one that the definitions give.
 pub result-exists : (s : Setting) (hand : Run) (c : Call) → (r : Result) × Meets s hand c r
-result-exists s hand (feeding piece last before) =
+result-exists s hand (feeding byValue piece last before) =
     let c : Called = runCall (s .direction) hand (s .tables) piece last (length before) in
     let (answer, e) = call-numbered (s .direction) hand (s .tables) piece last (length before) in (
       fed (record { answer = answer; read = c .read; written = length (c .output); run = c .run }) (over before (c .output)),
+      record { number = e; read = refl; written = refl; run = refl; lent = refl },
+    )
+result-exists s hand (feeding inRecord piece last before) =
+    let c : Called = runCall (s .direction) hand (s .tables) piece last (length before) in
+    let (answer, e) = call-numbered (s .direction) hand (s .tables) piece last (length before) in (
+      fedHere (record { answer = answer; read = c .read; written = length (c .output) }) (c .run) (over before (c .output)),
       record { number = e; read = refl; written = refl; run = refl; lent = refl },
     )
 result-exists s hand (saving before) =
@@ -204,9 +210,9 @@ never-is : (s : Setting) (hand : Run) (c : Call) (n : ℕ) → says s hand c .nu
 never-is s hand c n e a b d = record { not-12 = λ q. a (sym e ∙ q); not-14 = λ q. b (sym e ∙ q); not-16 = λ q. d (sym e ∙ q) }
 
 module _ (s : Setting) (h : Proper s) (m : Model) (g : Kept s m) where
-  never-feeding : (piece : List ℕ) (last : Bool) (lent : List ℕ) → Allowed s m (feeding piece last lent) → NeverMet s (m .run) (feeding piece last lent)
+  never-feeding : (form : Form) (piece : List ℕ) (last : Bool) (lent : List ℕ) → Allowed s m (feeding form piece last lent) → NeverMet s (m .run) (feeding form piece last lent)
   unfolding says Allowed
-  never-feeding piece last lent (rest, begins, to-end) =
+  never-feeding form piece last lent (rest, begins, to-end) =
       let x = numbers-exact (s .direction) (m .run) (s .tables) piece last (length lent) .refused in
       record {
         not-12 = λ e. x .invalid-run .0 e .1 (rules-exact (m .run) .0 (g .fair .valid));
@@ -233,7 +239,7 @@ module _ (s : Setting) (h : Proper s) (m : Model) (g : Kept s m) where
       by-run (some run) q = never-is s (m .run) (loading line) 0 (rw q) (λ z. omega arith) (λ z. omega arith) (λ z. omega arith)
 
   never-call : (c : Call) → Allowed s m c → NeverMet s (m .run) c
-  never-call (feeding piece last lent) ok = never-feeding piece last lent ok
+  never-call (feeding form piece last lent) ok = never-feeding form piece last lent ok
   never-call (saving lent) ok = never-saving lent
   never-call (loading line) ok = never-loading line
 

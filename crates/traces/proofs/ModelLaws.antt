@@ -29,7 +29,7 @@ use Rattle.convert.proofs.CallLaws.{Valid, valid-facts, Accepted, accepted-fact
 use Rattle.convert.proofs.RunLaws.{start-kept, call-kept, refused-same}
 use Rattle.checkpoint.specs.Line.{lineOf, runOf, sameBytes, PendingFits, writeOf, readOf, loaded}
 use Rattle.checkpoint.proofs.LineLaws.{representable, write-read, one-line-one-run}
-use Rattle.traces.specs.Model.{Setting, Call, feeding, saving, loading, Note, Model, opened, Said, saidOfCall, says, isAccepted, inHand, notedBeside, joinedBy, notedBy, setBackTo, acceptedBy, next, Allowed, wholeOf}
+use Rattle.traces.specs.Model.{Setting, Form, Call, feeding, saving, loading, Note, Model, opened, Said, saidOfCall, says, isAccepted, inHand, notedBeside, joinedBy, notedBy, setBackTo, acceptedBy, next, Allowed, wholeOf}
 use Rattle.traces.specs.Traces.{AllBelow, widthOf, Proper}
 use Rattle.traces.proofs.StepLaws.{Reads, call-reads}
 
@@ -221,11 +221,11 @@ unfolding opened
 kept-start s h = record { fair = fair-start s h; notes = tt }
 
 module _ (s : Setting) (h : Proper s) (m : Model) (g : Kept s m) where
-  kept-feeding : (piece : List ℕ) (last : Bool) (lent : List ℕ) → Allowed s m (feeding piece last lent) → Kept s (next s m (feeding piece last lent))
+  kept-feeding : (form : Form) (piece : List ℕ) (last : Bool) (lent : List ℕ) → Allowed s m (feeding form piece last lent) → Kept s (next s m (feeding form piece last lent))
   unfolding next acceptedBy joinedBy says Allowed refusedCall
-  kept-feeding piece last lent ok = by-test (eqb (refusal (s .direction) (m .run) (s .tables) (length piece)) 0) refl
+  kept-feeding form piece last lent ok = by-test (eqb (refusal (s .direction) (m .run) (s .tables) (length piece)) 0) refl
     where
-      by-test : (t : Bool) → eqb (refusal (s .direction) (m .run) (s .tables) (length piece)) 0 ≡ t → Kept s (next s m (feeding piece last lent))
+      by-test : (t : Bool) → eqb (refusal (s .direction) (m .run) (s .tables) (length piece)) 0 ≡ t → Kept s (next s m (feeding form piece last lent))
       by-test true e =
           let accepted : refusal (s .direction) (m .run) (s .tables) (length piece) ≡ 0 = eqb-true _ _ e in
           let low : isAccepted (runCall (s .direction) (m .run) (s .tables) piece last (length lent) .number) ≡ true =
@@ -281,7 +281,7 @@ module _ (s : Setting) (h : Proper s) (m : Model) (g : Kept s m) where
 
   -- ONE CALL of a list, accepted or refused.
   pub kept-next : (c : Call) → Allowed s m c → Kept s (next s m c)
-  kept-next (feeding piece last lent) ok = kept-feeding s h m g piece last lent ok
+  kept-next (feeding form piece last lent) ok = kept-feeding s h m g form piece last lent ok
   kept-next (saving lent) ok = kept-saving s h m g lent
   kept-next (loading line) ok = kept-loading line ok
 

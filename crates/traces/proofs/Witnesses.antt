@@ -24,9 +24,9 @@ use Rattle.convert.proofs.RunLaws.{refused-same}
 use Rattle.checkpoint.specs.Sample.{sampleRun, sampleLine}
 use Rattle.checkpoint.proofs.Computing.{lineRules}
 use Rattle.checkpoint.proofs.LineLaws.{sample-saved, sample-restored}
-use Rattle.traces.specs.Model.{Setting, Call, feeding, saving, loading, Model, Said, opened, says, play, next, Allowed, AllAllowed}
+use Rattle.traces.specs.Model.{Setting, byValue, Call, feeding, saving, loading, Model, Said, opened, says, play, next, Allowed, AllAllowed}
 use Rattle.traces.specs.Traces.{Entry, AllBelow, widthOf, Meets, observed, AllMeet, handAfter, handAtEnd, callsOf, Proper, Trace}
-use Rattle.traces.specs.Examples.{onSample, interruptedText, interruptedLine, interrupted, encodingOnSample, cutPairText, cutPairLine, cutPair, MeetsNumber, Example, calling, line, sixteenRows, ExamplesHold}
+use Rattle.traces.specs.Examples.{onSample, interruptedText, interruptedLine, interrupted, mixed, encodingOnSample, cutPairText, cutPairLine, cutPair, MeetsNumber, Example, calling, line, sixteenRows, ExamplesHold}
 use Rattle.traces.proofs.ModelLaws.{kept-start}
 use Rattle.traces.proofs.ListLaws.{Played, result-exists, results-exist, fresh-started, TraceOf, traces-exist}
 use Rattle.traces.proofs.EveryTrace.{meets-says, over-list}
@@ -69,6 +69,22 @@ interrupted-kept =
       traced =
           traces-exist (onSample interruptedText) ok interrupted
           ((0x7C ∷ 0x42 ∷ [], refl, λ e. absurd (false≢true e)), (tt, (inl (_, refl), (([], refl, λ e. refl), tt))));
+      joined-is = refl;
+      ended = refl;
+      position-is = refl;
+      flags-are = refl;
+    }
+
+-- BOTH FORMS IN ONE RUN, with a save between: the same text, cut in three, gives the same.
+pub mixed-kept : Kept (onSample interruptedText) mixed (0x0041 ∷ 0x4E00 ∷ 0x0042 ∷ []) 4 0
+unfolding listRules
+mixed-kept =
+    let ok : Proper (onSample interruptedText) = proper (onSample interruptedText) refl refl (omega arith) (omega arith, (omega arith, (omega arith, (omega arith, tt)))) (omega arith) in
+    record {
+      proper′ = ok;
+      traced =
+          traces-exist (onSample interruptedText) ok mixed
+          ((0x7C ∷ 0x42 ∷ [], refl, λ e. absurd (false≢true e)), (tt, (inl (_, refl), (([], refl, λ e. refl), (([], refl, λ e. refl), tt)))));
       joined-is = refl;
       ended = refl;
       position-is = refl;
@@ -161,7 +177,7 @@ long-proper = proper (onSample tooMany) refl refl (omega arith) (below-replicate
 too-long : MeetsNumber (onSample tooMany) 11
 unfolding opened says play Allowed AllAllowed
 too-long =
-    meets (onSample tooMany) long-proper 11 [] (feeding tooMany true (room 0)) (([], sym (append-nil tooMany), λ e. refl), tt)
+    meets (onSample tooMany) long-proper 11 [] (feeding byValue tooMany true (room 0)) (([], sym (append-nil tooMany), λ e. refl), tt)
     (ap (λ (c : Called). c .number) (refused-same Decoding (fresh Decoding 7 replacing) samplePage tooMany true 0 (λ z. omega (arith, z, refused)))
     ∙ unfold refusedCall in refused)
   where
@@ -175,15 +191,15 @@ unfolding listRules
 numbers-met =
     let letter : Proper (onSample (0x41 ∷ [])) = proper (onSample (0x41 ∷ [])) refl refl (omega arith) (omega arith, tt) (omega arith) in
     let none : Proper (onSample []) = proper (onSample []) refl refl (omega arith) tt (omega arith) in (
-      meets (onSample (0x41 ∷ [])) letter 0 [] (feeding (0x41 ∷ []) true (room 1)) (([], refl, λ e. refl), tt) refl,
-      meets (onSample (0x82 ∷ [])) (proper (onSample (0x82 ∷ [])) refl refl (omega arith) (omega arith, tt) (omega arith)) 1 [] (feeding (0x82 ∷ []) false (room 0)) (([], refl, λ e. refl), tt) refl,
-      meets (onSample (0x41 ∷ [])) letter 2 [] (feeding (0x41 ∷ []) true (room 0)) (([], refl, λ e. refl), tt) refl,
+      meets (onSample (0x41 ∷ [])) letter 0 [] (feeding byValue (0x41 ∷ []) true (room 1)) (([], refl, λ e. refl), tt) refl,
+      meets (onSample (0x82 ∷ [])) (proper (onSample (0x82 ∷ [])) refl refl (omega arith) (omega arith, tt) (omega arith)) 1 [] (feeding byValue (0x82 ∷ []) false (room 0)) (([], refl, λ e. refl), tt) refl,
+      meets (onSample (0x41 ∷ [])) letter 2 [] (feeding byValue (0x41 ∷ []) true (room 0)) (([], refl, λ e. refl), tt) refl,
       meets (under (onSample (0x80 ∷ [])) (digits 0 5 5)) (proper (under (onSample (0x80 ∷ [])) (digits 0 5 5)) refl refl (omega arith) (omega arith, tt) (omega arith)) 3 []
-          (feeding (0x80 ∷ []) true (room 0)) (([], refl, λ e. refl), tt) refl,
-      meets (with (onSample []) noTables) (proper (with (onSample []) noTables) refl refl (omega arith) tt (omega arith)) 10 [] (feeding [] false (room 0)) (([], refl, λ e. refl), tt) refl,
+          (feeding byValue (0x80 ∷ []) true (room 0)) (([], refl, λ e. refl), tt) refl,
+      meets (with (onSample []) noTables) (proper (with (onSample []) noTables) refl refl (omega arith) tt (omega arith)) 10 [] (feeding byValue [] false (room 0)) (([], refl, λ e. refl), tt) refl,
       too-long,
-      meets (ofPage (onSample []) 8) (proper (ofPage (onSample []) 8) refl refl (omega arith) tt (omega arith)) 13 [] (feeding [] false (room 0)) (([], refl, λ e. refl), tt) refl,
-      meets (onSample []) none 15 (feeding [] true (room 0) ∷ []) (feeding [] false (room 0)) (([], refl, λ e. refl), (([], refl, λ e. refl), tt)) refl,
+      meets (ofPage (onSample []) 8) (proper (ofPage (onSample []) 8) refl refl (omega arith) tt (omega arith)) 13 [] (feeding byValue [] false (room 0)) (([], refl, λ e. refl), tt) refl,
+      meets (onSample []) none 15 (feeding byValue [] true (room 0) ∷ []) (feeding byValue [] false (room 0)) (([], refl, λ e. refl), (([], refl, λ e. refl), tt)) refl,
       meets (onSample []) none 18 [] (loading []) (inr refl, tt) refl,
       meets (onSample []) none 19 [] (saving (room 0)) (tt, tt) refl,
     )

@@ -14,7 +14,7 @@ use Rattle.convert.specs.declared.Run.{Run}
 use Rattle.convert.specs.Sample.{samplePage, room, Row, RowHolds, rows}
 use Rattle.checkpoint.specs.Line.{writeOf, readOf}
 use Rattle.checkpoint.specs.Sample.{sampleRun, sampleLine}
-use Rattle.traces.specs.Model.{Setting, Call, feeding, saving, loading}
+use Rattle.traces.specs.Model.{Setting, byValue, inRecord, Call, feeding, saving, loading}
 use Rattle.traces.specs.Traces.{Entry, observed, Proper, Trace}
 
 -- a decoding list on the sample page
@@ -31,7 +31,12 @@ interruptedLine = 0x44 ∷ 9 ∷ 0x37 ∷ 9 ∷ 0x35 ∷ 0x35 ∷ 0x35 ∷ 9 ∷
 
 -- its calls: the piece up to 82, line writing, line reading, and the rest marked last
 abbrev pub interrupted : List Call
-interrupted = feeding (0x41 ∷ 0x82 ∷ []) false (room 9) ∷ saving (room 44) ∷ loading interruptedLine ∷ feeding (0x7C ∷ 0x42 ∷ []) true (room 9) ∷ []
+interrupted = feeding byValue (0x41 ∷ 0x82 ∷ []) false (room 9) ∷ saving (room 44) ∷ loading interruptedLine ∷ feeding byValue (0x7C ∷ 0x42 ∷ []) true (room 9) ∷ []
+
+-- A run in both forms (CR 13): its record is updated where it stands up to 82; the run is saved, and read back; the rest is a call by value,
+-- and the last piece, which is empty, is in the record again.
+abbrev pub mixed : List Call
+mixed = feeding inRecord (0x41 ∷ 0x82 ∷ []) false (room 9) ∷ saving (room 44) ∷ loading interruptedLine ∷ feeding byValue (0x7C ∷ 0x42 ∷ []) false (room 9) ∷ feeding inRecord [] true (room 9) ∷ []
 
 -- an encoding list on the sample page
 abbrev pub encodingOnSample : (text : List ℕ) → Setting
@@ -47,7 +52,7 @@ cutPairLine = 0x45 ∷ 9 ∷ 0x37 ∷ 9 ∷ 0x35 ∷ 0x35 ∷ 0x35 ∷ 9 ∷ 0x4
 
 -- its calls: the piece up to D83D, line writing, line reading, and the rest marked last
 abbrev pub cutPair : List Call
-cutPair = feeding (0x0041 ∷ 0xD83D ∷ []) false (room 9) ∷ saving (room 44) ∷ loading cutPairLine ∷ feeding (0xDE00 ∷ 0x0042 ∷ []) true (room 9) ∷ []
+cutPair = feeding byValue (0x0041 ∷ 0xD83D ∷ []) false (room 9) ∷ saving (room 44) ∷ loading cutPairLine ∷ feeding byValue (0xDE00 ∷ 0x0042 ∷ []) true (room 9) ∷ []
 
 -- A trace of a list that meets a number: the last of its calls is answered with it.
 pub record MeetsNumber (s : Setting) (number : ℕ) : Type 0 where

@@ -1,3 +1,4 @@
 pub mod Model
 pub mod Traces
+pub mod Forms
 pub mod Examples

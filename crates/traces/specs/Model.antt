@@ -26,10 +26,16 @@ pub record Setting : Type 0 where
   pub policy : Policy
   pub text : List ℕ
 
--- A call: a run call on a piece of the text, marked last or not; line writing; line reading. `lent` is the lent output before
--- the call; its length is the room.
+-- The two forms of a run call (CR 13): the run is given and given back, or it is a record that is updated where it stands.
+pub data Form : Type 0 where
+  byValue : Form
+  inRecord : Form
+
+-- A call: a run call, in either form, on a piece of the text, marked last or not; line writing; line reading. `lent` is the lent output
+-- before the call; its length is the room. "Demand 3 covers any mixture of the two forms in one run" (CR 13): what follows looks at no
+-- form.
 pub data Call : Type 0 where
-  feeding : (piece : List ℕ) → (last : Bool) → (lent : List ℕ) → Call
+  feeding : Form → (piece : List ℕ) → (last : Bool) → (lent : List ℕ) → Call
   saving : (lent : List ℕ) → Call
   loading : (line : List ℕ) → Call
 
@@ -73,7 +79,7 @@ saidOfLoading l = record { number = l .number; read = 0; output = []; run = l .r
 
 -- The model works it out by the rules, with the run in hand, which run calls and line writing get.
 unfoldable pub says : Setting → (hand : Run) → Call → Said
-says s hand (feeding piece last lent) = saidOfCall (runCall (s .direction) hand (s .tables) piece last (length lent))
+says s hand (feeding form piece last lent) = saidOfCall (runCall (s .direction) hand (s .tables) piece last (length lent))
 says s hand (saving lent) = saidOfSaving (writeOf hand (length lent))
 says s hand (loading line) = saidOfLoading (readOf line)
 
@@ -121,7 +127,7 @@ setBackTo m a (some n) = record { run = inHand (m .run) (a .run); position = n .
 
 -- what an accepted call of each sort changes in the model
 unfoldable pub acceptedBy : Model → Call → Said → Model
-acceptedBy m (feeding piece last lent) a = joinedBy m last a
+acceptedBy m (feeding form piece last lent) a = joinedBy m last a
 acceptedBy m (saving lent) a = notedBy m a
 acceptedBy m (loading line) a = setBackTo m a (notedBeside line (m .notes))
 
@@ -137,7 +143,7 @@ play s m (c ∷ cs) = play s (next s m c) cs
 -- Which calls a list may have: a piece of the text that begins at the position, marked last only if it reaches the text's end;
 -- a line that an earlier call wrote, or a text refused with 18.
 unfoldable pub Allowed : Setting → Model → Call → Type 0
-Allowed s m (feeding piece last lent) = (rest : List ℕ) × (drop (m .position) (s .text) ≡ piece ++ rest) × (last ≡ true → rest ≡ [])
+Allowed s m (feeding form piece last lent) = (rest : List ℕ) × (drop (m .position) (s .text) ≡ piece ++ rest) × (last ≡ true → rest ≡ [])
 Allowed s m (saving lent) = Unit {0}
 Allowed s m (loading line) = ((n : Note) × (notedBeside line (m .notes) ≡ some n)) ⊎ (readOf line .number ≡ 18)
 

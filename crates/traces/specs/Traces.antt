@@ -18,11 +18,15 @@ use Rattle.codepage.specs.Lent.{over}
 use Rattle.checkpoint.specs.declared.Written.{Written}
 use Rattle.checkpoint.specs.declared.Restored.{Restored}
 use Rattle.checkpoint.specs.Line.{writeOf, readOf, writtenAs, Saved, restoredAs}
-use Rattle.traces.specs.Model.{Setting, Call, feeding, saving, loading, Said, says, saidOfLoading, isAccepted, inHand, Model, opened, next, play, AllAllowed, wholeOf}
+use Rattle.runrecord.specs.declared.Here.{Here}
+use Rattle.runrecord.specs.Records.{outcomeOf}
+use Rattle.traces.specs.Model.{Setting, Form, byValue, inRecord, Call, feeding, saving, loading, Said, says, saidOfLoading, isAccepted, inHand, Model, opened, next, play, AllAllowed, wholeOf}
 
--- What the program returned for a call, with the lent output after it.
+-- What the program returned for a call, with the lent output after it; for a run call in the record form, with what the record holds
+-- then.
 pub data Result : Type 0 where
   fed : Outcome → (lent : List ℕ) → Result
+  fedHere : Here → (held : Run) → (lent : List ℕ) → Result
   saved : Written → (lent : List ℕ) → Result
   loaded : Restored → Result
 
@@ -31,22 +35,34 @@ pub record Entry : Type 0 where
   pub call : Call
   pub result : Result
 
--- The contracts of the program's calls, for the run in hand: the definitions that the contracts of decode, encode, write and
--- read cite, and nothing else.
+-- The contracts of the program's calls, for the run in hand: the definitions that the contracts of decode, encode, decode_here,
+-- encode_here, write and read cite, and nothing else. The record of a call in the record form holds the run in hand before it.
 abbrev pub Meets : Setting → (hand : Run) → Call → Result → Type 0
-Meets s hand (feeding piece last before) (fed r after) = Answered (runCall (s .direction) hand (s .tables) piece last (length before)) r before after
-Meets s hand (feeding piece last before) (saved r after) = ⊥
-Meets s hand (feeding piece last before) (loaded r) = ⊥
+Meets s hand (feeding byValue piece last before) (fed r after) = Answered (runCall (s .direction) hand (s .tables) piece last (length before)) r before after
+Meets s hand (feeding byValue piece last before) (fedHere r held after) = ⊥
+Meets s hand (feeding byValue piece last before) (saved r after) = ⊥
+Meets s hand (feeding byValue piece last before) (loaded r) = ⊥
+Meets s hand (feeding inRecord piece last before) (fed r after) = ⊥
+Meets s hand (feeding inRecord piece last before) (fedHere r held after) = Answered (runCall (s .direction) hand (s .tables) piece last (length before)) (outcomeOf r held) before after
+Meets s hand (feeding inRecord piece last before) (saved r after) = ⊥
+Meets s hand (feeding inRecord piece last before) (loaded r) = ⊥
 Meets s hand (saving before) (fed r after) = ⊥
+Meets s hand (saving before) (fedHere r held after) = ⊥
 Meets s hand (saving before) (saved r after) = Saved (writeOf hand (length before)) r before after
 Meets s hand (saving before) (loaded r) = ⊥
 Meets s hand (loading line) (fed r after) = ⊥
+Meets s hand (loading line) (fedHere r held after) = ⊥
 Meets s hand (loading line) (saved r after) = ⊥
 Meets s hand (loading line) (loaded r) = restoredAs r ≡ readOf line
 
--- What is seen of a result: number, units read, what was written, and the run returned.
+-- what is seen of a run call: number, units read, what was written, and the run
+abbrev pub seenOf : Outcome → (lent : List ℕ) → Said
+seenOf r after = record { number = numberOf (r .answer); read = r .read; output = take (r .written) after; run = some (r .run) }
+
+-- What is seen of a result: number, units read, what was written, and the run returned, or held by the record.
 unfoldable pub observed : Result → Said
-observed (fed r after) = record { number = numberOf (r .answer); read = r .read; output = take (r .written) after; run = some (r .run) }
+observed (fed r after) = seenOf r after
+observed (fedHere r held after) = seenOf (outcomeOf r held) after
 observed (saved r after) = record { number = writtenAs r .number; read = 0; output = take (writtenAs r .size) after; run = none }
 observed (loaded r) = saidOfLoading (restoredAs r)
 
@@ -71,13 +87,14 @@ callsOf (e ∷ es) = e .call ∷ callsOf es
 
 -- the lent output before a call; line reading has none
 abbrev pub lentBefore : Call → List ℕ
-lentBefore (feeding piece last lent) = lent
+lentBefore (feeding form piece last lent) = lent
 lentBefore (saving lent) = lent
 lentBefore (loading line) = []
 
 -- the lent output after a call; line reading has none
 abbrev pub lentAfter : Result → List ℕ
 lentAfter (fed r lent) = lent
+lentAfter (fedHere r held lent) = lent
 lentAfter (saved r lent) = lent
 lentAfter (loaded r) = []
 
@@ -87,15 +104,15 @@ AllAgree s m [] = Unit {0}
 AllAgree s m (e ∷ es) =
     (observed (e .result) ≡ says s (m .run) (e .call)) × (lentAfter (e .result) ≡ over (lentBefore (e .call)) (says s (m .run) (e .call) .output)) × AllAgree s (next s m (e .call)) es
 
--- Calls alike in piece, mark, line read and length of room.
+-- Calls alike in piece, mark, line read and length of room, in whichever form.
 abbrev pub Alike : Call → Call → Type 0
-Alike (feeding piece last lent) (feeding piece′ last′ lent′) = (piece ≡ piece′) × (last ≡ last′) × (length lent ≡ length lent′)
-Alike (feeding piece last lent) (saving lent′) = ⊥
-Alike (feeding piece last lent) (loading line′) = ⊥
-Alike (saving lent) (feeding piece′ last′ lent′) = ⊥
+Alike (feeding form piece last lent) (feeding form′ piece′ last′ lent′) = (piece ≡ piece′) × (last ≡ last′) × (length lent ≡ length lent′)
+Alike (feeding form piece last lent) (saving lent′) = ⊥
+Alike (feeding form piece last lent) (loading line′) = ⊥
+Alike (saving lent) (feeding form′ piece′ last′ lent′) = ⊥
 Alike (saving lent) (saving lent′) = length lent ≡ length lent′
 Alike (saving lent) (loading line′) = ⊥
-Alike (loading line) (feeding piece′ last′ lent′) = ⊥
+Alike (loading line) (feeding form′ piece′ last′ lent′) = ⊥
 Alike (loading line) (saving lent′) = ⊥
 Alike (loading line) (loading line′) = line ≡ line′
 
