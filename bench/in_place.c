@@ -9,21 +9,17 @@ static const struct {
     int page;
 } texts[] = {{"ascii", 0}, {"japanese", 0}, {"journal", 0}, {"latin", 1}, {"emoji", 0}};
 static const size_t sizes[] = {512, 8192, 65536}; /* bytes of a buffer */
-static uint16_t units[32768];
-static uint8_t out[65537], buffer[65536];
+static uint8_t out[65537];
 
-/* One pass over a text, a buffer of `size` bytes a call: the bytes written. Each way is given its units anew, by a copy. */
-static size_t pass(enum way way, const table_set *t, const uint8_t *text, size_t all, size_t size)
+/* One pass over a text, a buffer of `size` bytes a call: the bytes written. In place the text is changed. */
+static size_t pass(enum way way, const table_set *t, uint8_t *text, size_t all, size_t size)
 {
     size_t sum = 0;
     for (size_t at = 0; at + size <= all; at += size) {
-        if (way == SEPARATE) {
-            memcpy(units, text + at, size);
-            sum += till_encode_text(TILL_REPLACING, TABLES(t), units, size / 2, out, size + 1).written;
-        } else {
-            memcpy(buffer, text + at, size);
-            sum += till_encode_in_place(TILL_REPLACING, TABLES(t), buffer, size).written;
-        }
+        if (way == SEPARATE)
+            sum += till_encode_text(TILL_REPLACING, TABLES(t), (const uint16_t *)(text + at), size / 2, out, size + 1).written;
+        else
+            sum += till_encode_in_place(TILL_REPLACING, TABLES(t), text + at, size).written;
     }
     return sum;
 }
@@ -46,16 +42,20 @@ int main(int argc, char **argv)
             size_t all, sums[WAYS] = {0};
             double best[WAYS] = {1e9, 1e9};
             snprintf(path, sizeof path, "%s/%s.units", argv[1], texts[k].name);
-            uint8_t *text = read_file(path, &all);
+            uint8_t *text = read_file(path, &all), *units = malloc(all);
+            if (!units)
+                die("no memory");
             for (int turn = 0; turn < atoi(argv[3]); turn++)
                 for (enum way way = SEPARATE; way < WAYS; way++) {
+                    memcpy(units, text, all);
                     double from = now();
-                    sums[way] = pass(way, &pages[texts[k].page], text, all, sizes[b]);
+                    sums[way] = pass(way, &pages[texts[k].page], units, all, sizes[b]);
                     double took = now() - from;
                     if (took < best[way])
                         best[way] = took;
                 }
             free(text);
+            free(units);
             if (sums[SEPARATE] != sums[IN_PLACE])
                 die("another number of bytes was written");
             double ratio = best[SEPARATE] / best[IN_PLACE];
