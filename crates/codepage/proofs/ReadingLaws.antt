@@ -26,12 +26,12 @@ module _ (r : Reader) (last : Bool) where
   unfolding callCodes completed waitsThen
   codes-one a l e = rw e
 
-  -- a waiting unit and the one after it that are one code
+  -- a pending unit and the one after it that are one code
   pub codes-two : (c b : ℕ) (l : List ℕ) → r .joins c b ≡ true → callCodes r last (some c) (b ∷ l) ≡ together r c b ∷ callCodes r last none l
   unfolding callCodes settled completed waitsThen
   codes-two c b l e = rw e
 
-  -- a waiting unit that is a code alone; the next is read afresh
+  -- a pending unit that is a code alone; the next is read afresh
   pub codes-alone : (c b : ℕ) (l : List ℕ) → r .joins c b ≡ false → callCodes r last (some c) (b ∷ l) ≡ alone r c ∷ callCodes r last none (b ∷ l)
   unfolding callCodes settled completed waitsThen
   codes-alone c b l e = rw e
@@ -46,30 +46,30 @@ module _ (r : Reader) (last : Bool) where
       by-next true e = codes-two c b l e
       by-next false e = codes-alone c b l e
 
-  pub waiting-wait : (a : ℕ) (l : List ℕ) → r .waits a ≡ true → leftPending r last none (a ∷ l) ≡ leftPending r last (some a) l
+  pub left-wait : (a : ℕ) (l : List ℕ) → r .waits a ≡ true → leftPending r last none (a ∷ l) ≡ leftPending r last (some a) l
   unfolding leftPending waitsThen
-  waiting-wait a l e = rw e
+  left-wait a l e = rw e
 
-  pub waiting-one : (a : ℕ) (l : List ℕ) → r .waits a ≡ false → leftPending r last none (a ∷ l) ≡ leftPending r last none l
+  pub left-one : (a : ℕ) (l : List ℕ) → r .waits a ≡ false → leftPending r last none (a ∷ l) ≡ leftPending r last none l
   unfolding leftPending waitsThen
-  waiting-one a l e = rw e
+  left-one a l e = rw e
 
-  pub waiting-two : (c b : ℕ) (l : List ℕ) → r .joins c b ≡ true → leftPending r last (some c) (b ∷ l) ≡ leftPending r last none l
+  pub left-two : (c b : ℕ) (l : List ℕ) → r .joins c b ≡ true → leftPending r last (some c) (b ∷ l) ≡ leftPending r last none l
   unfolding leftPending waitsThen
-  waiting-two c b l e = rw e
+  left-two c b l e = rw e
 
-  pub waiting-alone : (c b : ℕ) (l : List ℕ) → r .joins c b ≡ false → leftPending r last (some c) (b ∷ l) ≡ leftPending r last none (b ∷ l)
+  pub left-alone : (c b : ℕ) (l : List ℕ) → r .joins c b ≡ false → leftPending r last (some c) (b ∷ l) ≡ leftPending r last none (b ∷ l)
   unfolding leftPending waitsThen
-  waiting-alone c b l e = rw e
+  left-alone c b l e = rw e
 
   -- what is pending at the end is what is pending behind the code that the next unit settles
-  pub waiting-settled : (c b : ℕ) (l : List ℕ) → leftPending r last (some c) (b ∷ l) ≡ leftPending r last none (drop (sizeOf (settled r c b)) (c ∷ b ∷ l))
+  pub left-settled : (c b : ℕ) (l : List ℕ) → leftPending r last (some c) (b ∷ l) ≡ leftPending r last none (drop (sizeOf (settled r c b)) (c ∷ b ∷ l))
   unfolding settled
-  waiting-settled c b l = by-next (r .joins c b) refl
+  left-settled c b l = by-next (r .joins c b) refl
     where
       by-next : (t : Bool) → r .joins c b ≡ t → leftPending r last (some c) (b ∷ l) ≡ leftPending r last none (drop (sizeOf (pick t (together r c b) (alone r c))) (c ∷ b ∷ l))
-      by-next true e = waiting-two c b l e
-      by-next false e = waiting-alone c b l e
+      by-next true e = left-two c b l e
+      by-next false e = left-alone c b l e
 
 -- What holds at the end, and with each unit more, holds of every pending unit and all units.
 pub record EachUnit (r : Reader) (P : Option ℕ → List ℕ → Type 0) : Type 0 where
@@ -115,10 +115,10 @@ covers r last =
     (record {
       end-none = covers-end r last none;
       end-some = λ c. covers-end r last (some c);
-      wait = λ a l e h. rw (codes-wait r last a l e, waiting-wait r last a l e) h;
-      one = λ a l e h. rw (codes-one r last a l e, waiting-one r last a l e) (ap (λ (xs : List ℕ). a ∷ xs) h);
-      two = λ c b l e h. rw (codes-two r last c b l e, waiting-two r last c b l e) (ap (λ (xs : List ℕ). c ∷ b ∷ xs) h);
-      alone = λ c b l e h. rw (codes-alone r last c b l e, waiting-alone r last c b l e) (ap (λ (xs : List ℕ). c ∷ xs) h);
+      wait = λ a l e h. rw (codes-wait r last a l e, left-wait r last a l e) h;
+      one = λ a l e h. rw (codes-one r last a l e, left-one r last a l e) (ap (λ (xs : List ℕ). a ∷ xs) h);
+      two = λ c b l e h. rw (codes-two r last c b l e, left-two r last c b l e) (ap (λ (xs : List ℕ). c ∷ b ∷ xs) h);
+      alone = λ c b l e h. rw (codes-alone r last c b l e, left-alone r last c b l e) (ap (λ (xs : List ℕ). c ∷ xs) h);
     })
 
 -- how many units some codes have
@@ -143,7 +143,7 @@ unfolding leftPending
 none-waits r p [] = refl
 none-waits r p (a ∷ l) = none-waits r (waitsThen r p a) l
 
--- ---- the code of a waiting unit: its first unit is the one that waited, and it has at most one more
+-- ---- the code of a pending unit: its first unit is the one that waited, and it has at most one more
 pub settled-first : (r : Reader) (c b : ℕ) → settled r c b .first ≡ c
 unfolding settled
 settled-first r c b = by-next (r .joins c b)
@@ -152,7 +152,7 @@ settled-first r c b = by-next (r .joins c b)
     by-next true = refl
     by-next false = refl
 
--- the code of a waiting unit has at most one unit after the first
+-- the code of a pending unit has at most one unit after the first
 pub more-le : (r : Reader) (c b : ℕ) → length (settled r c b .more) ≤ 1
 unfolding settled
 more-le r c b = by-next (r .joins c b)

@@ -63,11 +63,11 @@ bytesOf code = pick (leb code 0xFF) (code ∷ []) (code / 256 ∷ code % 256 ∷
 pub record Reader : Type 0 where
   -- whether a unit needs a second one
   pub waits : ℕ → Bool
-  -- whether a waiting unit and the one after it are one code
+  -- whether a pending unit and the one after it are one code
   pub joins : ℕ → ℕ → Bool
   -- a unit alone
   pub one : ℕ → Lookup
-  -- a waiting unit and the one after it
+  -- a pending unit and the one after it
   pub two : ℕ → ℕ → Lookup
   -- what is written for what was found
   pub writes : ℕ → List ℕ
@@ -116,11 +116,11 @@ sizeOf k = length (unitsOf k)
 abbrev pub alone : Reader → ℕ → Code
 alone r a = record { first = a; more = []; means = r .one a }
 
--- the code that a waiting unit and the one after it are
+-- the code that a pending unit and the one after it are
 abbrev pub together : Reader → ℕ → ℕ → Code
 together r a b = record { first = a; more = b ∷ []; means = r .two a b }
 
--- The code of a waiting unit, settled by the one after it: both, or the waiting one alone, and then the next is read afresh.
+-- The code of a pending unit, settled by the one after it: both, or the pending one alone, and then the next is read afresh.
 unfoldable pub settled : Reader → ℕ → ℕ → Code
 settled r c b = pick (r .joins c b) (together r c b) (alone r c)
 
@@ -144,7 +144,7 @@ unfoldable pub waitsThen : Reader → Option ℕ → ℕ → Option ℕ
 waitsThen r none a = freshWaits r a
 waitsThen r (some c) a = pick (r .joins c a) none (freshWaits r a)
 
--- behind the final unit: at the end of the whole text (`last`) a unit that waits is a code alone, else it goes on waiting
+-- behind the final unit: at the end of the whole text (`last`) a unit that waits is a code alone, else it stays pending
 unfoldable pub codesAtEnd : Reader → (last : Bool) → Option ℕ → List Code
 codesAtEnd r last none = []
 codesAtEnd r last (some c) = pick last (alone r c ∷ []) []
@@ -159,7 +159,7 @@ unfoldable pub leftPending : Reader → (last : Bool) → Option ℕ → List �
 leftPending r last pending [] = pick last none pending
 leftPending r last pending (a ∷ units) = leftPending r last (waitsThen r pending a) units
 
--- a waiting unit or none, as a list
+-- a pending unit or none, as a list
 abbrev pub asUnits : Option ℕ → List ℕ
 asUnits none = []
 asUnits (some c) = c ∷ []

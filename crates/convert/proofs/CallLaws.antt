@@ -211,7 +211,7 @@ module _ (direction : Direction) (run : Run) (p : CodePage) (count first : ℕ) 
       by-checks false b x y q = absurd (omega arith)
 
 -- ---- what is pending
--- a waiting unit or none, as a list
+-- a pending unit or none, as a list
 abbrev pub pendingUnits : Pending → List ℕ
 pendingUnits pending = asUnits (pendingUnit pending)
 

@@ -66,8 +66,8 @@ module _ (direction : Direction) (run : Run) (p : CodePage) (piece : List ℕ) (
   abbrev ks : List Code
   ks = codesOfCall direction run p piece last
 
-  abbrev waiting : Option ℕ
-  waiting = leftPending (readerOf direction p) last (pendingUnit (run .pending)) piece
+  abbrev still-pending : Option ℕ
+  still-pending = leftPending (readerOf direction p) last (pendingUnit (run .pending)) piece
 
   f : Fed
   f = fedBy direction run p piece last room
@@ -85,12 +85,12 @@ module _ (direction : Direction) (run : Run) (p : CodePage) (piece : List ℕ) (
   units : length (pendingUnits (run .pending) ++ piece) ≡ pendingCount (run .pending) + length piece
   units = length-append (pendingUnits (run .pending)) piece
 
-  exact : Exact v (limit room) ks waiting f
+  exact : Exact v (limit room) ks still-pending f
   unfolding f fedBy converter
   exact = answers-exact v last (limit room) (pendingUnit (run .pending)) piece
 
-  cases : AnswerCases v (limit room) ks waiting (f .answer)
-  cases = answer-cases v (limit room) ks waiting f exact
+  cases : AnswerCases v (limit room) ks still-pending (f .answer)
+  cases = answer-cases v (limit room) ks still-pending f exact
 
   -- what is read and pending then
   read-used : (f .answer ≡ 1 → ⊥) → read′ ≡ f .used - pendingCount (run .pending)
@@ -141,7 +141,7 @@ module _ (direction : Direction) (run : Run) (p : CodePage) (piece : List ℕ) (
 
   used-less : DoesNotFit direction run p piece last room → f .used < pendingCount (run .pending) + length piece
   used-less n =
-      let all : sizesOf ks + length (asUnits waiting) ≡ length (asUnits (pendingUnit (run .pending))) + length piece =
+      let all : sizesOf ks + length (asUnits still-pending) ≡ length (asUnits (pendingUnit (run .pending))) + length piece =
       sizes-cover (readerOf direction p) last (pendingUnit (run .pending)) piece in
       let part : sizesOf (n .taken) < sizesOf ks = subst (λ (l : List Code). sizesOf (n .taken) < sizesOf l) (sym (n .split)) (sizes-split (n .taken) (n .code) (n .behind)) in
       omega (arith, ap (λ (x : Fed). x .used) (exact .full n))
@@ -198,7 +198,7 @@ module _ (direction : Direction) (run : Run) (p : CodePage) (piece : List ℕ) (
       low (some c) e = omega arith
 
       by-case : Goes v (limit room) ks ⊎ (StopsAt v (limit room) ks ⊎ NoRoomAt v (limit room) ks) → f .answer ≡ 0
-      by-case (inl g) = by-answer (eqb (f .answer) 0) refl (low waiting (ap (λ (x : Fed). x .answer) (exact .all-taken g)))
+      by-case (inl g) = by-answer (eqb (f .answer) 0) refl (low still-pending (ap (λ (x : Fed). x .answer) (exact .all-taken g)))
       by-case (inr (inl g)) = absurd (s g)
       by-case (inr (inr g)) = absurd (not-all g (cases .full .1 g) r q)
 
@@ -210,7 +210,7 @@ module _ (direction : Direction) (run : Run) (p : CodePage) (piece : List ℕ) (
       low (some c) e = e
 
       by-case : Goes v (limit room) ks ⊎ (StopsAt v (limit room) ks ⊎ NoRoomAt v (limit room) ks) → f .answer ≡ 1
-      by-case (inl g) = low waiting (ap (λ (x : Fed). x .answer) (exact .all-taken g))
+      by-case (inl g) = low still-pending (ap (λ (x : Fed). x .answer) (exact .all-taken g))
       by-case (inr (inl g)) = absurd (other-pending byte (three-pending (cases .stopped .1 g)) q)
       by-case (inr (inr g)) = absurd (not-pending l g (cases .full .1 g) r byte q)
 

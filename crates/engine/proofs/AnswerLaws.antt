@@ -129,15 +129,15 @@ module _ (v : Converter) where
   goes-more room k ks s f g = record { none-stops = (s, g .none-stops); fitting = rw (total-more k ks) (sym (fits-behind room (size k) (total ks) f) ∙ g .fitting) }
 
   -- Codes that are taken, and then the rest in what is left of the room.
-  pub past : (room : Room) (taken rest : List Code) (waiting : Option ℕ) → Goes v room taken
-      → takeCodes v room (taken ++ rest) waiting ≡ after (sizesOf taken) (writesOf v taken) (flagsOf v taken) (takeCodes v (roomLeft room (total taken)) rest waiting)
+  pub past : (room : Room) (taken rest : List Code) (pending : Option ℕ) → Goes v room taken
+      → takeCodes v room (taken ++ rest) pending ≡ after (sizesOf taken) (writesOf v taken) (flagsOf v taken) (takeCodes v (roomLeft room (total taken)) rest pending)
   unfolding takeCodes takeCode takeWhen
-  past room [] rest waiting g = rw (less-none room) (sym (after-none _))
-  past room (k ∷ taken) rest waiting g =
+  past room [] rest pending g = rw (less-none room) (sym (after-none _))
+  past room (k ∷ taken) rest pending g =
       rw (g .none-stops .0, goes-first room k taken g)
-      (ap (after (sizeOf k) (v .does k .writes) (v .does k .flag)) (past (roomLeft room (size k)) taken rest waiting (goes-rest room k taken g))
+      (ap (after (sizeOf k) (v .does k .writes) (v .does k .flag)) (past (roomLeft room (size k)) taken rest pending (goes-rest room k taken g))
       ∙ sym (after-after (sizeOf k) (sizesOf taken) (v .does k .writes) (writesOf v taken) (v .does k .flag) (flagsOf v taken) _)
-      ∙ ap (λ (r : Room). after (sizeOf k + sizesOf taken) (v .does k .writes ++ writesOf v taken) (bitOr (v .does k .flag) (flagsOf v taken)) (takeCodes v r rest waiting))
+      ∙ ap (λ (r : Room). after (sizeOf k + sizesOf taken) (v .does k .writes ++ writesOf v taken) (bitOr (v .does k .flag) (flagsOf v taken)) (takeCodes v r rest pending))
       (less-less room (size k) (total taken) ∙ ap (roomLeft room) (sym (total-more k taken))))
 
   -- ---- what is given in each case
@@ -148,24 +148,24 @@ module _ (v : Converter) where
       add-none : (n : ℕ) → n + 0 ≡ n
       add-none n = omega arith
 
-  module _ (room : Room) (ks : List Code) (waiting : Option ℕ) where
+  module _ (room : Room) (ks : List Code) (pending : Option ℕ) where
     abbrev given : Fed
-    given = takeCodes v room ks waiting
+    given = takeCodes v room ks pending
 
-    when-all : Goes v room ks → given ≡ took v ks (atEnd waiting)
+    when-all : Goes v room ks → given ≡ took v ks (atEnd pending)
     unfolding takeCodes
-    when-all g = ap (λ (l : List Code). takeCodes v room l waiting) (sym (append-nil ks)) ∙ past room ks [] waiting g ∙ after-halt ks (atEnd waiting)
+    when-all g = ap (λ (l : List Code). takeCodes v room l pending) (sym (append-nil ks)) ∙ past room ks [] pending g ∙ after-halt ks (atEnd pending)
 
     when-stops : (s : StopsAt v room ks) → given ≡ tookUntil v (s .taken) (s .code)
     unfolding takeCodes takeCode takeWhen stopAt after
     when-stops s =
-        ap (λ (l : List Code). takeCodes v room l waiting) (s .split) ∙ past room (s .taken) (s .code ∷ s .behind) waiting (s .goes)
+        ap (λ (l : List Code). takeCodes v room l pending) (s .split) ∙ past room (s .taken) (s .code ∷ s .behind) pending (s .goes)
         ∙ rw (s .stops, append-nil (writesOf v (s .taken)))
 
     when-full : (s : NoRoomAt v room ks) → given ≡ took v (s .taken) 2
     unfolding takeCodes takeCode takeWhen
     when-full s =
-        ap (λ (l : List Code). takeCodes v room l waiting) (s .split) ∙ past room (s .taken) (s .code ∷ s .behind) waiting (s .goes)
+        ap (λ (l : List Code). takeCodes v room l pending) (s .split) ∙ past room (s .taken) (s .code ∷ s .behind) pending (s .goes)
         ∙ rw (s .on, fits-behind room (total (s .taken)) (size (s .code)) (s .goes .fitting), s .large) (after-halt (s .taken) 2)
 
   -- ---- one of the cases holds
@@ -212,9 +212,9 @@ module _ (v : Converter) where
   ending room (k ∷ ks) = ending-first room k ks (v .does k .stops) (fits room (size k)) refl refl (ending (roomLeft room (size k)) ks)
 
 -- What a call gives, in each of its cases, and that one of them holds.
-pub record Exact (v : Converter) (room : Room) (ks : List Code) (waiting : Option ℕ) (f : Fed) : Type 0 where
+pub record Exact (v : Converter) (room : Room) (ks : List Code) (pending : Option ℕ) (f : Fed) : Type 0 where
   -- all codes are taken: 0, or 1 where a unit waits behind them
-  pub all-taken : Goes v room ks → f ≡ took v ks (atEnd waiting)
+  pub all-taken : Goes v room ks → f ≡ took v ks (atEnd pending)
   -- stopped: 3
   pub stopped : (s : StopsAt v room ks) → f ≡ tookUntil v (s .taken) (s .code)
   -- the next code does not fit: 2; it is not written, and its units are not among those used
@@ -222,12 +222,12 @@ pub record Exact (v : Converter) (room : Room) (ks : List Code) (waiting : Optio
   pub one-of-them : Goes v room ks ⊎ (StopsAt v room ks ⊎ NoRoomAt v room ks)
 
 -- what taking codes gives is exact, whatever the room and the unit behind them
-pub codes-exact : (v : Converter) (room : Room) (ks : List Code) (waiting : Option ℕ) → Exact v room ks waiting (takeCodes v room ks waiting)
-codes-exact v room ks waiting =
+pub codes-exact : (v : Converter) (room : Room) (ks : List Code) (pending : Option ℕ) → Exact v room ks pending (takeCodes v room ks pending)
+codes-exact v room ks pending =
     record {
-      all-taken = when-all v room ks waiting;
-      stopped = when-stops v room ks waiting;
-      full = when-full v room ks waiting;
+      all-taken = when-all v room ks pending;
+      stopped = when-stops v room ks pending;
+      full = when-full v room ks pending;
       one-of-them = ending v room ks;
     }
 
@@ -239,14 +239,14 @@ unfolding feedFrom
 answers-exact v last room p l = codes-exact v room (callCodes (v .reader) last p l) (leftPending (v .reader) last p l)
 
 -- EACH ANSWER EXACTLY IN ITS CASE.
-pub record AnswerCases (v : Converter) (room : Room) (ks : List Code) (waiting : Option ℕ) (answer : ℕ) : Type 0 where
-  pub all-read : (answer ≡ 0) ↔ (Goes v room ks × (waiting ≡ none))
-  pub waits : (answer ≡ 1) ↔ (Goes v room ks × ((c : ℕ) × (waiting ≡ some c)))
+pub record AnswerCases (v : Converter) (room : Room) (ks : List Code) (pending : Option ℕ) (answer : ℕ) : Type 0 where
+  pub all-read : (answer ≡ 0) ↔ (Goes v room ks × (pending ≡ none))
+  pub waits : (answer ≡ 1) ↔ (Goes v room ks × ((c : ℕ) × (pending ≡ some c)))
   pub full : (answer ≡ 2) ↔ NoRoomAt v room ks
   pub stopped : (answer ≡ 3) ↔ StopsAt v room ks
 
-module _ (v : Converter) (room : Room) (ks : List Code) (waiting : Option ℕ) (f : Fed) (x : Exact v room ks waiting f) where
-  answer-all : Goes v room ks → f .answer ≡ atEnd waiting
+module _ (v : Converter) (room : Room) (ks : List Code) (pending : Option ℕ) (f : Fed) (x : Exact v room ks pending f) where
+  answer-all : Goes v room ks → f .answer ≡ atEnd pending
   answer-all g = ap (λ (r : Fed). r .answer) (x .all-taken g)
 
   answer-stopped : StopsAt v room ks → f .answer ≡ 3
@@ -273,25 +273,25 @@ module _ (v : Converter) (room : Room) (ks : List Code) (waiting : Option ℕ) (
   low-goes h (inr (inr s)) = absurd (omega (arith, answer-full s))
 
   is-full : f .answer ≡ 2 → Goes v room ks ⊎ (StopsAt v room ks ⊎ NoRoomAt v room ks) → NoRoomAt v room ks
-  is-full e (inl g) = absurd (omega (arith, answer-all g, at-end-low waiting))
+  is-full e (inl g) = absurd (omega (arith, answer-all g, at-end-low pending))
   is-full e (inr (inl s)) = absurd (omega (arith, answer-stopped s))
   is-full e (inr (inr s)) = s
 
   is-stopped : f .answer ≡ 3 → Goes v room ks ⊎ (StopsAt v room ks ⊎ NoRoomAt v room ks) → StopsAt v room ks
-  is-stopped e (inl g) = absurd (omega (arith, answer-all g, at-end-low waiting))
+  is-stopped e (inl g) = absurd (omega (arith, answer-all g, at-end-low pending))
   is-stopped e (inr (inl s)) = s
   is-stopped e (inr (inr s)) = absurd (omega (arith, answer-full s))
 
   -- of a call that is exact, each answer is given exactly in its case
-  pub answer-cases : AnswerCases v room ks waiting (f .answer)
+  pub answer-cases : AnswerCases v room ks pending (f .answer)
   answer-cases =
       record {
         all-read = (
-          λ e. let g = low-goes (omega arith) (x .one-of-them) in (g, end-none waiting (sym (answer-all g) ∙ e)),
+          λ e. let g = low-goes (omega arith) (x .one-of-them) in (g, end-none pending (sym (answer-all g) ∙ e)),
           λ h. answer-all (h .0) ∙ ap atEnd (h .1),
         );
         waits = (
-          λ e. let g = low-goes (omega arith) (x .one-of-them) in (g, end-some waiting (sym (answer-all g) ∙ e)),
+          λ e. let g = low-goes (omega arith) (x .one-of-them) in (g, end-some pending (sym (answer-all g) ∙ e)),
           λ h. answer-all (h .0) ∙ ap atEnd (h .1 .1),
         );
         full = (λ e. is-full e (x .one-of-them), answer-full);

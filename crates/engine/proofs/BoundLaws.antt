@@ -66,11 +66,11 @@ kept-take m n k f false true h w g =
 kept-take m n k f false false h w g = record { output = omega arith; flags = omega arith; low = λ z. omega arith }
 
 module _ (m : ℕ) (v : Converter) (bounded : Bounded m v) where
-  kept-codes : (room : Room) (ks : List Code) (waiting : Option ℕ) → Kept m (takeCodes v room ks waiting)
+  kept-codes : (room : Room) (ks : List Code) (pending : Option ℕ) → Kept m (takeCodes v room ks pending)
   unfolding takeCodes takeCode
   kept-codes room [] none = kept-halt m 0 (λ z. omega arith)
   kept-codes room [] (some c) = kept-halt m 1 (λ z. omega arith)
-  kept-codes room (k ∷ ks) waiting = kept-take m (sizeOf k) (v .does k) _ _ _ (omega arith) (bounded .each k) (kept-codes (roomLeft room (length (v .does k .writes))) ks waiting)
+  kept-codes room (k ∷ ks) pending = kept-take m (sizeOf k) (v .does k) _ _ _ (omega arith) (bounded .each k) (kept-codes (roomLeft room (length (v .does k .writes))) ks pending)
 
   -- every call keeps the bounds, whatever its room and what is pending
   pub kept-from : (last : Bool) (room : Room) (p : Option ℕ) (l : List ℕ) → Kept m (feedFrom v last room p l)
@@ -83,14 +83,14 @@ module _ (m : ℕ) (v : Converter) (bounded : Bounded m v) where
   taken-some n room k f true h w = omega arith
   taken-some n room k f false h w = rw (le-leb (length (k .writes)) room (omega (arith, w .writes))) (omega arith)
 
-  reads-codes : (room : ℕ) (ks : List Code) (waiting : Option ℕ) → m ≤ room → 1 ≤ sizesOf ks + length (asUnits waiting)
-      → (takeCodes v (limit room) ks waiting .answer ≡ 1) ⊎ (1 ≤ takeCodes v (limit room) ks waiting .used)
+  reads-codes : (room : ℕ) (ks : List Code) (pending : Option ℕ) → m ≤ room → 1 ≤ sizesOf ks + length (asUnits pending)
+      → (takeCodes v (limit room) ks pending .answer ≡ 1) ⊎ (1 ≤ takeCodes v (limit room) ks pending .used)
   unfolding takeCodes takeCode fits halt
   reads-codes room [] none h n = absurd (omega arith)
   reads-codes room [] (some c) h n = inl refl
-  reads-codes room (k ∷ ks) waiting h n = inr (omega (arith, taken-some (sizeOf k) room (v .does k) (takeCodes v (roomLeft (limit room) (length (v .does k .writes))) ks waiting) (v .does k .stops) h (bounded .each k)))
+  reads-codes room (k ∷ ks) pending h n = inr (omega (arith, taken-some (sizeOf k) room (v .does k) (takeCodes v (roomLeft (limit room) (length (v .does k .writes))) ks pending) (v .does k .stops) h (bounded .each k)))
 
-  -- A call that has units, and room for m, ends with a unit waiting or has used one, be it the one that waited before.
+  -- A call that has units, and room for m, ends with a unit pending or has used one, be it the one that waited before.
   pub reads : (last : Bool) (room : ℕ) (p : Option ℕ) (a : ℕ) (l : List ℕ) → m ≤ room
       → (feedFrom v last (limit room) p (a ∷ l) .answer ≡ 1) ⊎ (1 ≤ feedFrom v last (limit room) p (a ∷ l) .used)
   unfolding feedFrom
@@ -146,14 +146,14 @@ module _ (m : ℕ) (v : Converter) (bounded : Bounded m v) where
   roomy-take n room k f false w h q e =
       q (sym (ap (λ (t : Bool). takeWhen false t n k f .answer) (le-leb (length (k .writes)) room (omega (arith, w .writes)))) ∙ e)
 
-  roomy-codes : (room : ℕ) (ks : List Code) (waiting : Option ℕ) → m * sizesOf ks ≤ room → takeCodes v (limit room) ks waiting .answer ≡ 2 → ⊥
+  roomy-codes : (room : ℕ) (ks : List Code) (pending : Option ℕ) → m * sizesOf ks ≤ room → takeCodes v (limit room) ks pending .answer ≡ 2 → ⊥
   unfolding takeCodes takeCode fits roomLeft halt
   roomy-codes room [] none h e = omega arith
   roomy-codes room [] (some c) h e = omega arith
-  roomy-codes room (k ∷ ks) waiting h e =
+  roomy-codes room (k ∷ ks) pending h e =
       let more : m * (sizeOf k + sizesOf ks) ≡ m + m * length (k .more) + m * sizesOf ks = mul-add m (sizeOf k) (sizesOf ks) ∙ ap (λ (n : ℕ). n + m * sizesOf ks) (omega (arith, mul-suc m (length (k .more)))) in
       roomy-take (sizeOf k) room (v .does k) _ (v .does k .stops) (bounded .each k) (omega arith)
-      (roomy-codes (room - length (v .does k .writes)) ks waiting (omega (arith, bounded .each k .writes))) e
+      (roomy-codes (room - length (v .does k .writes)) ks pending (omega (arith, bounded .each k .writes))) e
 
   -- so a call with that much room, also for a unit that is pending, takes all of its codes or is stopped
   pub roomy : (last : Bool) (room : ℕ) (p : Option ℕ) (l : List ℕ) → m * (length (asUnits p) + length l) ≤ room → feedFrom v last (limit room) p l .answer ≡ 2 → ⊥

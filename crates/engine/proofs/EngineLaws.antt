@@ -10,7 +10,7 @@ use native.Mathlib.Omega.{arith}
 use lib.ListN.{length, getD, drop}
 use lib.Bits.{bitOr, or-step, or-zero-l}
 use Rattle.codepage.specs.Reading.{sizeOf, alone, together, settled, callCodes, leftPending, completed, waitsThen, codesAtEnd, asUnits}
-use Rattle.codepage.proofs.ReadingLaws.{codes-settled, waiting-settled, by-units}
+use Rattle.codepage.proofs.ReadingLaws.{codes-settled, left-settled, by-units}
 use Rattle.engine.specs.Engine.{Effect, Converter, Room, endless, fits, roomLeft, Fed, halt, after, stopAt, takeWhen, takeCode, takeCodes, feedFrom, feed}
 use Rattle.engine.specs.Steps.{doesAlone, doesTogether, doesSettled}
 
@@ -59,13 +59,13 @@ module _ (v : Converter) (last : Bool) (room : Room) where
   unfolding feedFrom takeCodes callCodes leftPending completed waitsThen
   feed-one a l e = rw e
 
-  -- a waiting unit and the one after it that are one code
+  -- a pending unit and the one after it that are one code
   pub feed-two : (c b : ℕ) (l : List ℕ) → v .reader .joins c b ≡ true
       → feedFrom v last room (some c) (b ∷ l) ≡ takeCode room 2 (doesTogether v c b) (feedFrom v last (roomLeft room (length (doesTogether v c b .writes))) none l)
   unfolding feedFrom takeCodes callCodes leftPending settled completed waitsThen
   feed-two c b l e = rw e
 
-  -- a waiting unit that is a code alone; the one after it is read afresh
+  -- a pending unit that is a code alone; the one after it is read afresh
   pub feed-alone : (c b : ℕ) (l : List ℕ) → v .reader .joins c b ≡ false
       → feedFrom v last room (some c) (b ∷ l) ≡ takeCode room 1 (doesAlone v c) (feedFrom v last (roomLeft room (length (doesAlone v c .writes))) none (b ∷ l))
   unfolding feedFrom takeCodes callCodes leftPending settled completed waitsThen
@@ -76,7 +76,7 @@ module _ (v : Converter) (last : Bool) (room : Room) where
       → feedFrom v last room (some c) (b ∷ l)
       ≡ takeCode room (sizeOf (settled (v .reader) c b)) (doesSettled v c b) (feedFrom v last (roomLeft room (length (doesSettled v c b .writes))) none (drop (sizeOf (settled (v .reader) c b)) (c ∷ b ∷ l)))
   unfolding feedFrom takeCodes
-  feed-settled c b l = rw (codes-settled (v .reader) last c b l, waiting-settled (v .reader) last c b l)
+  feed-settled c b l = rw (codes-settled (v .reader) last c b l, left-settled (v .reader) last c b l)
 
 -- and none more
 pub feed-end : (v : Converter) (last : Bool) (room : Room) → feedFrom v last room none [] ≡ halt 0
@@ -84,12 +84,12 @@ unfolding feedFrom takeCodes callCodes leftPending codesAtEnd
 feed-end v true room = refl
 feed-end v false room = refl
 
--- at the end of the whole text a waiting unit is a code alone
+-- at the end of the whole text a pending unit is a code alone
 pub feed-last : (v : Converter) (room : Room) (c : ℕ) → feedFrom v true room (some c) [] ≡ takeCode room 1 (doesAlone v c) (halt 0)
 unfolding feedFrom takeCodes callCodes leftPending codesAtEnd
 feed-last v room c = refl
 
--- at the end of a piece that is not the last a waiting unit stays pending: answer 1
+-- at the end of a piece that is not the last a pending unit stays pending: answer 1
 pub feed-stays : (v : Converter) (room : Room) (c : ℕ) → feedFrom v false room (some c) [] ≡ halt 1
 unfolding feedFrom takeCodes callCodes leftPending codesAtEnd
 feed-stays v room c = refl

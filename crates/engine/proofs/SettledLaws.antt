@@ -1,4 +1,4 @@
--- A waiting unit, settled by the one after it, over any reader: what the program looked up is what the code does.
+-- A pending unit, settled by the one after it, over any reader: what the program looked up is what the code does.
 use mathlib.Core.Path.{_≡_, sym, ap, _∙_}
 use Prim.Native.Nat.{ℕ, _≤_}
 use native.Mathlib.Omega.{arith}

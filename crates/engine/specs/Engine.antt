@@ -96,12 +96,12 @@ abbrev pub atEnd : Option ℕ → ℕ
 atEnd none = 0
 atEnd (some c) = 1
 
--- each code is met with the room that those before it left; `waiting` is what is pending behind the last
-unfoldable pub takeCodes : Converter → Room → List Code → (waiting : Option ℕ) → Fed
-takeCodes v room [] waiting = halt (atEnd waiting)
-takeCodes v room (k ∷ ks) waiting = takeCode room (sizeOf k) (v .does k) (takeCodes v (roomLeft room (length (v .does k .writes))) ks waiting)
+-- each code is met with the room that those before it left; `pending` is what is pending behind the last
+unfoldable pub takeCodes : Converter → Room → List Code → (pending : Option ℕ) → Fed
+takeCodes v room [] pending = halt (atEnd pending)
+takeCodes v room (k ∷ ks) pending = takeCode room (sizeOf k) (v .does k) (takeCodes v (roomLeft room (length (v .does k .writes))) ks pending)
 
--- One call: a waiting unit or none, then units. A waiting unit that is the final one is left waiting in a call not marked
+-- One call: a pending unit or none, then units. A pending unit that is the final one stays pending in a call not marked
 -- last, even with no room; at the end of the whole text it is a code of its own.
 unfoldable pub feedFrom : Converter → (last : Bool) → Room → Option ℕ → List ℕ → Fed
 feedFrom v last room pending units = takeCodes v room (callCodes (v .reader) last pending units) (leftPending (v .reader) last pending units)

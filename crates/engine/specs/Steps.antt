@@ -20,7 +20,7 @@ use Rattle.engine.specs.Policies.{stoppedFlag}
 use Rattle.codepage.specs.Lent.{over}
 use Rattle.engine.specs.Engine.{Effect, Converter, Fed, after, takeCode, limit, converter, feedFrom}
 
--- what a unit does that is a code by itself, two units that are one code, and a waiting unit settled by the one after it
+-- what a unit does that is a code by itself, two units that are one code, and a pending unit settled by the one after it
 abbrev pub doesAlone : Converter → ℕ → Effect
 doesAlone v a = v .does (alone (v .reader) a)
 
@@ -28,7 +28,7 @@ doesAlone v a = v .does (alone (v .reader) a)
 abbrev pub doesTogether : Converter → ℕ → ℕ → Effect
 doesTogether v a b = v .does (together (v .reader) a b)
 
--- what the code of a waiting unit does, settled by the unit after it
+-- what the code of a pending unit does, settled by the unit after it
 abbrev pub doesSettled : Converter → ℕ → ℕ → Effect
 doesSettled v a b = v .does (settled (v .reader) a b)
 

@@ -17,7 +17,7 @@ use Rattle.engine.proofs.EngineLaws.{after-none, after-after, take-fits}
 use Rattle.engine_fastpath.specs.Counts.{Met}
 use Rattle.engine_fastpath.specs.Words.{PlainPage}
 use Rattle.engine_fastpath.proofs.RunLaws.{written, one-found, two-found, one-byte, two-bytes}
-use Rattle.engine_fastpath.proofs.PlainLaws.{Same, plain-byte}
+use Rattle.engine_fastpath.proofs.PlainLaws.{Same, plain-same}
 
 module _ {R : Reader} {text : List ℕ} {i : ℕ} where
   -- no code is met yet
@@ -120,7 +120,7 @@ pub met-plain : (classes singles pairs : List ℕ) → PlainPage classes singles
 met-plain classes singles pairs page {text} {i} n h all =
     met-same n h
     (λ k b. let p = page (entryAt text (i + k)) (all k b) in
-    plain-byte classes singles pairs (entryAt text (i + k)) (p .0) (p .1))
+    plain-same classes singles pairs (entryAt text (i + k)) (p .0) (p .1))
 
 -- ---- a unit of encoding
 module _ (index blocks : List ℕ) {text : List ℕ} {i n i₁ : ℕ} (m : Met (encoder index blocks) text i i₁ n) (code : ℕ) (h : i₁ < length text) (q : unitAlone index blocks (getD text i₁ 0) ≡ Found code) where

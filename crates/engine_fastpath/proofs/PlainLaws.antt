@@ -29,8 +29,8 @@ pub or-over : (a b : ℕ) → (a ≤ bitOr a b) × (b ≤ bitOr a b)
 or-over a b = (omega (arith, or-add-and a b, and-le-r a b), omega (arith, or-add-and a b, and-le-l a b))
 
 -- one more entry is not over the largest
-pub largest-more : (xs : List ℕ) (i m m′ : ℕ) → ((k : ℕ) → k < i → entryAt xs k ≤ m) → m ≤ m′ → entryAt xs i ≤ m′ → (k : ℕ) → k < i + 1 → entryAt xs k ≤ m′
-largest-more xs i m m′ all h e k b = by-place (leb (suc k) i) refl
+pub bounded-more : (xs : List ℕ) (i m m′ : ℕ) → ((k : ℕ) → k < i → entryAt xs k ≤ m) → m ≤ m′ → entryAt xs i ≤ m′ → (k : ℕ) → k < i + 1 → entryAt xs k ≤ m′
+bounded-more xs i m m′ all h e k b = by-place (leb (suc k) i) refl
   where
     by-place : (t : Bool) → leb (suc k) i ≡ t → entryAt xs k ≤ m′
     by-place true q = let f = leb-true (suc k) i q in omega (arith, all k (omega (arith, f)), h)
@@ -48,8 +48,8 @@ bound-all xs m all k = by-place (leb (suc k) (length xs)) refl
     by-place false q = omega (arith, List·getD-eq-default xs 0 {n = k} (omega (arith, leb-false (suc k) (length xs) q)))
 
 -- where a bound is over the largest, each number is below it
-pub all-below : (bound m : ℕ) (xs : List ℕ) → ((k : ℕ) → k < length xs → entryAt xs k ≤ m) → m < bound → EachBelow bound xs
-all-below bound m xs all h k b = omega (arith, all k b)
+pub bounded-below : (bound m : ℕ) (xs : List ℕ) → ((k : ℕ) → k < length xs → entryAt xs k ≤ m) → m < bound → EachBelow bound xs
+bounded-below bound m xs all h k b = omega (arith, all k b)
 
 -- ---- copying
 pub copied-start : (piece before : List ℕ) → Copied piece before before 0
@@ -103,9 +103,9 @@ plain-fed R policy default last room (a ∷ piece) h all =
     (plain-fed R policy default last (room - 1) piece (omega arith) (λ k b. all (suc k) (omega arith)))
 
 -- ---- the two directions
-pub plain-byte : (classes singles pairs : List ℕ) (byte : ℕ) → isLead (entryAt classes byte) ≡ false → byteAlone classes singles byte ≡ Found byte → Same (decoder classes singles pairs) byte
+pub plain-same : (classes singles pairs : List ℕ) (byte : ℕ) → isLead (entryAt classes byte) ≡ false → byteAlone classes singles byte ≡ Found byte → Same (decoder classes singles pairs) byte
 unfolding decoder
-plain-byte classes singles pairs byte e q = (e, q, refl)
+plain-same classes singles pairs byte e q = (e, q, refl)
 
 -- a unit below 80 that is its own code is written as it is
 pub plain-unit : (index blocks : List ℕ) (unit : ℕ) → unit < 0x80 → unitAlone index blocks unit ≡ Found unit → Same (encoder index blocks) unit

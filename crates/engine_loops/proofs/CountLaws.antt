@@ -35,7 +35,7 @@ count-start v text h q =
       short = h;
       few = omega arith;
       little = omega arith;
-      waiting = λ e. absurd (false≢true e);
+      pending-waits = λ e. absurd (false≢true e);
       zero-so-far = refl;
       ys = [];
       count = refl;
@@ -109,7 +109,7 @@ module _ {v : Converter} {text : List ℕ} {t : Turn} (g : Counting v text t) wh
           short = g .short;
           few = omega (arith, g .few, ap oneIf e);
           little = g .little;
-          waiting = λ y. w;
+          pending-waits = λ y. w;
           zero-so-far = g .zero-so-far;
           ys = g .ys;
           count = g .count;
@@ -162,7 +162,7 @@ module _ {v : Converter} {text : List ℕ} {t : Turn} (g : Counting v text t) wh
               short = g .short;
               few = omega (arith, g .few, fit, ap (λ (x : Progress). x .used) f);
               little = omega (arith, g .little, came .short, ap (λ (x : Progress). x .used) f, ap (λ (x : Progress). x .written) f);
-              waiting = λ y. absurd (false≢true y);
+              pending-waits = λ y. absurd (false≢true y);
               zero-so-far = z;
               ys = g .ys ++ k .writes;
               count = code-count came (drop (t .at + m) text) step z;
@@ -178,7 +178,7 @@ module _ {v : Converter} {text : List ℕ} {t : Turn} (g : Counting v text t) wh
     unfolding roomLeft
     count-one c e h w q p = count-code 1 1 c (omega arith) (omega arith) (omega arith) (one-step v true text (t .at) k h (t .waits) (t .first) e w q endless) p
 
-    -- the waiting unit is settled by the next
+    -- the pending unit is settled by the next
     pub count-settled : {m : ℕ} → Came k (1 + m) (t .progress) s → t .waits ≡ true → t .at < length text → k ≡ doesSettled v (t .first) (getD text (t .at) 0)
         → m ≡ length (settled (v .reader) (t .first) (getD text (t .at) 0) .more) → r ≡ pastTurn t m s → CountTurn v text t r × (stepsLeft text r < stepsLeft text t)
     unfolding roomLeft
@@ -216,7 +216,7 @@ module _ (policy : Policy) (default : ℕ) {R : Reader} {text : List ℕ} {t r :
         short = g .short;
         few = omega (arith, g .few, m .ahead);
         little = omega (arith, g .little, m .little);
-        waiting = λ y. absurd (false≢true y);
+        pending-waits = λ y. absurd (false≢true y);
         zero-so-far = refl;
         ys = g .ys ++ m .ys;
         count = length-append (g .ys) (m .ys) ∙ ap (λ (x : ℕ). x + length (m .ys)) (g .count) ∙ ap (λ (x : ℕ). t .progress .written + x) (m .count);

@@ -23,7 +23,7 @@ use Rattle.engine.proofs.LoopLaws.{later}
 use Rattle.engine.proofs.TurnLaws.{one-step, settled-step, wait-step, no-more}
 use Rattle.engine_fastpath.specs.Runs.{Ran}
 use Rattle.engine_loops.specs.declared.turns.Turn.{Turn}
-use Rattle.engine_loops.specs.Turns.{startTurn, movedTurn, pastTurn, waitTurn, leftWaiting, stepsLeft, Ready, restOf, Turned, Advanced, Settled, Closed, Loop}
+use Rattle.engine_loops.specs.Turns.{startTurn, movedTurn, pastTurn, waitTurn, staysPending, stepsLeft, Ready, restOf, Turned, Advanced, Settled, Closed, Loop}
 
 -- `Took` holds of an equal effect too
 pub took-as : {k k′ : Effect} {n : ℕ} {s : Progress} {out : List ℕ} {r : Progress} {out′ : List ℕ} → k ≡ k′ → Took k n s out r out′ → Took k′ n s out r out′
@@ -49,16 +49,16 @@ module _ {v : Converter} {piece out : List ℕ} {t : Turn} where
         kept = refl;
         left = omega arith;
         ready = λ y g. g;
-        waiting = w;
+        pending-waits = w;
         goes = λ y last. refl;
         ends = λ y. absurd (y z);
       }
 
   -- the unit waits
-  waiting-turn : t .progress .answer ≡ 0 → t .progress .written ≤ length out → t .waits ≡ false → t .at < length piece → v .reader .waits (getD piece (t .at) 0) ≡ true
+  pending-turn : t .progress .answer ≡ 0 → t .progress .written ≤ length out → t .waits ≡ false → t .at < length piece → v .reader .waits (getD piece (t .at) 0) ≡ true
       → Turned v piece out t out (waitTurn t (getD piece (t .at) 0))
   unfolding restOf
-  waiting-turn z f e h w =
+  pending-turn z f e h w =
       record {
         same = refl;
         within = f;
@@ -66,7 +66,7 @@ module _ {v : Converter} {piece out : List ℕ} {t : Turn} where
         kept = refl;
         left = omega arith;
         ready = λ y g. record { going = z; inside = omega arith; within = f; few = omega (arith, g .few) };
-        waiting = λ y. w;
+        pending-waits = λ y. w;
         goes = λ y last. ap (sofar (t .progress) out) (wait-step v last piece (t .at) h (t .waits) (t .first) e w (limit (length out - t .progress .written)));
         ends = λ y. absurd (y z);
       }
@@ -74,7 +74,7 @@ module _ {v : Converter} {piece out : List ℕ} {t : Turn} where
   -- the unit at the turn's index waits from then on
   pub turned-wait : {r : Turn} → t .progress .answer ≡ 0 → t .progress .written ≤ length out → t .waits ≡ false → t .at < length piece → v .reader .waits (getD piece (t .at) 0) ≡ true
       → r ≡ waitTurn t (getD piece (t .at) 0) → Turned v piece out t out r
-  turned-wait z f e h w q = subst (Turned v piece out t out) (sym q) (waiting-turn z f e h w)
+  turned-wait z f e h w q = subst (Turned v piece out t out) (sym q) (pending-turn z f e h w)
 
   -- a code of n units is taken that ends m units on, or ends the call
   turned-took : {k : Effect} {s : Progress} {out′ : List ℕ} (n m : ℕ) → Took k n (t .progress) out s out′ → t .at + m ≤ length piece → n ≤ m + oneIf (t .waits)
@@ -90,7 +90,7 @@ module _ {v : Converter} {piece out : List ℕ} {t : Turn} where
         kept = w .kept;
         left = omega arith;
         ready = λ z g. record { going = z; inside = omega arith; within = w .within; few = omega (arith, g .few, w .more z .1, fit) };
-        waiting = λ y. absurd (false≢true y);
+        pending-waits = λ y. absurd (false≢true y);
         goes = λ z last.
             let room : length out - t .progress .written - length (k .writes) ≡ length out′ - s .written = omega (arith, w .more z .0, w .same) in
             ap (sofar (t .progress) out) (step last (limit (length out - t .progress .written))) ∙ w .goes z _
@@ -129,7 +129,7 @@ turned-ran policy default {R} {piece} {out} {t} {out′} {i} {w} e a =
       kept = a .kept;
       left = omega (arith, a .ahead);
       ready = λ z g. record { going = refl; inside = a .inside; within = a .within; few = omega (arith, g .few, a .ahead) };
-      waiting = λ y. absurd (false≢true y);
+      pending-waits = λ y. absurd (false≢true y);
       goes = λ z last. ap (from last) e ∙ a .goes policy default last (t .progress) refl;
       ends = λ z. absurd (z refl);
     }
@@ -145,7 +145,7 @@ turned-then {out = out} {out₁ = out₁} {m = m} {r = r} a z b =
       kept = b .kept ∙ later (m .progress .written) (r .progress .written) out₁ out (b .grows) (a .kept);
       left = omega (arith, a .left, b .left);
       ready = λ y g. b .ready y (a .ready z g);
-      waiting = b .waiting;
+      pending-waits = b .pending-waits;
       goes = λ y last. a .goes z last ∙ b .goes y last;
       ends = λ y last. a .goes z last ∙ b .ends y last;
     }
@@ -238,7 +238,7 @@ module _ {v : Converter} {last : Bool} {out : List ℕ} {t : Turn} where
 
   -- the text goes on: the unit that waits is left pending, answer 1
   pub closed-wait : t .progress .written ≤ length out → t .waits ≡ true → last ≡ false
-      → Closed v last out t out (leftWaiting (t .progress))
+      → Closed v last out t out (staysPending (t .progress))
   unfolding restOf halt sofar after ended
   closed-wait h e l =
       let room = length out - t .progress .written in
@@ -290,7 +290,7 @@ loop-start v last waits first piece out w q =
     subst (Loop v last (feedFrom v last (limit (length out)) (optional waits first) piece) out piece out) (sym q)
     (record {
       ready = record { going = refl; inside = omega arith; within = omega arith; few = omega (arith, one-at-most waits) };
-      waiting = w;
+      pending-waits = w;
       sum = sym (after-none _ ∙ ap (λ (n : ℕ). feedFrom v last (limit n) (optional waits first) piece) (sym whole));
       same = refl;
       kept = refl;
@@ -322,7 +322,7 @@ module _ {v : Converter} {last : Bool} {F : Fed} {out₀ piece out : List ℕ} {
     loop-turn z =
         record {
           ready = a .ready z (g .ready);
-          waiting = a .waiting;
+          pending-waits = a .pending-waits;
           sum = g .sum ∙ a .goes z last;
           same = a .same ∙ g .same;
           kept = a .kept ∙ later (t .progress .written) (r .progress .written) out out₀ (a .grows) (g .kept);

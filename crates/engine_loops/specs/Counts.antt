@@ -23,7 +23,7 @@ pub record Counting (v : Converter) (text : List ℕ) (t : Turn) : Type 0 where
   pub short : length text < 2 ^ 63
   pub few : t .progress .used + oneIf (t .waits) ≤ t .at
   pub little : t .progress .written ≤ t .progress .used + t .progress .used
-  pub waiting : t .waits ≡ true → v .reader .waits (t .first) ≡ true
+  pub pending-waits : t .waits ≡ true → v .reader .waits (t .first) ≡ true
   pub zero-so-far : t .progress .answer ≡ 0
   pub ys : List ℕ
   pub count : length ys ≡ t .progress .written

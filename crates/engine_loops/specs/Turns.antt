@@ -27,9 +27,9 @@ pastTurn t count s = record { progress = s; at = t .at + count; waits = false; f
 abbrev pub waitTurn : Turn → (first : ℕ) → Turn
 waitTurn t first = record { progress = t .progress; at = t .at + 1; waits = true; first = first }
 
--- the unit that waits is left waiting
-abbrev pub leftWaiting : Progress → Progress
-leftWaiting s = record { answer = 1; used = s .used; written = s .written; flags = s .flags }
+-- the unit that waits stays pending
+abbrev pub staysPending : Progress → Progress
+staysPending s = record { answer = 1; used = s .used; written = s .written; flags = s .flags }
 
 -- ---- what a turn keeps
 
@@ -56,7 +56,7 @@ pub record Turned (v : Converter) (piece out : List ℕ) (t : Turn) (out′ : Li
   pub kept : drop (r .progress .written) out′ ≡ drop (r .progress .written) out
   pub left : stepsLeft piece r ≤ stepsLeft piece t
   pub ready : r .progress .answer ≡ 0 → Ready piece out t → Ready piece out′ r
-  pub waiting : r .waits ≡ true → v .reader .waits (r .first) ≡ true
+  pub pending-waits : r .waits ≡ true → v .reader .waits (r .first) ≡ true
   pub goes : r .progress .answer ≡ 0 → (last : Bool) → restOf v last out t (drop (t .at) piece) ≡ restOf v last out′ r (drop (r .at) piece)
   pub ends : (r .progress .answer ≡ 0 → ⊥) → (last : Bool) → restOf v last out t (drop (t .at) piece) ≡ ended (r .progress) out′
 
@@ -83,7 +83,7 @@ pub record Closed (v : Converter) (last : Bool) (out : List ℕ) (t : Turn) (out
 -- F is what the whole call gives, and t and out what it has come to.
 pub record Loop (v : Converter) (last : Bool) (F : Fed) (out₀ piece out : List ℕ) (t : Turn) : Type 0 where
   pub ready : Ready piece out t
-  pub waiting : t .waits ≡ true → v .reader .waits (t .first) ≡ true
+  pub pending-waits : t .waits ≡ true → v .reader .waits (t .first) ≡ true
   pub sum : F ≡ restOf v last out t (drop (t .at) piece)
   pub same : length out ≡ length out₀
   pub kept : drop (t .progress .written) out ≡ drop (t .progress .written) out₀

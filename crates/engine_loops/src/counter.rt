@@ -131,9 +131,9 @@ fn next_decoded(
         let counted = alone_decoded(policy, default, classes, singles, byte, s);
         return turns::past(t, 1, counted);
     }
-    let waiting = turns::wait(t, byte as u16);
-    if text.len() <= waiting.at {
-        return waiting;
+    let pending = turns::wait(t, byte as u16);
+    if text.len() <= pending.at {
+        return pending;
     }
     settle_decoded(
         policy,
@@ -143,7 +143,7 @@ fn next_decoded(
         pairs,
         leads,
         text,
-        waiting,
+        pending,
     )
 }
 
@@ -374,11 +374,11 @@ fn next_encoded(
         let counted = alone_encoded(policy, default, index, blocks, unit, s);
         return turns::past(t, 1, counted);
     }
-    let waiting = turns::wait(t, unit);
-    if text.len() <= waiting.at {
-        return waiting;
+    let pending = turns::wait(t, unit);
+    if text.len() <= pending.at {
+        return pending;
     }
-    settle_encoded(policy, default, index, blocks, text, waiting)
+    settle_encoded(policy, default, index, blocks, text, pending)
 }
 
 // A turn of counting bytes: units that have codes, and the code behind them.

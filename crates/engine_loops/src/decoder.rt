@@ -278,7 +278,7 @@ fn codes_turn(
     )
 }
 
-// The end of a piece. A lead byte that waits is a code by itself at the end of the text, and else is left waiting.
+// The end of a piece. A lead byte that waits is a code by itself at the end of the text, and else stays pending.
 fn at_end(
     policy: Policy,
     default: u16,
@@ -300,7 +300,7 @@ fn at_end(
     if last {
         return take_alone(policy, default, classes, singles, t.first as u8, s, out);
     }
-    turns::left_waiting(t)
+    turns::stays_pending(t)
 }
 
 // Whether the run of a turn was long, on a page that keeps text below 80 as it is.

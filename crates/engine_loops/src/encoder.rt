@@ -176,7 +176,7 @@ fn codes_turn(
     advance(policy, default, index, blocks, asked, piece, t, out)
 }
 
-// The end of a piece. A high surrogate that waits is a code by itself at the end of the text, and else is left waiting.
+// The end of a piece. A high surrogate that waits is a code by itself at the end of the text, and else stays pending.
 fn at_end(
     policy: Policy,
     default: u8,
@@ -199,7 +199,7 @@ fn at_end(
     if last {
         return take_alone(policy, default, index, blocks, t.first, s, out);
     }
-    turns::left_waiting(t)
+    turns::stays_pending(t)
 }
 
 // The turns of a call on a piece that was not copied, and its end.

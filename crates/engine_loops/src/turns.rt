@@ -1,7 +1,7 @@
 // A turn of a loop: where it comes to in the piece, and how far the call is there.
 ghost use mathlib.Core.Path.{_≡_};
 ghost use Prim.Native.Nat.{ℕ, _+_, _-_, _≤_, _<_, _^_};
-ghost use Rattle.engine_loops.specs.Turns.{startTurn, movedTurn, pastTurn, waitTurn, leftWaiting};
+ghost use Rattle.engine_loops.specs.Turns.{startTurn, movedTurn, pastTurn, waitTurn, staysPending};
 use engine::progress;
 use engine::progress::Progress;
 
@@ -74,9 +74,9 @@ pub fn wait(t: Turn, first: u16) -> Turn
     }
 }
 
-// The piece ends, not the text: the unit that waits is left waiting.
-pub fn left_waiting(t: Turn) -> Progress
-    ensures { λ r. ⌜ r ≡ leftWaiting (t .progress) ⌝ }
+// The piece ends, not the text: the unit that waits stays pending.
+pub fn stays_pending(t: Turn) -> Progress
+    ensures { λ r. ⌜ r ≡ staysPending (t .progress) ⌝ }
 {
     let s = t.progress;
     Progress {

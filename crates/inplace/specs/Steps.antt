@@ -18,7 +18,7 @@ use Rattle.inplace.specs.declared.Encoded.the-variants as encoded
 abbrev pub answered : Progress → Encoded
 answered s = pick (eqb (s .answer) 3) (encoded.Stopped (s .flags) (s .used) (s .written)) (encoded.All (s .flags) (s .used) (s .written))
 
--- what a chunk gave, behind what was before it: a stop ends the call, and a unit that is left waiting is not read yet
+-- what a chunk gave, behind what was before it: a stop ends the call, and a unit that stays pending is not read yet
 abbrev pub chunkAdded : (s made : Progress) → Progress
 chunkAdded s made =
     record { answer = pick (eqb (made .answer) 3) 3 0; used = s .used + made .used; written = s .written + made .written; flags = bitOr (s .flags) (made .flags) }

@@ -139,7 +139,7 @@ fn add_chunk(s: Progress, made: Progress) -> Progress
 }
 
 // Takes a chunk of the units that are left: they are copied out of the buffer, and then encoded into it, behind what was written. What is
-// written never reaches the units that are left behind the chunk. A high surrogate at the chunk's end is left waiting, and begins the
+// written never reaches the units that are left behind the chunk. A high surrogate at the chunk's end stays pending, and begins the
 // next one.
 fn take_chunk(
     policy: Policy,

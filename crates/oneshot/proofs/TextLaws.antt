@@ -107,11 +107,11 @@ unfolding takeWhen stopAt after
 never-code n k f true h e = omega arith
 never-code n k f false h e = h e
 
-never-codes : (v : Converter) (ks : List Code) (waiting : Option ℕ) → takeCodes v endless ks waiting .answer ≡ 2 → ⊥
+never-codes : (v : Converter) (ks : List Code) (pending : Option ℕ) → takeCodes v endless ks pending .answer ≡ 2 → ⊥
 unfolding takeCodes takeCode fits roomLeft halt
 never-codes v [] none e = omega arith
 never-codes v [] (some c) e = omega arith
-never-codes v (k ∷ ks) waiting e = never-code (sizeOf k) (v .does k) _ (v .does k .stops) (never-codes v ks waiting) e
+never-codes v (k ∷ ks) pending e = never-code (sizeOf k) (v .does k) _ (v .does k .stops) (never-codes v ks pending) e
 
 -- with room that never ends no code fails to fit: the answer is not 2
 pub never-full : (v : Converter) (last : Bool) (p : Option ℕ) (l : List ℕ) → feedFrom v last endless p l .answer ≡ 2 → ⊥
@@ -126,10 +126,10 @@ ample-take false n room k f g h e =
     let whole = length-append (k .writes) (g .output) in
     rw (le-leb (length (k .writes)) room (omega arith)) (ap (after n (k .writes) (k .flag)) (e (omega arith)))
 
-ample-codes : (v : Converter) (room : ℕ) (ks : List Code) (waiting : Option ℕ) → length (takeCodes v endless ks waiting .output) ≤ room → takeCodes v (limit room) ks waiting ≡ takeCodes v endless ks waiting
+ample-codes : (v : Converter) (room : ℕ) (ks : List Code) (pending : Option ℕ) → length (takeCodes v endless ks pending .output) ≤ room → takeCodes v (limit room) ks pending ≡ takeCodes v endless ks pending
 unfolding takeCodes takeCode fits roomLeft
-ample-codes v room [] waiting h = refl
-ample-codes v room (k ∷ ks) waiting h = ample-take (v .does k .stops) (sizeOf k) room (v .does k) _ _ h (ample-codes v (room - length (v .does k .writes)) ks waiting)
+ample-codes v room [] pending h = refl
+ample-codes v room (k ∷ ks) pending h = ample-take (v .does k .stops) (sizeOf k) room (v .does k) _ _ h (ample-codes v (room - length (v .does k .writes)) ks pending)
 
 -- with room for what all of it needs, the conversion is the whole reading
 pub ample : (v : Converter) (last : Bool) (room : ℕ) (p : Option ℕ) (l : List ℕ) → length (feedFrom v last endless p l .output) ≤ room → feedFrom v last (limit room) p l ≡ feedFrom v last endless p l
@@ -145,10 +145,10 @@ scant-take false n room k f g h e = by-fit (leb (length (k .writes)) room) refl
     by-fit true q = e (omega (arith, leb-true (length (k .writes)) room q, length-append (k .writes) (g .output)))
     by-fit false q = refl
 
-scant-codes : (v : Converter) (room : ℕ) (ks : List Code) (waiting : Option ℕ) → room < length (takeCodes v endless ks waiting .output) → takeCodes v (limit room) ks waiting .answer ≡ 2
+scant-codes : (v : Converter) (room : ℕ) (ks : List Code) (pending : Option ℕ) → room < length (takeCodes v endless ks pending .output) → takeCodes v (limit room) ks pending .answer ≡ 2
 unfolding takeCodes takeCode fits roomLeft halt
-scant-codes v room [] waiting h = absurd (omega arith)
-scant-codes v room (k ∷ ks) waiting h = scant-take (v .does k .stops) (sizeOf k) room (v .does k) _ _ h (scant-codes v (room - length (v .does k .writes)) ks waiting)
+scant-codes v room [] pending h = absurd (omega arith)
+scant-codes v room (k ∷ ks) pending h = scant-take (v .does k .stops) (sizeOf k) room (v .does k) _ _ h (scant-codes v (room - length (v .does k .writes)) ks pending)
 
 -- with less, a code does not fit
 pub scant : (v : Converter) (last : Bool) (room : ℕ) (p : Option ℕ) (l : List ℕ) → room < length (feedFrom v last endless p l .output) → feedFrom v last (limit room) p l .answer ≡ 2

@@ -59,9 +59,9 @@ module _ (direction : Direction) (policy : Policy) (p : CodePage) (text : List �
       accepted-of direction (fresh direction (p .page) policy) p (length text)
       ((((((facts .good, facts .short), rules-exact (fresh direction (p .page) policy) .0 (start-kept direction (p .page) policy start-is)), (refl, refl)), refl), refl), omega (arith, facts .short))
 
-  not-waiting : textFed direction policy p (limit room) text .answer ≡ 1 → ⊥
+  not-pending : textFed direction policy p (limit room) text .answer ≡ 1 → ⊥
   unfolding textFed
-  not-waiting e = true≢false (shape-from (converterOf direction p policy) true (limit room) none text tt .holds e .2)
+  not-pending e = true≢false (shape-from (converterOf direction p policy) true (limit room) none text tt .holds e .2)
 
   -- the call that is meant
   abbrev called : Called
@@ -81,7 +81,7 @@ module _ (direction : Direction) (policy : Policy) (p : CodePage) (text : List �
   as-accepted =
       let f = feedFrom (converterOf direction p policy) true (limit room) none text in
       let used : f .used - 0 ≡ f .used = omega arith in
-      record { number = answer-is (converterOf direction p policy) room text; read = rw (ne-eqb (f .answer) 1 not-waiting, used); written = refl; output = refl }
+      record { number = answer-is (converterOf direction p policy) room text; read = rw (ne-eqb (f .answer) 1 not-pending, used); written = refl; output = refl }
 
   -- NUMBER, READ, WRITTEN AND OUTPUT are those of one call marked last on a fresh run of the set's page.
   pub one-go-is-call : AsCall (textOf direction policy p text room) called

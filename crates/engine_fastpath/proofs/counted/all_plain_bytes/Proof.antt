@@ -2,7 +2,7 @@ use mathlib.Core.Bool.{false≢true}
 use lib.ListN.{length}
 use borrow.Author.Tests.{not-false}
 use Rattle.codepage.specs.CodePage.{entryAt}
-use Rattle.engine_fastpath.proofs.PlainLaws.{plain-byte}
+use Rattle.engine_fastpath.proofs.PlainLaws.{plain-same}
 use Rattle.engine_fastpath.proofs.MetLaws.{met-whole}
 use borrow.Author.Needs.{needs}
 use Rattle.engine_fastpath.proofs.counted.all_plain_bytes.Statement.{statement}
@@ -25,7 +25,7 @@ returns-2 c =
     λ e pairs.
     met-whole (start .args .text .now)
     (λ k b. let page = c .plain-bytes .ensures e (entryAt (start .args .text .now) k) (at-bytes-below-80 .bytes-below-80 .ensures (not-false _ (at-if1 .if1 .left)) k b) in
-    plain-byte _ _ pairs _ (page .0) (page .1))
+    plain-same _ _ pairs _ (page .0) (page .1))
 
 pub all-plain-bytes-spec : {M : Type 1} → statement M
 all-plain-bytes-spec =

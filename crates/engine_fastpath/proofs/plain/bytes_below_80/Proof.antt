@@ -1,7 +1,7 @@
 use lib.Seq.{length-take-le}
 use native.Mathlib.Omega.{arith}
 use mathlib.Core.Path.{sym}
-use Rattle.engine_fastpath.proofs.PlainLaws.{all-below}
+use Rattle.engine_fastpath.proofs.PlainLaws.{bounded-below}
 use borrow.Author.Tests.{ltb-true}
 use mathlib.Core.Bool.{false≢true}
 use borrow.Author.Needs.{needs}
@@ -29,7 +29,7 @@ largest-byte-requires-2 c κs = search needs
 
 -- src/plain.rt:48:1
 returns-2 : tie.Need-returns-2
-returns-2 c = λ e. all-below 0x80 (c .largest-byte2 .result) (c .before .before .before .args .piece .now) (c .largest-byte2 .ensures) (ltb-true _ _ e)
+returns-2 c = λ e. bounded-below 0x80 (c .largest-byte2 .result) (c .before .before .before .args .piece .now) (c .largest-byte2 .ensures) (ltb-true _ _ e)
 
 pub bytes-below-80-spec : {M : Type 1} → statement M
 bytes-below-80-spec =

@@ -1,4 +1,4 @@
-use Rattle.engine_fastpath.proofs.PlainLaws.{plain-left, plain-taken, plain-byte}
+use Rattle.engine_fastpath.proofs.PlainLaws.{plain-left, plain-taken, plain-same}
 use Rattle.codepage.specs.Reading.{decoder}
 use Rattle.codepage.specs.CodePage.{entryAt}
 use borrow.Author.Tests.{not-false}
@@ -51,7 +51,7 @@ returns-4 c =
     let widen = c .before .before .widen in
     λ pairs. plain-taken (decoder (start .args .classes .now) (start .args .singles .now) pairs) (start .args .piece .now) (start .args .out .now) _ (omega arith)
     (λ k b. let f = plain-bytes .ensures (not-false _ (if3 .left)) (entryAt (start .args .piece .now) k) (bytes-below-80 .ensures (not-false _ (if2 .left)) k b) in
-    plain-byte (start .args .classes .now) (start .args .singles .now) pairs (entryAt (start .args .piece .now) k) (f .0) (f .1)) (widen .ensures)
+    plain-same (start .args .classes .now) (start .args .singles .now) pairs (entryAt (start .args .piece .now) k) (f .0) (f .1)) (widen .ensures)
 
 pub decode-plain-spec : {M : Type 1} → statement M
 decode-plain-spec =

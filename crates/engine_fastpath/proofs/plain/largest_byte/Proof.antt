@@ -1,5 +1,5 @@
 use borrow.Author.Needs.{needs}
-use Rattle.engine_fastpath.proofs.PlainLaws.{largest-more}
+use Rattle.engine_fastpath.proofs.PlainLaws.{bounded-more}
 use Rattle.codepage.specs.CodePage.{entryAt}
 use lib.ListN.{length}
 use native.Mathlib.Omega.{arith}
@@ -38,7 +38,7 @@ loop-less c = omega arith
 
 -- src/plain.rt:27:5
 loop-again : tie.Need-loop-again Inv-loop μ-loop
-loop-again c = (omega arith, largest-more (c .before .before .before .before .before .args .piece .now) (c .before .before .before .loop .i) (c .before .before .before .loop .most) _ (c .before .before .before .loop .inv .1) (c .larger .ensures .0) (c .larger .ensures .1))
+loop-again c = (omega arith, bounded-more (c .before .before .before .before .before .args .piece .now) (c .before .before .before .loop .i) (c .before .before .before .loop .most) _ (c .before .before .before .loop .inv .1) (c .larger .ensures .0) (c .larger .ensures .1))
 
 -- src/plain.rt:22:1
 returns : tie.Need-returns Inv-loop μ-loop

@@ -1,5 +1,5 @@
 use borrow.Author.Needs.{needs}
-use Rattle.engine_fastpath.proofs.PlainLaws.{largest-more, or-over}
+use Rattle.engine_fastpath.proofs.PlainLaws.{bounded-more, or-over}
 use Rattle.codepage.specs.CodePage.{entryAt}
 use lib.ListN.{length}
 use native.Mathlib.Omega.{arith}
@@ -37,7 +37,7 @@ loop-less c = omega arith
 
 -- src/plain.rt:40:5
 loop-again : tie.Need-loop-again Inv-loop μ-loop
-loop-again c = (omega arith, largest-more (c .before .before .before .args .piece .now) (c .before .before .loop .i) (c .before .before .loop .most) _ (c .before .before .loop .inv .1) (or-over _ _ .0) (or-over (c .before .before .loop .most) _ .1))
+loop-again c = (omega arith, bounded-more (c .before .before .before .args .piece .now) (c .before .before .loop .i) (c .before .before .loop .most) _ (c .before .before .loop .inv .1) (or-over _ _ .0) (or-over (c .before .before .loop .most) _ .1))
 
 -- src/plain.rt:35:1
 returns : tie.Need-returns Inv-loop μ-loop

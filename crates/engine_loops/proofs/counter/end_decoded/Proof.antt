@@ -16,7 +16,7 @@ returns c =
 cast-alone-decoded : tie.Need-cast-alone-decoded
 cast-alone-decoded c =
     let start = c .before .before .before .before .before .before .before .before in
-    let lead = decoder-lead _ _ _ _ _ _ (start .pre .1 .0 .waiting (not-false _ (c .before .if1 .left))) in
+    let lead = decoder-lead _ _ _ _ _ _ (start .pre .1 .0 .pending-waits (not-false _ (c .before .if1 .left))) in
     omega (arith, lead-below (start .args .classes .now) (start .args .t .first) (start .pre .0 .0) lead)
 
 alone-decoded-requires : tie.Need-alone-decoded-requires

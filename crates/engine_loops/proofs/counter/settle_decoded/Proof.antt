@@ -11,7 +11,7 @@ use Rattle.engine_loops.proofs.counter.settle_decoded.Tie as tie
 cast-lead : tie.Need-cast-lead
 cast-lead c =
     let start = c .before .before .before .before .before .before in
-    let lead = decoder-lead _ _ _ _ _ _ (start .pre .1 .0 .waiting (start .pre .1 .2)) in
+    let lead = decoder-lead _ _ _ _ _ _ (start .pre .1 .0 .pending-waits (start .pre .1 .2)) in
     omega (arith, lead-below (start .args .classes .now) (start .args .t .first) (start .pre .0 .0 .all-classes) lead)
 
 shared-slice-read-byte : tie.Need-shared-slice-read-byte
@@ -20,7 +20,7 @@ shared-slice-read-byte c = omega (arith, c .before .before .before .before .befo
 settle-requires : tie.Need-settle-requires
 settle-requires c κs =
     let pre = c .before .before .before .before .before .before .before .pre in
-    let lead = decoder-lead _ _ _ _ _ _ (pre .1 .0 .waiting (pre .1 .2)) in
+    let lead = decoder-lead _ _ _ _ _ _ (pre .1 .0 .pending-waits (pre .1 .2)) in
     ((pre .0 .0 .all-classes, lead, pair-room _ _ _ _ (pre .0 .0) lead), pre .0 .1)
 
 decoded-requires : tie.Need-decoded-requires

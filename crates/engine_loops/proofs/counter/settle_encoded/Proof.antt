@@ -24,7 +24,7 @@ encoded-requires c κs = c .before .before .before .before .before .before .pre 
 add-count-code : tie.Need-add-count-code
 add-count-code c =
     let pre = c .before .before .before .before .before .before .before .before .pre in
-    omega (arith, settled-more _ _ _ (c .before .before .settle-high .ensures [] [] _ (encoder-high _ _ _ _ _ (pre .1 .0 .waiting (pre .1 .2)))))
+    omega (arith, settled-more _ _ _ (c .before .before .settle-high .ensures [] [] _ (encoder-high _ _ _ _ _ (pre .1 .0 .pending-waits (pre .1 .2)))))
 
 bytes-written-requires : tie.Need-bytes-written-requires
 bytes-written-requires c κs = search needs
@@ -37,13 +37,13 @@ count-code-requires c κs =
     let pre = start .pre in
     let g = pre .1 .0 in
     let waits = ap oneIf (pre .1 .2) in
-    let more = settled-more _ _ _ (at-settle-high .settle-high .ensures [] [] _ (encoder-high _ _ _ _ _ (g .waiting (pre .1 .2)))) in
+    let more = settled-more _ _ _ (at-settle-high .settle-high .ensures [] [] _ (encoder-high _ _ _ _ _ (g .pending-waits (pre .1 .2)))) in
     (omega (arith, g .few, g .short, waits, more, pre .1 .1), omega (arith, c .bytes-written .ensures, bytes-short (at-encoded .encoded .result), g .little, g .few, g .short, waits, pre .1 .1))
 
 past-requires : tie.Need-past-requires
 past-requires c κs =
     let pre = c .before .before .before .before .before .before .before .before .before .before .pre in
-    omega (arith, settled-more _ _ _ (c .before .before .before .before .settle-high .ensures [] [] _ (encoder-high _ _ _ _ _ (pre .1 .0 .waiting (pre .1 .2)))), pre .1 .0 .short, pre .1 .1)
+    omega (arith, settled-more _ _ _ (c .before .before .before .before .settle-high .ensures [] [] _ (encoder-high _ _ _ _ _ (pre .1 .0 .pending-waits (pre .1 .2)))), pre .1 .0 .short, pre .1 .1)
 
 returns : tie.Need-returns
 returns c =
@@ -53,7 +53,7 @@ returns c =
     let at-settle-high = at-encoded .before in
     let start = at-settle-high .before .before .before .before .before .before in
     let pre = start .pre in
-    let code = at-settle-high .settle-high .ensures _ _ _ (encoder-high _ _ _ _ _ (pre .1 .0 .waiting (pre .1 .2))) in
+    let code = at-settle-high .settle-high .ensures _ _ _ (encoder-high _ _ _ _ _ (pre .1 .0 .pending-waits (pre .1 .2))) in
     let came = came-bytes _ _ _ _ _ (at-bytes-written .bytes-written .ensures) (at-count-code .count-code .ensures) in
     count-settled (pre .1 .0) came (pre .1 .2) (pre .1 .1) (encoded-settled _ _ _ _ _ _ code _ (at-encoded .encoded .ensures _)) (settled-size _ _ _ _ _ code) (c .past .ensures)
 

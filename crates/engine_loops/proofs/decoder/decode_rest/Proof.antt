@@ -66,7 +66,7 @@ loop-again c =
     let inv = at-loop .loop .inv in
     let going = c .before .if2 .left in (
       turned .ready going (inv .0),
-      turned .waiting,
+      turned .pending-waits,
       turned .same ∙ inv .2,
       λ F before l. loop-turn (inv .3 F before l) turned going,
       λ e. pre .1 .0 (c .goes-on .ensures e),

@@ -33,7 +33,7 @@ codes-turn-requires : tie.Need-codes-turn-requires Inv-loop μ-loop
 codes-turn-requires c κs =
     let g = c .before .before .before .loop .inv in
     let pre = c .before .before .before .before .before .before .before .before .before .before .pre in
-    (pre .0, (pre .1 .0, (pre .1 .1 .0, ((g .ready, c .before .if1 .taken), (λ e. encoder-high _ _ _ _ _ (g .waiting e), c .before .before .before .before .before .codes-asked .ensures)))))
+    (pre .0, (pre .1 .0, (pre .1 .1 .0, ((g .ready, c .before .if1 .taken), (λ e. encoder-high _ _ _ _ _ (g .pending-waits e), c .before .before .before .before .before .codes-asked .ensures)))))
 
 same-length : tie.Need-same-length Inv-loop μ-loop
 same-length c = c .before .before .before .before .before .codes-turn .ensures .turned .same ∙ c .before .before .before .before .before .before .before .before .before .loop .inv .same
