@@ -20,8 +20,9 @@ use Rattle.checkpoint.specs.declared.Restored.{Restored}
 use Rattle.checkpoint.specs.declared.Restored.the-variants.{Accepted, Refused}
 use Rattle.checkpoint.specs.Line.{Representable, writeOf, readOf, writtenAs, Saved, restoredAs}
 use Rattle.checkpoint.proofs.LineLaws.{representable}
-use Rattle.traces.specs.Model.{Setting, Call, feeding, saving, loading, isAccepted, inHand, Model, opened, next, Allowed, AllAllowed}
-use Rattle.traces.specs.Traces.{Result, fed as answered, saved as written, loaded as restored, Entry, Meets, observed, handAfter, AllMeet, callsOf, Demand3, Proper, Trace}
+use Rattle.runrecord.specs.Records.{outcomeOf}
+use Rattle.traces.specs.Model.{Setting, byValue, inRecord, Call, feeding, saving, loading, isAccepted, inHand, Model, opened, next, Allowed, AllAllowed}
+use Rattle.traces.specs.Traces.{Result, fed as answered, fedHere as answeredHere, saved as written, loaded as restored, Entry, Meets, observed, handAfter, AllMeet, callsOf, Demand3, Proper, Trace}
 use Rattle.traces.proofs.ModelLaws.{Kept, kept-start, kept-next}
 use Rattle.traces.proofs.ListLaws.{result-exists, fresh-started}
 use Rattle.traces.proofs.EveryTrace.{hand-next, every-trace}
@@ -67,19 +68,26 @@ module _ (s : Setting) (run : Run) (fits : Representable run) (high : HighPendin
       (x .number ∙ sym (a .number), x .size ∙ sym (a .size), x .lent ∙ sym (a .lent))
 
   in-numbers : (c : Call) (mark : ℕ) (t : TillResult) (r : Result) → TillMeets s (runOut run) c mark t → Meets s run c r → InNumbers t r
-  in-numbers (feeding piece last before) mark (fed t lent) (answered o after) (m, w) a = same-outcome piece last mark before t lent o after m w a
-  in-numbers (feeding piece last before) mark (fed t lent) (written o after) w a = absurd a
-  in-numbers (feeding piece last before) mark (fed t lent) (restored o) w a = absurd a
-  in-numbers (feeding piece last before) mark (saved t lent) r w a = absurd w
-  in-numbers (feeding piece last before) mark (loaded t) r w a = absurd w
+  in-numbers (feeding byValue piece last before) mark (fed t lent) (answered o after) (m, w) a = same-outcome piece last mark before t lent o after m w a
+  in-numbers (feeding byValue piece last before) mark (fed t lent) (answeredHere o held after) w a = absurd a
+  in-numbers (feeding byValue piece last before) mark (fed t lent) (written o after) w a = absurd a
+  in-numbers (feeding byValue piece last before) mark (fed t lent) (restored o) w a = absurd a
+  in-numbers (feeding inRecord piece last before) mark (fed t lent) (answered o after) w a = absurd a
+  in-numbers (feeding inRecord piece last before) mark (fed t lent) (answeredHere o held after) (m, w) a = same-outcome piece last mark before t lent (outcomeOf o held) after m w a
+  in-numbers (feeding inRecord piece last before) mark (fed t lent) (written o after) w a = absurd a
+  in-numbers (feeding inRecord piece last before) mark (fed t lent) (restored o) w a = absurd a
+  in-numbers (feeding form piece last before) mark (saved t lent) r w a = absurd w
+  in-numbers (feeding form piece last before) mark (loaded t) r w a = absurd w
   in-numbers (saving before) mark (fed t lent) r w a = absurd w
   in-numbers (saving before) mark (saved t lent) (answered o after) w a = absurd a
+  in-numbers (saving before) mark (saved t lent) (answeredHere o held after) w a = absurd a
   in-numbers (saving before) mark (saved t lent) (written o after) w a = same-line before t lent o after w a
   in-numbers (saving before) mark (saved t lent) (restored o) w a = absurd a
   in-numbers (saving before) mark (loaded t) r w a = absurd w
   in-numbers (loading line) mark (fed t lent) r w a = absurd w
   in-numbers (loading line) mark (saved t lent) r w a = absurd w
   in-numbers (loading line) mark (loaded t) (answered o after) w a = absurd a
+  in-numbers (loading line) mark (loaded t) (answeredHere o held after) w a = absurd a
   in-numbers (loading line) mark (loaded t) (written o after) w a = absurd a
   in-numbers (loading line) mark (loaded t) (restored o) w a = w ∙ ap loadOut (sym a)
 
@@ -95,12 +103,15 @@ pick-both false x = refl
 hand-numbers : (run : Run) (t : TillResult) (r : Result) → InNumbers t r → tillHandAfter (runOut run) t ≡ runOut (handAfter run r)
 unfolding tillHandAfter handAfter observed outcomeOut handed
 hand-numbers run (fed t lent) (answered o after) w = rw (w .0) (pick-out (isAccepted (numberOf (o .answer))) (o .run) run)
+hand-numbers run (fed t lent) (answeredHere o held after) w = rw (w .0) (pick-out (isAccepted (numberOf (o .answer))) held run)
 hand-numbers run (fed t lent) (written o after) w = absurd w
 hand-numbers run (fed t lent) (restored o) w = absurd w
 hand-numbers run (saved t lent) (answered o after) w = absurd w
+hand-numbers run (saved t lent) (answeredHere o held after) w = absurd w
 hand-numbers run (saved t lent) (written o after) w = ap runOut (sym (pick-both (isAccepted (writtenAs o .number)) run))
 hand-numbers run (saved t lent) (restored o) w = absurd w
 hand-numbers run (loaded t) (answered o after) w = absurd w
+hand-numbers run (loaded t) (answeredHere o held after) w = absurd w
 hand-numbers run (loaded t) (written o after) w = absurd w
 hand-numbers run (loaded t) (restored (Accepted o)) w = rw w
 hand-numbers run (loaded t) (restored Refused) w = rw w

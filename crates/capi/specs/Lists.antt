@@ -9,14 +9,16 @@ use Rattle.convert.specs.declared.Outcome.{Outcome}
 use Rattle.convert.specs.Calls.{numberOf}
 use Rattle.checkpoint.specs.Line.{readOf, writtenAs, restoredAs}
 use Rattle.traces.specs.Model.{Setting, Call, feeding, saving, loading, isAccepted, opened, AllAllowed}
-use Rattle.traces.specs.Traces.{Result, fed as answered, saved as written, loaded as restored, Entry}
+use Rattle.runrecord.specs.Records.{outcomeOf}
+use Rattle.traces.specs.Traces.{Result, fed as answered, fedHere as answeredHere, saved as written, loaded as restored, Entry}
 use Rattle.capi.specs.declared.TillRun.{TillRun}
 use Rattle.capi.specs.declared.TillOutcome.{TillOutcome}
 use Rattle.capi.specs.declared.TillHanded.{TillHanded}
 use Rattle.capi.specs.declared.TillSaved.{TillSaved}
 use Rattle.capi.specs.Interface.{directionOut, isLast, runOut, tillCall, TillAnswered, tillStart, loadOut, tillSave, TillSavedAs}
 
--- What C was handed back, with the lent output after the call.
+-- What C was handed back, with the lent output after the call. Of a run call in the record form: what it handed back, with the record
+-- beside it (CR 13).
 pub data TillResult : Type 0 where
   fed : TillOutcome → (lent : List ℕ) → TillResult
   saved : TillSaved → (lent : List ℕ) → TillResult
@@ -28,11 +30,11 @@ pub record TillEntry : Type 0 where
   pub mark : ℕ
   pub result : TillResult
 
--- The contracts of the exported calls, for the run in hand as numbers.
+-- The contracts of the exported calls, for the run in hand as numbers. That of a run call is the same in both forms.
 abbrev pub TillMeets : Setting → (hand : TillRun) → Call → (mark : ℕ) → TillResult → Type 0
-TillMeets s hand (feeding piece last before) mark (fed r after) = (last ≡ isLast mark) × TillAnswered (tillCall (s .direction) hand (s .tables) piece mark (length before)) r before after
-TillMeets s hand (feeding piece last before) mark (saved r after) = ⊥
-TillMeets s hand (feeding piece last before) mark (loaded r) = ⊥
+TillMeets s hand (feeding form piece last before) mark (fed r after) = (last ≡ isLast mark) × TillAnswered (tillCall (s .direction) hand (s .tables) piece mark (length before)) r before after
+TillMeets s hand (feeding form piece last before) mark (saved r after) = ⊥
+TillMeets s hand (feeding form piece last before) mark (loaded r) = ⊥
 TillMeets s hand (saving before) mark (fed r after) = ⊥
 TillMeets s hand (saving before) mark (saved r after) = TillSavedAs (tillSave hand (length before)) r before after
 TillMeets s hand (saving before) mark (loaded r) = ⊥
@@ -69,12 +71,15 @@ outcomeOut o = record { run = runOut (o .run); read = o .read; written = o .writ
 -- What C was handed back is what a call of the library returned, in numbers, and so is the lent output.
 abbrev pub InNumbers : TillResult → Result → Type 0
 InNumbers (fed r lent) (answered o after) = (r ≡ outcomeOut o) × (lent ≡ after)
+InNumbers (fed r lent) (answeredHere o held after) = (r ≡ outcomeOut (outcomeOf o held)) × (lent ≡ after)
 InNumbers (fed r lent) (written w after) = ⊥
 InNumbers (fed r lent) (restored l) = ⊥
 InNumbers (saved r lent) (answered o after) = ⊥
+InNumbers (saved r lent) (answeredHere o held after) = ⊥
 InNumbers (saved r lent) (written w after) = (r .number ≡ writtenAs w .number) × (r .size ≡ writtenAs w .size) × (lent ≡ after)
 InNumbers (saved r lent) (restored l) = ⊥
 InNumbers (loaded r) (answered o after) = ⊥
+InNumbers (loaded r) (answeredHere o held after) = ⊥
 InNumbers (loaded r) (written w after) = ⊥
 InNumbers (loaded r) (restored l) = r ≡ loadOut (restoredAs l)
 
