@@ -55,7 +55,7 @@ def tillbox(*words, word="done", says=None, limit=None):
         if limit is not None:
             resource.setrlimit(resource.RLIMIT_FSIZE, (limit, limit))
 
-    got = subprocess.run([PROGRAM, *words], capture_output=True, preexec_fn=prepare, restore_signals=False)
+    got = subprocess.run([PROGRAM, *words], capture_output=True, preexec_fn=prepare, restore_signals=False, timeout=60)
     equal(got.stdout.decode(), word + "\n" if word else "", f"last word of {words}")
     if says is not None:
         equal(got.stderr.decode(), "".join(f"tillbox: {text}\n" if not text.startswith("  ") else text + "\n" for text in says), f"words of {words}")
@@ -196,16 +196,6 @@ def test_a_byte_order_mark_is_told():
     tillbox("encode", "cp932.tbl", "units", "receipt", says=encoded(2, 2, flags="undefined single"))
 
 
-def test_output_that_can_not_be_made_safe():
-    """A device and a pipe are no error; a full device is."""
-    write("journal", b"tea\n")
-    tillbox("decode", "cp932.tbl", "journal", "/dev/null", says=summary(4, 4))
-    got = subprocess.run([PROGRAM, "decode", "cp932.tbl", "journal", "/dev/stdout"], capture_output=True)
-    equal(got.stdout, "tea\n".encode("utf-16le") + b"done\n", "the ledger in a pipe")
-    said = tillbox("decode", "cp932.tbl", "journal", "/dev/full", word="failed")
-    equal(said, "tillbox: error: cannot write /dev/full: No space left on device\n", "a full device")
-
-
 def test_closed_descriptors():
     """No message is written into a file of the job, whichever of the three descriptors are closed."""
     write("journal", b"A\x93\xfa\n")
@@ -291,11 +281,30 @@ def test_missing_files():
     refused("shape", "none.tbl", says=[f"error: cannot open none.tbl: {missing}"])
 
 
-def test_a_folder_is_no_file():
+NO_PLAIN_FILE = "it is no plain file, but a folder, a pipe or a device"
+
+
+def test_what_is_no_plain_file():
+    """It is refused by its name before it is opened: a pipe would wait for ever. What takes everything can be an output."""
     os.mkdir("folder")
-    refused("decode", "cp932.tbl", "folder", "ledger", says=["error: cannot read folder: Is a directory"])
-    refused("decode", "folder", "journal", "ledger", says=["error: cannot read folder: Is a directory"])
-    refused("decode", "cp932.tbl", "journal", "ledger", "folder", says=["error: cannot read folder: Is a directory"])
+    os.mkfifo("pipe")
+    write("ledger", b"kept")
+    for name in ("folder", "pipe", "/dev/zero", "/dev/full"):
+        says = [f"error: {name}: {NO_PLAIN_FILE}"]
+        refused("decode", "cp932.tbl", name, "ledger", says=says)
+        refused("decode", name, "journal", "ledger", says=says)
+        refused("decode", "cp932.tbl", "journal", name, says=says)
+        refused("decode", "cp932.tbl", "journal", "ledger", name, says=says)
+        refused("import", "cp932.tbl", "journal", name, says=says)
+        refused("preview", "cp932.tbl", name, "receipt", says=says)
+        refused("shape", name, says=says)
+    os.mkfifo("checkpoint.new")
+    refused("decode", "cp932.tbl", "journal", "ledger", "checkpoint", says=[f"error: checkpoint.new: {NO_PLAIN_FILE}"])
+    refused("decode", "cp932.tbl", "/dev/null", "ledger", says=[f"error: /dev/null: {NO_PLAIN_FILE}"])
+    write("journal", b"tea\n")
+    tillbox("decode", "cp932.tbl", "journal", "/dev/null", says=summary(4, 4))
+    os.symlink("/dev/null", "nothing")
+    tillbox("decode", "cp932.tbl", "journal", "nothing", says=summary(4, 4))
 
 
 def test_no_table_image():
@@ -334,6 +343,61 @@ def test_names_are_apart():
     refused("decode", "cp932.tbl", "journal", "ledger", "journal", says=[f"error: journal: {twice}"])
     refused("decode", "cp932.tbl", "journal", "ledger", "ledger", says=[f"error: ledger: {twice}"])
     refused("decode", "cp932.tbl", "journal", "ledger.new", "ledger", says=[f"error: ledger.new: {twice}"])
+
+
+def test_two_names_of_one_file():
+    """Files are told apart by device and number, not by name: nothing is emptied, cut or removed."""
+    os.mkdir("folder")
+    os.link("journal", "hard")
+    os.symlink("journal", "soft")
+    for name in ("./journal", "folder/../journal", os.path.abspath("journal"), "hard", "soft"):
+        says = [f"error: {name}: it is the same file as journal"]
+        refused("decode", "cp932.tbl", "journal", name, says=says)
+        refused("decode", "cp932.tbl", "journal", name, "checkpoint", says=says)
+        refused("import", "cp932.tbl", "journal", name, says=says)
+        refused("preview", "cp932.tbl", "journal", name, says=says)
+        refused("decode", "cp932.tbl", name, "journal", says=[f"error: journal: it is the same file as {name}"])
+        if name != "soft":
+            refused("decode", "cp932.tbl", "journal", "ledger", name, says=says)
+    refused("decode", "cp932.tbl", "journal", "./cp932.tbl", says=["error: ./cp932.tbl: it is the same file as cp932.tbl"])
+    refused("import", "cp932.tbl", "journal", "./cp932.tbl", says=["error: ./cp932.tbl: it is the same file as cp932.tbl"])
+    refused("decode", "cp932.tbl", "journal", "ledger", "./cp932.tbl", says=["error: ./cp932.tbl: it is the same file as cp932.tbl"])
+
+
+def test_two_names_of_a_file_that_is_not_there_yet():
+    os.mkdir("folder")
+    os.symlink("folder", "way")
+    for output, checkpoint in (("ledger", "./ledger"), ("./ledger", "ledger"), ("folder/ledger", "way/ledger"), ("folder/ledger", "folder//ledger")):
+        refused("decode", "cp932.tbl", "journal", output, checkpoint, says=[f"error: {checkpoint}: it is the same file as {output}"])
+        equal(os.path.exists(output), False, f"{output} is there")
+    # the same name in two folders is of two files
+    tillbox("decode", "cp932.tbl", "journal", "folder/ledger", "ledger")
+    remove("ledger", "folder/ledger")
+    # a link to nothing can't be told apart from what it names
+    os.symlink("ledger", "soft")
+    refused("decode", "cp932.tbl", "journal", "soft", says=["error: soft: it is a link to a file that is not there"])
+    refused("decode", "cp932.tbl", "journal", "ledger", "soft", says=["error: soft: it is a link; name the file itself"])
+    equal(os.path.exists("ledger"), False, "the ledger is there")
+
+
+def test_files_beside_the_checkpoint():
+    """The new file that takes the checkpoint's place is removed and made: it is no other file of the job."""
+    for name in ("checkpoint.new",):
+        shutil.copy("journal", name)
+        says = [f"error: {name}: it is the same file as ./{name}"]
+        refused("decode", "cp932.tbl", "./" + name, "ledger", "checkpoint", says=says)
+        refused("decode", "cp932.tbl", "journal", "./" + name, "checkpoint", says=says)
+        shutil.copy("cp932.tbl", name)
+        refused("decode", "./" + name, "journal", "ledger", "checkpoint", says=says)
+        remove(name)
+        os.link("journal", name)
+        refused("decode", "cp932.tbl", "journal", "ledger", "checkpoint", says=[f"error: {name}: it is the same file as journal"])
+        remove(name)
+        refused("decode", "cp932.tbl", "journal", "./" + name, "checkpoint", says=says)
+    tillbox("decode", "cp932.tbl", "journal", "ledger", "checkpoint")
+    os.rename("checkpoint", "line")
+    os.symlink("line", "checkpoint")
+    refused("decode", "cp932.tbl", "journal", "ledger", "checkpoint", says=["error: checkpoint: it is a link; name the file itself"])
 
 
 # ---------------------------------------------------------------------------------------------------------------
@@ -1228,7 +1292,7 @@ def test_import_refused():
         (["none.tbl", "journal", "records"], [f"error: cannot open none.tbl: {missing}"]),
         (["cp932.tbl", "none", "records"], [f"error: cannot open none: {missing}"]),
         (["cp932.tbl", "journal", "none/records"], [f"error: cannot make none/records: {missing}"]),
-        (["cp932.tbl", "folder", "records"], ["error: cannot read folder: Is a directory"]),
+        (["cp932.tbl", "folder", "records"], [f"error: folder: {NO_PLAIN_FILE}"]),
         (["bad.tbl", "journal", "records"], ["error: bad.tbl: it is not a table image"]),
         (["cp932.tbl", "journal", "journal"], [f"error: journal: {twice}"]),
         (["cp932.tbl", "journal", "cp932.tbl"], [f"error: cp932.tbl: {twice}"]),
@@ -1415,7 +1479,7 @@ def preview_refused(*width):
         (["none.tbl", "ledger", "receipt"], [f"error: cannot open none.tbl: {missing}"]),
         (["cp932.tbl", "none", "receipt"], [f"error: cannot open none: {missing}"]),
         (["cp932.tbl", "ledger", "none/receipt"], [f"error: cannot make none/receipt: {missing}"]),
-        (["cp932.tbl", "folder", "receipt"], ["error: cannot read folder: Is a directory"]),
+        (["cp932.tbl", "folder", "receipt"], [f"error: folder: {NO_PLAIN_FILE}"]),
         (["cp932.tbl", "odd", "receipt"], ["error: odd: an odd number of bytes is no text of UTF-16 units"]),
         (["bad.tbl", "ledger", "receipt"], ["error: bad.tbl: it is not a table image"]),
         (["cp932.tbl", "ledger", "ledger"], [f"error: ledger: {twice}"]),

@@ -11,19 +11,11 @@ use convert::Started;
 use image::Loaded;
 use tillbox_jobs::job::Ending;
 use tillbox_jobs::job::closed;
-use tillbox_jobs::job::named_twice;
+use tillbox_jobs::names;
 use tillbox_jobs::stops::is_stopped;
 use tillbox_jobs::tables;
 use tillbox_storage::files;
 use tillbox_storage::messages;
-
-// Whether the records file has a name of its own.
-fn names_apart(table: &[u8], input: &[u8], output: &[u8]) -> bool {
-    if named_twice(output, table) {
-        return false;
-    }
-    !named_twice(output, input)
-}
 
 // The end of an import that was not read to its end: whole records stay, and what happened is said.
 fn broken_off(turn: Turn, out: &[u16], target: i32, input: &[u8], output: &[u8]) -> Ending {
@@ -223,7 +215,10 @@ fn with_tables(
 
 // Imports a journal. What happened is said on standard error.
 pub fn import_files(policy: Policy, table: &[u8], input: &[u8], output: &[u8]) -> Ending {
-    if !names_apart(table, input, output) {
+    if !names::are_files(table, input, output) {
+        return Ending::Failed;
+    }
+    if !names::output_apart(table, input, output) {
         return Ending::Failed;
     }
     let mut classes = [0u8; 300];

@@ -1,6 +1,7 @@
 // A job: an input file converted into an output file, whole or from a checkpoint on.
 use crate::blocks;
 use crate::blocks::Turn;
+use crate::names;
 use crate::report;
 use crate::resume;
 use crate::resume::Beginning;
@@ -19,6 +20,7 @@ use tillbox_printing::Page;
 use tillbox_storage::checkpoints;
 use tillbox_storage::files;
 use tillbox_storage::messages;
+use tillbox_storage::names::is_plain;
 
 // What is to be done.
 pub struct Job {
@@ -44,54 +46,6 @@ pub enum Ending {
     Stopped,
     // The reason was said.
     Failed,
-}
-
-// Whether two files have the same name, and says so.
-pub fn named_twice(a: &[u8], b: &[u8]) -> bool {
-    if check::same(a, b) {
-        messages::wrong(a, b"two of the files have this name");
-        return true;
-    }
-    false
-}
-
-// Whether a file that is written has a name of its own.
-fn is_apart(name: &[u8], table: &[u8], input: &[u8], output: &[u8]) -> bool {
-    if named_twice(name, table) {
-        return false;
-    }
-    if named_twice(name, input) {
-        return false;
-    }
-    !named_twice(name, output)
-}
-
-// Whether the checkpoint, and the new file that takes its place, have names of their own.
-fn checkpoint_apart(checkpoint: &[u8], table: &[u8], input: &[u8], output: &[u8]) -> bool {
-    if !is_apart(checkpoint, table, input, output) {
-        return false;
-    }
-    let mut fresh = io::buffer();
-    let count = checkpoints::new_path(checkpoint, &mut fresh);
-    if count == 0 {
-        messages::wrong(checkpoint, b"the name is too long");
-        return false;
-    }
-    is_apart(&fresh[..count], table, input, output)
-}
-
-// Whether no file that is written has the name of another file of the job. Where one has, it was said.
-fn names_apart(job: Job, table: &[u8], input: &[u8], output: &[u8], checkpoint: &[u8]) -> bool {
-    if named_twice(output, table) {
-        return false;
-    }
-    if named_twice(output, input) {
-        return false;
-    }
-    if job.saves {
-        return checkpoint_apart(checkpoint, table, input, output);
-    }
-    true
 }
 
 // Sums up a run: all is read, or it was stopped.
@@ -394,7 +348,7 @@ pub fn convert_files(
     output: &[u8],
     checkpoint: &[u8],
 ) -> Ending {
-    if !names_apart(job, table, input, output, checkpoint) {
+    if !names::are_apart(job, table, input, output, checkpoint) {
         return Ending::Failed;
     }
     let mut classes = [0u8; 300];
@@ -449,6 +403,9 @@ fn told_shape(numbers: Numbers, fault: Fault) -> Ending {
 
 // Writes the shape report of a table image to standard output.
 pub fn print_shape(table: &[u8]) -> Ending {
+    if !is_plain(table) {
+        return Ending::Failed;
+    }
     let mut classes = [0u8; 300];
     let mut singles = [0u16; 300];
     let mut pairs = [0u16; 33024];

@@ -1,7 +1,7 @@
 // The checkpoint file: a run's line, replaced by a new file under its name only once the output is safe.
-ghost use Rattle.io.specs.Counts.{Counts};
 use crate::files;
 use crate::messages;
+use crate::names;
 use checkpoint::Restored;
 use checkpoint::Written;
 use convert::Run;
@@ -15,25 +15,6 @@ pub fn read_line(fd: i32, path: &[u8]) -> Restored {
         messages::refuse(18, path);
     }
     restored
-}
-
-// Puts a path with `.new` behind it at the front of a buffer and answers its length, or 0 where it does not fit.
-pub fn new_path(path: &[u8], buffer: &mut [u8]) -> usize
-    ensures { λ r. ⌜ Counts r (now (buffer .exit)) ⌝ }
-{
-    let at = path.len();
-    if buffer.len() < 4 {
-        return 0;
-    }
-    if buffer.len() - 4 < at {
-        return 0;
-    }
-    bytes::copy(path, buffer);
-    buffer[at] = b'.';
-    buffer[at + 1] = b'n';
-    buffer[at + 2] = b'e';
-    buffer[at + 3] = b'w';
-    tillbox_layout::front_bytes(at + 4, buffer)
 }
 
 // Writes a file whole and safely. It must not be there yet.
@@ -68,7 +49,7 @@ fn replace(line: &[u8], fresh: &[u8], path: &[u8]) -> bool {
 // Puts a line in the place of a checkpoint's, by way of a new file beside it. Where it could not, the reason was said.
 fn put_line(line: &[u8], path: &[u8]) -> bool {
     let mut fresh = io::buffer();
-    let count = new_path(path, &mut fresh);
+    let count = names::beside(path, b".new", &mut fresh);
     replace(line, &fresh[..count], path)
 }
 

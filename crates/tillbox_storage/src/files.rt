@@ -108,7 +108,7 @@ pub fn finish(fd: i32, path: &[u8]) -> bool {
 }
 
 // The length of the folder's part of a path, with the slash at its end; 0 where it has none.
-fn folder_len(path: &[u8]) -> usize
+pub fn folder_len(path: &[u8]) -> usize
     ensures { λ r. ⌜ Counts r (now (path .entry)) ⌝ }
 {
     let mut end = path.len();
