@@ -15,10 +15,12 @@ import random
 import re
 import resource
 import shutil
+import signal
 import struct
 import subprocess
 import sys
 import tempfile
+import time
 
 import second_converter
 
@@ -298,8 +300,10 @@ def test_what_is_no_plain_file():
         refused("import", "cp932.tbl", "journal", name, says=says)
         refused("preview", "cp932.tbl", name, "receipt", says=says)
         refused("shape", name, says=says)
-    os.mkfifo("checkpoint.new")
-    refused("decode", "cp932.tbl", "journal", "ledger", "checkpoint", says=[f"error: checkpoint.new: {NO_PLAIN_FILE}"])
+    for name in ("checkpoint.new", "checkpoint.lock"):
+        os.mkfifo(name)
+        refused("decode", "cp932.tbl", "journal", "ledger", "checkpoint", says=[f"error: {name}: {NO_PLAIN_FILE}"])
+        os.remove(name)
     refused("decode", "cp932.tbl", "/dev/null", "ledger", says=[f"error: /dev/null: {NO_PLAIN_FILE}"])
     write("journal", b"tea\n")
     tillbox("decode", "cp932.tbl", "journal", "/dev/null", says=summary(4, 4))
@@ -381,8 +385,8 @@ def test_two_names_of_a_file_that_is_not_there_yet():
 
 
 def test_files_beside_the_checkpoint():
-    """The new file that takes the checkpoint's place is removed and made: it is no other file of the job."""
-    for name in ("checkpoint.new",):
+    """The new file that takes the checkpoint's place, and the lock, are made and removed: they are no other files of the job."""
+    for name in ("checkpoint.new", "checkpoint.lock"):
         shutil.copy("journal", name)
         says = [f"error: {name}: it is the same file as ./{name}"]
         refused("decode", "cp932.tbl", "./" + name, "ledger", "checkpoint", says=says)
@@ -398,6 +402,184 @@ def test_files_beside_the_checkpoint():
     os.rename("checkpoint", "line")
     os.symlink("line", "checkpoint")
     refused("decode", "cp932.tbl", "journal", "ledger", "checkpoint", says=["error: checkpoint: it is a link; name the file itself"])
+
+
+# ---------------------------------------------------------------------------------------------------------------
+# One job at a time
+# ---------------------------------------------------------------------------------------------------------------
+
+
+def at_work(process):
+    return [f"error: checkpoint: another job (process {process}) is at work on this checkpoint"]
+
+
+def halted(*words):
+    """A job that is halted after its first lines, its checkpoint's lock in its hands."""
+    job = subprocess.Popen([PROGRAM, *words], stdout=subprocess.DEVNULL, stderr=subprocess.DEVNULL)
+    while not os.path.exists("checkpoint") and job.poll() is None:
+        time.sleep(0.001)
+    job.send_signal(signal.SIGSTOP)
+    equal(job.poll(), None, "a long job has ended")
+    return job
+
+
+JOB = ("decode", "last", "cp932.tbl", "journal", "ledger", "checkpoint")
+
+
+def test_one_job_at_a_time():
+    """A job whose checkpoint another one works on changes nothing; a job that was killed is not in the way."""
+    write("journal", b"tea \x93\xfa\n" * 3000000)
+    for waited in (True, False):
+        job = halted(*JOB)
+        refused(*JOB, says=at_work(job.pid))
+        job.kill()
+        if waited:
+            job.wait()
+        # a killed process keeps its number until somebody asks how it ended
+        tillbox(*JOB, says=None)
+        job.wait()
+        equal(len(read("ledger")), 2 * 6 * 3000000, "the ledger's length")
+        equal(read("checkpoint"), line("D 932 550 - 0 21000000 18000000 over"), "the line")
+        equal(os.path.exists("checkpoint.lock"), False, "a lock is left")
+        remove("ledger", "checkpoint")
+
+
+def test_locks_that_are_left():
+    """An entry counts only while its process has the lock open on its descriptor; what is no entry is passed over."""
+    write("journal", b"tea\n")
+    for entries in (b"", b"\n1 3\n", b"\n1 3\n\n99999999 3\n", b"no lock\n", b"\n%d 0\n" % os.getpid(), b"\n%d" % os.getpid(), b"\n" * 500):
+        write("checkpoint.lock", entries)
+        tillbox(*JOB, says=summary(4, 4))
+        equal(os.path.exists("checkpoint.lock"), False, f"the lock of {entries!r} is left")
+        remove("checkpoint")
+    with open("checkpoint.lock", "ab", buffering=0) as lock:
+        for before in (b"", b"1 3\n", b"12 34 5\n", b"tea", b"123456789012345678901234567890 5\n", b"1"):
+            os.truncate("checkpoint.lock", 0)
+            lock.write(before + b"\n%d %d\n" % (os.getpid(), lock.fileno()))
+            refused(*JOB, says=at_work(os.getpid()))
+    write("checkpoint.lock", b"\n99999999 3\n" * 400)
+    refused_once = tillbox(*JOB, word="failed")
+    equal(refused_once, "tillbox: error: checkpoint.lock: it has the entries of too many jobs; where none of them is at work, remove it\n", "a long lock")
+
+
+def grow(chance, text, size):
+    """The journal with some bytes more of the text; how many it has then."""
+    more = chance.randrange(1, 3000)
+    with open("journal", "ab") as file:
+        file.write(text[size : size + more])
+    return min(len(text), size + more)
+
+
+def overlapping(chance, pairs, kills):
+    """Pairs of jobs that begin at once while the journal grows: each is done, refused or killed, and the ledger is right."""
+    text = ("茶 tea 表ソ能 1,234\n" * 60000).encode("cp932")
+    size = 0
+    write("journal", b"")
+    refusals = 0
+    for _ in range(pairs):
+        size = grow(chance, text, size)
+        words = [PROGRAM, "decode", "cp932.tbl", "journal", "ledger", "checkpoint"]
+        jobs = [subprocess.Popen(words, stdout=subprocess.PIPE, stderr=subprocess.PIPE) for _ in range(2)]
+        size = grow(chance, text, size)
+        if kills:
+            time.sleep(0.004 * chance.random())
+            for job in jobs[: chance.randrange(3)]:
+                job.kill()
+        for job in jobs:
+            said, errors = job.communicate()
+            if job.returncode == -9:
+                continue
+            if said == b"failed\n":
+                refusals += 1
+                if b"is at work on this checkpoint" not in errors:
+                    raise AssertionError(f"a job failed: {errors.decode()}")
+            else:
+                equal(said, b"done\n", "last word of one of two jobs")
+    last_word = subprocess.run([PROGRAM, *JOB], capture_output=True).stdout
+    equal(last_word in (b"done\n", b"stopped\n"), True, "the last word")
+    # under 550 the run stops at a first half that the journal ends with; before it all is right
+    right = text[:size].decode("cp932", "ignore").encode("utf-16le")
+    equal(len(read("ledger")), len(right), "the ledger's length")
+    equal(read("ledger") == right, True, "the ledger is right")
+    equal(os.path.exists("checkpoint.lock"), False, "a lock is left")
+    return refusals
+
+
+def test_overlapping_jobs():
+    chance = random.Random(19)
+    if overlapping(chance, 500, kills=False) == 0:
+        raise AssertionError("no two jobs of 500 pairs overlapped")
+    remove("ledger", "checkpoint")
+    overlapping(chance, 250, kills=True)
+
+
+# ---------------------------------------------------------------------------------------------------------------
+# What the system can not do
+# ---------------------------------------------------------------------------------------------------------------
+
+
+def can_trace():
+    if shutil.which("strace") is None:
+        return False
+    return subprocess.run(["strace", "-o", "/dev/null", "true"], stderr=subprocess.DEVNULL).returncode == 0
+
+
+def injected(call, path, *words, when="1", error="EIO", says):
+    """A call of the system on a file fails, and the job says so in the system's words."""
+    if not can_trace():
+        return
+    trace = ["strace", "-o", "/dev/null", "-P", path, "-e", f"trace={call}", "-e", f"inject={call}:error={error}:when={when}"]
+    got = subprocess.run([*trace, PROGRAM, *words], capture_output=True, timeout=60)
+    equal((got.stdout.decode(), got.stderr.decode()), ("failed\n", f"tillbox: error: {says}\n"), f"{call} of {path} failed in {words}")
+
+
+def test_read_errors():
+    """They are told as such, wherever they come."""
+    write("journal", b"tea\n" * 1000)
+    write("units", "tea\n".encode("utf-16le") * 1000)
+    broken = "Input/output error"
+    for name, words in (
+        ("journal", ("decode", "cp932.tbl", "journal", "ledger")),
+        ("journal", ("import", "cp932.tbl", "journal", "records")),
+        ("units", ("encode", "cp932.tbl", "units", "receipt")),
+        ("units", ("preview", "width", "9", "cp932.tbl", "units", "receipt")),
+    ):
+        for when in ("1", "3"):
+            injected("read", name, *words, when=when, says=f"cannot read {name}: {broken}")
+    for words in (("decode", "cp932.tbl", "journal", "ledger"), ("shape", "cp932.tbl")):
+        injected("read", "cp932.tbl", *words, says=f"cannot read cp932.tbl: {broken}")
+    tillbox(*JOB)
+    injected("read", "checkpoint", *JOB, says=f"cannot read checkpoint: {broken}")
+
+
+def test_outputs_that_are_not_safe():
+    """What fails at the end of an output is told, and the last word is not done."""
+    write("journal", b"tea\n")
+    for words in (("decode", "cp932.tbl", "journal", "ledger"), JOB, ("import", "cp932.tbl", "journal", "ledger"), ("preview", "cp932.tbl", "journal", "ledger")):
+        injected("fsync", "ledger", *words, says="cannot sync ledger: Input/output error")
+        remove("checkpoint")
+    if can_trace():
+        for words in (("decode", "cp932.tbl", "journal", "ledger"), JOB, ("import", "cp932.tbl", "journal", "ledger")):
+            trace = ["strace", "-o", "/dev/null", "-P", "ledger", "-e", "trace=close", "-e", "inject=close:error=ENOSPC"]
+            got = subprocess.run([*trace, PROGRAM, *words], capture_output=True, timeout=60)
+            equal(got.stdout, b"failed\n", f"the last word of {words} whose output was not closed")
+            if b"cannot close ledger: No space left on device" not in got.stderr:
+                raise AssertionError(f"what {words} said: {got.stderr.decode()}")
+            remove("checkpoint")
+
+
+def test_a_checkpoint_that_can_not_be_made():
+    """An old ledger is not touched before it is known that a line can be put into the checkpoint's folder."""
+    write("ledger", b"kept")
+    refused("decode", "cp932.tbl", "journal", "ledger", "none/checkpoint", says=["error: cannot make none/checkpoint.lock: No such file or directory"])
+    os.mkdir("folder")
+    os.mkdir("folder/checkpoint.new")
+    refused("decode", "cp932.tbl", "journal", "ledger", "folder/checkpoint", says=[f"error: folder/checkpoint.new: {NO_PLAIN_FILE}"])
+    if can_trace():
+        trace = ["strace", "-o", "/dev/null", "-P", "checkpoint.new", "-e", "trace=openat", "-e", "inject=openat:error=EROFS"]
+        got = subprocess.run([*trace, PROGRAM, *JOB], capture_output=True, timeout=60)
+        equal((got.stdout, got.stderr), (b"failed\n", b"tillbox: error: cannot make checkpoint.new: Read-only file system\n"), "a folder that can't be written")
+        equal(read("ledger"), b"kept", "the ledger")
 
 
 # ---------------------------------------------------------------------------------------------------------------

@@ -7,7 +7,6 @@ use convert::Outcome;
 use convert::Pending;
 use convert::Run;
 use fields::Held;
-use tillbox_jobs::blocks::is_taken;
 use tillbox_jobs::blocks::stop_of_decoding;
 use tillbox_jobs::report;
 use tillbox_jobs::stops;
@@ -197,7 +196,7 @@ fn cut_block(
     let answer = outcome.answer;
     let after = outcome.run;
     let number = answer.number();
-    if !is_taken(number) {
+    if !messages::is_taken(number) {
         messages::refuse(number, input);
         return broken(after, state, progress);
     }
@@ -250,11 +249,11 @@ fn next_block(
     let size = tillbox_layout::block_len(run.read, total);
     let last = tillbox_layout::is_final(run.read, total);
     let mut block = [0u8; 512];
-    let count = files::read_some(source, size, &mut block);
-    if count < size {
-        files::say_short(source, input);
+    let got = files::read_block(source, size, &mut block, input);
+    if got.failed {
         return broken(run, state, progress);
     }
+    let count = got.count;
     cut_block(
         run,
         state,

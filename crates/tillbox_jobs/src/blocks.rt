@@ -34,20 +34,12 @@ fn broken(run: Run) -> Turn {
     }
 }
 
-// Whether a call with room enough was taken.
-pub fn is_taken(number: u8) -> bool {
-    if number == 2 {
-        return false;
-    }
-    number < 10
-}
-
 // The run after a call that had room enough.
 fn settled(outcome: Outcome, stop: Stop, replaced: u64, path: &[u8]) -> Turn {
     let answer = outcome.answer;
     let run = outcome.run;
     let number = answer.number();
-    if is_taken(number) {
+    if messages::is_taken(number) {
         return Turn {
             run,
             stop,
@@ -134,11 +126,11 @@ fn decode_block(
     output: &[u8],
 ) -> Turn {
     let mut block = [0u8; 512];
-    let count = files::read_some(source, size, &mut block);
-    if count < size {
-        files::say_short(source, input);
+    let got = files::read_block(source, size, &mut block, input);
+    if got.failed {
         return broken(run);
     }
+    let count = got.count;
     let mut units = [0u16; 1024];
     let outcome = convert::decode(
         run,
@@ -255,11 +247,11 @@ fn encode_block(
     requires { ⌜ size ≤ 512 ⌝ }
 {
     let mut block = [0u8; 1024];
-    let count = files::read_some(source, 2 * size, &mut block);
-    if count < 2 * size {
-        files::say_short(source, input);
+    let got = files::read_block(source, 2 * size, &mut block, input);
+    if got.failed {
         return broken(run);
     }
+    let count = got.count;
     let mut units = [0u16; 512];
     let length = tillbox_layout::utf16::to_units(&block[..count], &mut units);
     encode_units(

@@ -16,6 +16,7 @@ use convert::Policy;
 use convert::Run;
 use image::Loaded;
 use libc::STDOUT_FILENO;
+use tillbox_lock::Lock;
 use tillbox_printing::Page;
 use tillbox_storage::checkpoints;
 use tillbox_storage::files;
@@ -111,6 +112,14 @@ fn open_target(run: Run, resumed: bool, output: &[u8]) -> i32 {
     files::take_up(output, place)
 }
 
+// Whether the line of a job that saves could be put into the checkpoint's folder, which is tried before an output is touched.
+fn is_ready(job: Job, checkpoint: &[u8]) -> bool {
+    if !job.saves {
+        return true;
+    }
+    checkpoints::can_save(checkpoint)
+}
+
 // From a run on.
 fn with_run(
     job: Job,
@@ -131,11 +140,15 @@ fn with_run(
     if !go_to(run, source, input) {
         return Ending::Failed;
     }
+    if !is_ready(job, checkpoint) {
+        return Ending::Failed;
+    }
     let target = open_target(run, beginning.resumed, output);
     if target < 0 {
         return Ending::Failed;
     }
     if job.width != 0 {
+        let mut line = [0u8; 65536];
         let page = tillbox_printing::print_ledger(
             run,
             numbers,
@@ -148,6 +161,7 @@ fn with_run(
             source,
             target,
             total,
+            &mut line,
             input,
             output,
         );
@@ -172,11 +186,19 @@ fn with_run(
         output,
         checkpoint,
     );
-    closed(
-        finished(job, turn, target, output, checkpoint),
-        target,
-        output,
-    )
+    let ending = finished(job, turn, target, output, checkpoint);
+    if job.saves {
+        return closed_saved(ending, target, output);
+    }
+    closed(ending, target, output)
+}
+
+// How a job ends whose output was made safe with its last line, and is closed.
+fn closed_saved(ending: Ending, target: i32, output: &[u8]) -> Ending {
+    if files::close(target, output) {
+        return ending;
+    }
+    Ending::Failed
 }
 
 // How a job ends whose output is made safe and closed.
@@ -261,8 +283,8 @@ fn is_complete(job: Job, wide: bool, bytes: u64, input: &[u8]) -> bool {
     false
 }
 
-// From an open input on.
-fn with_input(
+// From an open input on, whose size is asked here: an earlier job may have worked on the checkpoint while the input grew.
+fn with_size(
     job: Job,
     numbers: Numbers,
     classes: &[u8],
@@ -300,6 +322,51 @@ fn with_input(
         output,
         checkpoint,
     )
+}
+
+// From an open input on. A job that saves has its checkpoint to itself.
+fn with_input(
+    job: Job,
+    numbers: Numbers,
+    classes: &[u8],
+    singles: &[u16],
+    pairs: &[u16],
+    index: &[u8],
+    blocks: &[u16],
+    source: i32,
+    input: &[u8],
+    output: &[u8],
+    checkpoint: &[u8],
+) -> Ending {
+    let lock = locked(job, checkpoint);
+    if let Lock::Refused = lock {
+        return Ending::Failed;
+    }
+    let ending = with_size(
+        job,
+        numbers,
+        classes,
+        singles,
+        pairs,
+        index,
+        blocks,
+        source,
+        input,
+        output,
+        checkpoint,
+    );
+    if let Lock::Held(fd) = lock {
+        tillbox_lock::release(fd, checkpoint);
+    }
+    ending
+}
+
+// The lock of a job that saves; one that does not needs none.
+fn locked(job: Job, checkpoint: &[u8]) -> Lock {
+    if !job.saves {
+        return Lock::Free;
+    }
+    tillbox_lock::take(checkpoint)
 }
 
 // From a table set on.

@@ -68,5 +68,8 @@ pub fn are_apart(job: Job, table: &[u8], input: &[u8], output: &[u8], checkpoint
     if !is_apart(checkpoint, table, input, output) {
         return false;
     }
-    beside_apart(checkpoint, b".new", table, input, output)
+    if !beside_apart(checkpoint, b".new", table, input, output) {
+        return false;
+    }
+    beside_apart(checkpoint, b".lock", table, input, output)
 }

@@ -29,8 +29,12 @@ pub fn load(
         return Loaded::NotAnImage;
     }
     let mut bytes = [0u8; 200000];
-    let count = files::read_some(fd, 200000, &mut bytes);
+    let got = files::read_some(fd, 200000, &mut bytes, path);
     libc::close(fd);
+    if got.failed {
+        return Loaded::NotAnImage;
+    }
+    let count = got.count;
     let loaded = image::load(&bytes[..count], classes, singles, pairs, index, blocks);
     told(path, loaded)
 }

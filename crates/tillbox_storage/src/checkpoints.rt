@@ -6,10 +6,14 @@ use checkpoint::Restored;
 use checkpoint::Written;
 use convert::Run;
 
-// Reads the line of an open checkpoint file.
+// Reads the line of an open checkpoint file. Where it is refused the reason was said.
 pub fn read_line(fd: i32, path: &[u8]) -> Restored {
     let mut line = [0u8; 64];
-    let count = files::read_some(fd, 64, &mut line);
+    let got = files::read_some(fd, 64, &mut line, path);
+    if got.failed {
+        return Restored::Refused;
+    }
+    let count = got.count;
     let restored = checkpoint::read(&line[..count]);
     if let Restored::Refused = restored {
         messages::refuse(18, path);
@@ -51,6 +55,26 @@ fn put_line(line: &[u8], path: &[u8]) -> bool {
     let mut fresh = io::buffer();
     let count = names::beside(path, b".new", &mut fresh);
     replace(line, &fresh[..count], path)
+}
+
+// Whether a file can be made; it is removed again. Where it can not, the reason was said.
+fn can_make(fresh: &[u8]) -> bool {
+    os::unlink(fresh);
+    let fd = os::create(fresh);
+    if fd < 0 {
+        messages::cannot(b"make", fresh);
+        return false;
+    }
+    libc::close(fd);
+    os::unlink(fresh);
+    true
+}
+
+// Whether the new file of a checkpoint can be made beside it. Where it can not, the reason was said.
+pub fn can_save(path: &[u8]) -> bool {
+    let mut fresh = io::buffer();
+    let count = names::beside(path, b".new", &mut fresh);
+    can_make(&fresh[..count])
 }
 
 // Saves a run: first what was written to the output is made safe, then the line takes the checkpoint's place.
