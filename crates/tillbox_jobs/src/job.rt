@@ -1,7 +1,6 @@
 // A job: an input file converted into an output file, whole or from a checkpoint on.
 use crate::blocks;
 use crate::blocks::Turn;
-use crate::names;
 use crate::report;
 use crate::resume;
 use crate::resume::Beginning;
@@ -9,19 +8,18 @@ use crate::resume::Origin;
 use crate::stops;
 use crate::stops::Stop;
 use crate::tables;
-use codepage::Fault;
 use codepage::Numbers;
 use convert::Direction;
 use convert::Policy;
 use convert::Run;
-use image::Loaded;
-use libc::STDOUT_FILENO;
+use tillbox_checks::kinds;
+use tillbox_checks::kinds::Kinds;
+use tillbox_checks::tails;
 use tillbox_lock::Lock;
 use tillbox_printing::Page;
 use tillbox_storage::checkpoints;
 use tillbox_storage::files;
 use tillbox_storage::messages;
-use tillbox_storage::names::is_plain;
 
 // What is to be done.
 pub struct Job {
@@ -50,8 +48,8 @@ pub enum Ending {
 }
 
 // Sums up a run: all is read, or it was stopped.
-fn told(run: Run, stop: Stop, checkpoint: &[u8]) -> Ending {
-    report::summary(run, stop, checkpoint);
+fn told(run: Run, stop: Stop, kinds: Kinds, checkpoint: &[u8]) -> Ending {
+    report::summary(run, stop, kinds, checkpoint);
     if stops::is_stopped(run) {
         return Ending::Stopped;
     }
@@ -61,6 +59,7 @@ fn told(run: Run, stop: Stop, checkpoint: &[u8]) -> Ending {
 // The end of a job whose blocks are done: the last line is saved and the run summed up.
 fn finished(job: Job, turn: Turn, target: i32, output: &[u8], checkpoint: &[u8]) -> Ending {
     let run = turn.run;
+    let met = turn.kinds;
     if turn.failed {
         return Ending::Failed;
     }
@@ -71,11 +70,11 @@ fn finished(job: Job, turn: Turn, target: i32, output: &[u8], checkpoint: &[u8])
         files::sync_folder(checkpoint);
     }
     if job.counts {
-        report::preview(run, turn.replaced);
+        report::preview(run, turn.replaced, met);
         return Ending::Done;
     }
     let stop = turn.stop;
-    told(run, stop, checkpoint)
+    told(run, stop, met, checkpoint)
 }
 
 // The end of a preview whose lines were broken.
@@ -112,6 +111,71 @@ fn open_target(run: Run, resumed: bool, output: &[u8]) -> i32 {
     files::take_up(output, place)
 }
 
+// Whether the files of a run that goes on are its own, as far as it can be told. Where they are not, that was said.
+fn are_own(
+    run: Run,
+    numbers: Numbers,
+    classes: &[u8],
+    singles: &[u16],
+    pairs: &[u16],
+    index: &[u8],
+    blocks: &[u16],
+    source: i32,
+    input: &[u8],
+    output: &[u8],
+) -> bool {
+    let reader = files::open_input(output);
+    if reader < 0 {
+        return false;
+    }
+    let own = tails::are_of(
+        run,
+        numbers,
+        classes,
+        singles,
+        pairs,
+        index,
+        blocks,
+        source,
+        reader,
+        input,
+        output,
+    );
+    libc::close(reader);
+    own
+}
+
+// Whether a job's files are those of the run that it begins with.
+fn can_begin(
+    beginning: Beginning,
+    numbers: Numbers,
+    classes: &[u8],
+    singles: &[u16],
+    pairs: &[u16],
+    index: &[u8],
+    blocks: &[u16],
+    source: i32,
+    input: &[u8],
+    output: &[u8],
+) -> bool {
+    let run = beginning.run;
+    if !beginning.resumed {
+        return true;
+    }
+    are_own(
+        run,
+        numbers,
+        classes,
+        singles,
+        pairs,
+        index,
+        blocks,
+        source,
+        input,
+        output,
+    )
+}
+
 // Whether the line of a job that saves could be put into the checkpoint's folder, which is tried before an output is touched.
 fn is_ready(job: Job, checkpoint: &[u8]) -> bool {
     if !job.saves {
@@ -130,6 +194,7 @@ fn with_run(
     pairs: &[u16],
     index: &[u8],
     blocks: &[u16],
+    line: &mut [u8],
     source: i32,
     total: u64,
     input: &[u8],
@@ -137,6 +202,20 @@ fn with_run(
     checkpoint: &[u8],
 ) -> Ending {
     let run = beginning.run;
+    if !can_begin(
+        beginning,
+        numbers,
+        classes,
+        singles,
+        pairs,
+        index,
+        blocks,
+        source,
+        input,
+        output,
+    ) {
+        return Ending::Failed;
+    }
     if !go_to(run, source, input) {
         return Ending::Failed;
     }
@@ -148,7 +227,6 @@ fn with_run(
         return Ending::Failed;
     }
     if job.width != 0 {
-        let mut line = [0u8; 65536];
         let page = tillbox_printing::print_ledger(
             run,
             numbers,
@@ -161,7 +239,7 @@ fn with_run(
             source,
             target,
             total,
-            &mut line,
+            line,
             input,
             output,
         );
@@ -210,14 +288,40 @@ pub fn closed(ending: Ending, target: i32, output: &[u8]) -> Ending {
 }
 
 // The end of a job whose run had ended before: its output is looked at as that of one that goes on.
-fn nothing_to_do(run: Run, output: &[u8], checkpoint: &[u8]) -> Ending {
+fn nothing_to_do(
+    run: Run,
+    numbers: Numbers,
+    classes: &[u8],
+    singles: &[u16],
+    pairs: &[u16],
+    index: &[u8],
+    blocks: &[u16],
+    source: i32,
+    input: &[u8],
+    output: &[u8],
+    checkpoint: &[u8],
+) -> Ending {
+    if !are_own(
+        run,
+        numbers,
+        classes,
+        singles,
+        pairs,
+        index,
+        blocks,
+        source,
+        input,
+        output,
+    ) {
+        return Ending::Failed;
+    }
     let target = open_target(run, true, output);
     if target < 0 {
         return Ending::Failed;
     }
     libc::close(target);
     messages::say(b"tillbox: nothing to do: the run of the checkpoint has ended\n");
-    told(run, stops::none(), checkpoint)
+    told(run, stops::none(), kinds::none(), checkpoint)
 }
 
 // From an input of `total` units on.
@@ -229,6 +333,7 @@ fn with_total(
     pairs: &[u16],
     index: &[u8],
     blocks: &[u16],
+    line: &mut [u8],
     source: i32,
     total: u64,
     input: &[u8],
@@ -260,13 +365,26 @@ fn with_total(
             pairs,
             index,
             blocks,
+            line,
             source,
             total,
             input,
             output,
             checkpoint,
         ),
-        Origin::Finished(run) => nothing_to_do(run, output, checkpoint),
+        Origin::Finished(run) => nothing_to_do(
+            run,
+            numbers,
+            classes,
+            singles,
+            pairs,
+            index,
+            blocks,
+            source,
+            input,
+            output,
+            checkpoint,
+        ),
         Origin::Failed => Ending::Failed,
     }
 }
@@ -292,6 +410,7 @@ fn with_size(
     pairs: &[u16],
     index: &[u8],
     blocks: &[u16],
+    line: &mut [u8],
     source: i32,
     input: &[u8],
     output: &[u8],
@@ -316,6 +435,7 @@ fn with_size(
         pairs,
         index,
         blocks,
+        line,
         source,
         total,
         input,
@@ -333,6 +453,7 @@ fn with_input(
     pairs: &[u16],
     index: &[u8],
     blocks: &[u16],
+    line: &mut [u8],
     source: i32,
     input: &[u8],
     output: &[u8],
@@ -350,6 +471,7 @@ fn with_input(
         pairs,
         index,
         blocks,
+        line,
         source,
         input,
         output,
@@ -369,8 +491,9 @@ fn locked(job: Job, checkpoint: &[u8]) -> Lock {
     tillbox_lock::take(checkpoint)
 }
 
-// From a table set on.
-fn with_tables(
+// Does a job with a table set. `checkpoint` is looked at only where the job saves, and `line` is room for a line that is broken. What
+// happened is said on standard error.
+pub fn with_tables(
     job: Job,
     numbers: Numbers,
     classes: &[u8],
@@ -378,6 +501,7 @@ fn with_tables(
     pairs: &[u16],
     index: &[u8],
     blocks: &[u16],
+    line: &mut [u8],
     table: &[u8],
     input: &[u8],
     output: &[u8],
@@ -398,6 +522,7 @@ fn with_tables(
         pairs,
         index,
         blocks,
+        line,
         source,
         input,
         output,
@@ -405,104 +530,4 @@ fn with_tables(
     );
     libc::close(source);
     ending
-}
-
-// Does a job. `checkpoint` is looked at only where the job saves. What happened is said on standard error.
-pub fn convert_files(
-    job: Job,
-    table: &[u8],
-    input: &[u8],
-    output: &[u8],
-    checkpoint: &[u8],
-) -> Ending {
-    if !names::are_apart(job, table, input, output, checkpoint) {
-        return Ending::Failed;
-    }
-    let mut classes = [0u8; 300];
-    let mut singles = [0u16; 300];
-    let mut pairs = [0u16; 33024];
-    let mut index = [0u8; 300];
-    let mut blocks = [0u16; 66048];
-    let loaded = tables::load(
-        table,
-        &mut classes,
-        &mut singles,
-        &mut pairs,
-        &mut index,
-        &mut blocks,
-    );
-    match loaded {
-        Loaded::NotAnImage => Ending::Failed,
-        Loaded::Table(numbers, sizes) => {
-            let a = tillbox_layout::front_bytes(sizes.classes, &classes);
-            let b = tillbox_layout::front_units(sizes.singles, &singles);
-            let c = tillbox_layout::front_units(sizes.pairs, &pairs);
-            let d = tillbox_layout::front_bytes(sizes.index, &index);
-            let e = tillbox_layout::front_units(sizes.blocks, &blocks);
-            with_tables(
-                job,
-                numbers,
-                &classes[..a],
-                &singles[..b],
-                &pairs[..c],
-                &index[..d],
-                &blocks[..e],
-                table,
-                input,
-                output,
-                checkpoint,
-            )
-        }
-    }
-}
-
-// The shape report of a table set, in words on standard output.
-fn told_shape(numbers: Numbers, fault: Fault) -> Ending {
-    messages::put(STDOUT_FILENO, b"page ");
-    messages::put_number(STDOUT_FILENO, numbers.page as u64);
-    messages::put(STDOUT_FILENO, b": ");
-    tables::put_fault(STDOUT_FILENO, fault);
-    if let Fault::Good = fault {
-        return Ending::Done;
-    }
-    Ending::Failed
-}
-
-// Writes the shape report of a table image to standard output.
-pub fn print_shape(table: &[u8]) -> Ending {
-    if !is_plain(table) {
-        return Ending::Failed;
-    }
-    let mut classes = [0u8; 300];
-    let mut singles = [0u16; 300];
-    let mut pairs = [0u16; 33024];
-    let mut index = [0u8; 300];
-    let mut blocks = [0u16; 66048];
-    let loaded = tables::load(
-        table,
-        &mut classes,
-        &mut singles,
-        &mut pairs,
-        &mut index,
-        &mut blocks,
-    );
-    match loaded {
-        Loaded::NotAnImage => Ending::Failed,
-        Loaded::Table(numbers, sizes) => {
-            let a = tillbox_layout::front_bytes(sizes.classes, &classes);
-            let b = tillbox_layout::front_units(sizes.singles, &singles);
-            let c = tillbox_layout::front_units(sizes.pairs, &pairs);
-            let d = tillbox_layout::front_bytes(sizes.index, &index);
-            let e = tillbox_layout::front_units(sizes.blocks, &blocks);
-            let fault = codepage::shape_report(
-                numbers,
-                &classes[..a],
-                &singles[..b],
-                &pairs[..c],
-                &index[..d],
-                &blocks[..e],
-            );
-            told_shape(numbers, fault)
-        }
-    }
 }

@@ -5,5 +5,6 @@ pub mod job;
 pub mod names;
 pub mod report;
 mod resume;
+pub mod shape;
 pub mod stops;
 pub mod tables;
