@@ -16,24 +16,28 @@ fail() {
 }
 
 echo "== Building tillbox: proving it and all that it stands on"
-rt check tillbox > "${TMPDIR:-/tmp}/tillbox-build.$$" 2>&1
+tools/build.sh > "${TMPDIR:-/tmp}/tillbox-build.$$" 2>&1
 built=$?
 [ $built -eq 0 ] || tail -20 "${TMPDIR:-/tmp}/tillbox-build.$$"
 rm -f "${TMPDIR:-/tmp}/tillbox-build.$$"
 [ $built -eq 0 ] || fail "tillbox could not be built"
 
-tillbox=$root/target/bin/tillbox
+tillbox=$root/target/tillbox
 table=$root/tables/cp932.tbl
 folder=$(mktemp -d) || fail "no folder to work in"
 trap 'rm -rf "$folder"' EXIT
 cd "$folder" || fail "no folder to work in"
 
-# Runs tillbox and expects a last word on standard output.
+# Runs tillbox and expects a last word on standard output, and the exit status that goes with it.
 expect() {
-    local word=$1
+    local word=$1 said status wanted=0
     shift
+    [ "$word" != stopped ] || wanted=2
     echo "\$ tillbox $*" | sed "s|$root/||g"
-    [ "$("$tillbox" "$@")" = "$word" ] || fail "tillbox did not end with '$word'"
+    said=$("$tillbox" "$@")
+    status=$?
+    [ "$said" = "$word" ] || fail "tillbox did not end with '$word'"
+    [ $status -eq $wanted ] || fail "tillbox returned $status, not $wanted"
 }
 
 # Expects these records, a format of printf, in records.csv, with the mark of UTF-16LE in front, and shows them.

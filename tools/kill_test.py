@@ -286,7 +286,7 @@ def every_call(chance, program, table):
 
 def main():
     parser = argparse.ArgumentParser(description=__doc__.splitlines()[0])
-    parser.add_argument("--tillbox", default=os.path.join(ROOT, "target", "bin", "tillbox"))
+    parser.add_argument("--tillbox", default=os.path.join(ROOT, "target", "tillbox"))
     parser.add_argument("--rounds", type=int, default=30)
     parser.add_argument("--seed", type=int, default=None)
     parser.add_argument("--size", type=int, default=400000)

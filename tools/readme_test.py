@@ -1,7 +1,7 @@
 #!/usr/bin/env python3
 """Runs the examples of README.md and compares what they write, on both streams, with what stands there.
 
-    python3 tools/readme_test.py            uses target/bin/tillbox
+    python3 tools/readme_test.py            uses target/tillbox
 
 An example is an indented line that begins with `$ `, and the indented lines below it. They run in a new folder, one after the other."""
 import os
@@ -26,9 +26,9 @@ def examples(text):
 
 
 def main():
-    program = os.path.join(ROOT, "target", "bin")
+    program = os.path.join(ROOT, "target")
     if not os.path.exists(os.path.join(program, "tillbox")):
-        sys.exit("readme_test: no target/bin/tillbox: run `rt check tillbox` first")
+        sys.exit("readme_test: no target/tillbox: run tools/build.sh first")
     with open(os.path.join(ROOT, "README.md"), encoding="utf-8") as file:
         found = examples(file.read())
     wrong = 0

@@ -16,6 +16,7 @@ if ! rt check; then
     echo "tests: failed: not all is proved"
     exit 1
 fi
+run tools/build.sh
 run python3 tools/test_tools.py
 if command -v java > /dev/null; then
     run python3 tools/make_journal.py --check

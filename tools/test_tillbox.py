@@ -15,17 +15,19 @@ import random
 import re
 import resource
 import shutil
+import signal
 import struct
 import subprocess
 import sys
 import tempfile
+import time
 
 import second_converter
 
 ROOT = os.path.dirname(os.path.dirname(os.path.abspath(__file__)))
 TABLES = os.path.join(ROOT, "tables")
 SAMPLES = os.path.join(ROOT, "samples")
-PROGRAM = os.path.join(ROOT, "target", "bin", "tillbox")
+PROGRAM = os.path.join(ROOT, "target", "tillbox")
 
 
 def write(name, content):
@@ -48,17 +50,25 @@ def equal(got, wanted, what):
         raise AssertionError(f"{what}: got {got!r}, wanted {wanted!r}")
 
 
-def tillbox(*words, word="done", says=None, limit=None):
-    """Runs tillbox; its last word, and what it says if that is given, must be as expected."""
+COUNTED = "tillbox: replaced or skipped: "
+STATUS = {"done": 0, "failed": 1, "stopped": 2}
+
+
+def tillbox(*words, word="done", says=None, limit=None, status=None):
+    """Runs tillbox; its last word, the exit status that belongs to it, and what it says if that is given, must be as expected. The
+    line that counts codes by kind is looked at by its own tests."""
 
     def prepare():
         if limit is not None:
             resource.setrlimit(resource.RLIMIT_FSIZE, (limit, limit))
 
-    got = subprocess.run([PROGRAM, *words], capture_output=True, preexec_fn=prepare, restore_signals=False)
+    got = subprocess.run([PROGRAM, *words], capture_output=True, preexec_fn=prepare, restore_signals=False, timeout=60)
     equal(got.stdout.decode(), word + "\n" if word else "", f"last word of {words}")
+    if word:
+        equal(got.returncode, STATUS[word.split("\n")[-1]] if status is None else status, f"exit status of {words}")
     if says is not None:
-        equal(got.stderr.decode(), "".join(f"tillbox: {text}\n" if not text.startswith("  ") else text + "\n" for text in says), f"words of {words}")
+        said = "".join(text for text in got.stderr.decode().splitlines(True) if not text.startswith(COUNTED))
+        equal(said, "".join(f"tillbox: {text}\n" if not text.startswith("  ") else text + "\n" for text in says), f"words of {words}")
     return got.stderr.decode()
 
 
@@ -196,16 +206,6 @@ def test_a_byte_order_mark_is_told():
     tillbox("encode", "cp932.tbl", "units", "receipt", says=encoded(2, 2, flags="undefined single"))
 
 
-def test_output_that_can_not_be_made_safe():
-    """A device and a pipe are no error; a full device is."""
-    write("journal", b"tea\n")
-    tillbox("decode", "cp932.tbl", "journal", "/dev/null", says=summary(4, 4))
-    got = subprocess.run([PROGRAM, "decode", "cp932.tbl", "journal", "/dev/stdout"], capture_output=True)
-    equal(got.stdout, "tea\n".encode("utf-16le") + b"done\n", "the ledger in a pipe")
-    said = tillbox("decode", "cp932.tbl", "journal", "/dev/full", word="failed")
-    equal(said, "tillbox: error: cannot write /dev/full: No space left on device\n", "a full device")
-
-
 def test_closed_descriptors():
     """No message is written into a file of the job, whichever of the three descriptors are closed."""
     write("journal", b"A\x93\xfa\n")
@@ -229,7 +229,7 @@ NO_WIDTH = "a width is a number of 1 to 65,536"
 
 def misused(words, text):
     """A call that fails for its words says what is wrong with them, and how to call."""
-    said = tillbox(*words, word="failed")
+    said = tillbox(*words, word="failed", status=64)
     equal(said.split("\n")[0], f"tillbox: error: {text}", f"first line of {words}")
     equal(said.split("\n")[1:], ["tillbox: the words of a call: tillbox help", ""], f"the lines after it of {words}")
 
@@ -256,6 +256,8 @@ def test_misuse_says_how_to_call():
         (["preview", "policy", "550", "a.tbl", "ledger", "receipt"], NO_WORDS),
         (["preview", "last", "policy", "555", "a.tbl", "ledger", "receipt"], NO_WORDS),
         (["preview", "policy", "555", "last", "a.tbl", "ledger", "receipt"], NO_WORDS),
+        (["preview", "width", "5", "policy", "555", "a.tbl", "ledger", "receipt"], NO_WORDS),
+        (["preview", "width", "5", "last", "a.tbl", "ledger", "receipt"], NO_WORDS),
     ]:
         misused(words, text)
 
@@ -271,6 +273,56 @@ def test_misuse_of_width():
         )),
     ]:
         misused(words, text)
+
+
+def test_exit_status():
+    """For scripts: 0 done, 1 failed, 2 stopped, 64 wrong words."""
+    for words, status in (
+        (["help"], 0),
+        (["--help"], 0),
+        (["-h"], 0),
+        (["--version"], 0),
+        ([], 64),
+        (["convert"], 64),
+        (["decode", "cp932.tbl", "journal"], 64),
+        (["preview", "width", "0", "cp932.tbl", "journal", "receipt"], 64),
+        (["shape", "cp932.tbl"], 0),
+        (["shape", "journal"], 1),
+        (["decode", "cp932.tbl", "journal", "ledger"], 0),
+        (["decode", "cp932.tbl", "none", "ledger"], 1),
+        (["decode", "cp932.tbl", "broken", "ledger"], 2),
+        (["decode", "last", "cp932.tbl", "broken", "ledger", "checkpoint"], 2),
+        # the run has ended, and there is more to read
+        (["decode", "last", "cp932.tbl", "broken", "ledger", "checkpoint"], 1),
+        (["import", "policy", "550", "cp932.tbl", "broken", "records"], 2),
+        (["import", "cp932.tbl", "broken", "records"], 0),
+        (["import", "cp932.tbl", "long", "records"], 1),
+    ):
+        write("broken", b"tea \x82\n")
+        write("long", b"x" * 300)
+        equal(subprocess.run([PROGRAM, *words], capture_output=True).returncode, status, f"exit status of {words}")
+
+
+def test_a_small_stack():
+    """128 KiB of stack are enough for every command and every table, with the arguments and the environment in them."""
+    units = "茶 tea (green) 表ソ能\n".encode("utf-16le") * 3000 + b"a\0" * 70000
+    write("units", units)
+    write("journal", "茶|tea|表ソ能\n".encode("cp932") * 3000)
+
+    def small():
+        resource.setrlimit(resource.RLIMIT_STACK, (128 * 1024, 128 * 1024))
+
+    for words in (
+        ["decode", "cp932.tbl", "journal", "ledger"],
+        ["decode", "last", "cp932.tbl", "journal", "ledger", "checkpoint"],
+        ["encode", "cp932.tbl", "units", "receipt"],
+        ["import", "cp932.tbl", "journal", "records"],
+        ["preview", "cp932.tbl", "units", "receipt"],
+        ["preview", "width", "9", "cp932.tbl", "units", "receipt"],
+        *(["shape", os.path.join(TABLES, name)] for name in sorted(os.listdir(TABLES)) if name.endswith(".tbl")),
+    ):
+        got = subprocess.run([PROGRAM, *words], capture_output=True, preexec_fn=small, env={})
+        equal((got.returncode, got.stdout.endswith(b"done\n")), (0, True), f"{words} with a stack of 128 KiB: {got.stderr[-300:]}")
 
 
 def test_empty_name():
@@ -291,11 +343,32 @@ def test_missing_files():
     refused("shape", "none.tbl", says=[f"error: cannot open none.tbl: {missing}"])
 
 
-def test_a_folder_is_no_file():
+NO_PLAIN_FILE = "it is no plain file, but a folder, a pipe or a device"
+
+
+def test_what_is_no_plain_file():
+    """It is refused by its name before it is opened: a pipe would wait for ever. What takes everything can be an output."""
     os.mkdir("folder")
-    refused("decode", "cp932.tbl", "folder", "ledger", says=["error: cannot read folder: Is a directory"])
-    refused("decode", "folder", "journal", "ledger", says=["error: cannot read folder: Is a directory"])
-    refused("decode", "cp932.tbl", "journal", "ledger", "folder", says=["error: cannot read folder: Is a directory"])
+    os.mkfifo("pipe")
+    write("ledger", b"kept")
+    for name in ("folder", "pipe", "/dev/zero", "/dev/full"):
+        says = [f"error: {name}: {NO_PLAIN_FILE}"]
+        refused("decode", "cp932.tbl", name, "ledger", says=says)
+        refused("decode", name, "journal", "ledger", says=says)
+        refused("decode", "cp932.tbl", "journal", name, says=says)
+        refused("decode", "cp932.tbl", "journal", "ledger", name, says=says)
+        refused("import", "cp932.tbl", "journal", name, says=says)
+        refused("preview", "cp932.tbl", name, "receipt", says=says)
+        refused("shape", name, says=says)
+    for name in ("checkpoint.new", "checkpoint.lock"):
+        os.mkfifo(name)
+        refused("decode", "cp932.tbl", "journal", "ledger", "checkpoint", says=[f"error: {name}: {NO_PLAIN_FILE}"])
+        os.remove(name)
+    refused("decode", "cp932.tbl", "/dev/null", "ledger", says=[f"error: /dev/null: {NO_PLAIN_FILE}"])
+    write("journal", b"tea\n")
+    tillbox("decode", "cp932.tbl", "journal", "/dev/null", says=summary(4, 4))
+    os.symlink("/dev/null", "nothing")
+    tillbox("decode", "cp932.tbl", "journal", "nothing", says=summary(4, 4))
 
 
 def test_no_table_image():
@@ -324,7 +397,24 @@ def test_bad_shape():
     ]:
         refused("decode", name, "journal", "ledger", says=[f"error 10: the shape of the tables is not good ({name})", f"  the first bad place: {place}"])
     tillbox("shape", "class.tbl", word="page 932: the class at FF is none of 0, 1, 2, 4, 5, 6\nfailed", says=[])
-    tillbox("shape", "cp932.tbl", word="page 932: good\ndone", says=[])
+    tillbox("shape", "cp932.tbl", word=f"page 932: good\n{held('cp932.tbl')}\ndone", says=[])
+
+
+def held(name):
+    """How much a table set holds, counted by the rules of document 01."""
+    table = second_converter.read_image_file(name, [""])
+    single = sum(1 for byte in range(256) if table.classes[byte] in (1, 5) and table.singles[byte] != 0xFFFF)
+    pairs = sum(1 for place, unit in enumerate(table.pairs) if table.classes[place % 256] >= 4 and unit != 0xFFFF)
+    units = [unit for unit in range(65536) if not 0xD800 <= unit <= 0xDFFF and table.blocks[256 * table.index[unit // 256] + unit % 256] != 0xFFFF]
+    return f"codes with a character: {single} of one byte, {pairs} of two bytes; characters with a code: {len(units)}"
+
+
+def test_what_a_table_holds():
+    for name in sorted(os.listdir(TABLES)):
+        if name.endswith(".tbl"):
+            path = os.path.join(TABLES, name)
+            page = struct.unpack("<H", read(path)[:2])[0]
+            tillbox("shape", path, word=f"page {page}: good\n{held(path)}\ndone", says=[])
 
 
 def test_names_are_apart():
@@ -334,6 +424,246 @@ def test_names_are_apart():
     refused("decode", "cp932.tbl", "journal", "ledger", "journal", says=[f"error: journal: {twice}"])
     refused("decode", "cp932.tbl", "journal", "ledger", "ledger", says=[f"error: ledger: {twice}"])
     refused("decode", "cp932.tbl", "journal", "ledger.new", "ledger", says=[f"error: ledger.new: {twice}"])
+
+
+def test_two_names_of_one_file():
+    """Files are told apart by device and number, not by name: nothing is emptied, cut or removed."""
+    os.mkdir("folder")
+    os.link("journal", "hard")
+    os.symlink("journal", "soft")
+    for name in ("./journal", "folder/../journal", os.path.abspath("journal"), "hard", "soft"):
+        says = [f"error: {name}: it is the same file as journal"]
+        refused("decode", "cp932.tbl", "journal", name, says=says)
+        refused("decode", "cp932.tbl", "journal", name, "checkpoint", says=says)
+        refused("import", "cp932.tbl", "journal", name, says=says)
+        refused("preview", "cp932.tbl", "journal", name, says=says)
+        refused("decode", "cp932.tbl", name, "journal", says=[f"error: journal: it is the same file as {name}"])
+        if name != "soft":
+            refused("decode", "cp932.tbl", "journal", "ledger", name, says=says)
+    refused("decode", "cp932.tbl", "journal", "./cp932.tbl", says=["error: ./cp932.tbl: it is the same file as cp932.tbl"])
+    refused("import", "cp932.tbl", "journal", "./cp932.tbl", says=["error: ./cp932.tbl: it is the same file as cp932.tbl"])
+    refused("decode", "cp932.tbl", "journal", "ledger", "./cp932.tbl", says=["error: ./cp932.tbl: it is the same file as cp932.tbl"])
+
+
+def test_two_names_of_a_file_that_is_not_there_yet():
+    os.mkdir("folder")
+    os.symlink("folder", "way")
+    for output, checkpoint in (("ledger", "./ledger"), ("./ledger", "ledger"), ("folder/ledger", "way/ledger"), ("folder/ledger", "folder//ledger")):
+        refused("decode", "cp932.tbl", "journal", output, checkpoint, says=[f"error: {checkpoint}: it is the same file as {output}"])
+        equal(os.path.exists(output), False, f"{output} is there")
+    # the same name in two folders is of two files
+    tillbox("decode", "cp932.tbl", "journal", "folder/ledger", "ledger")
+    remove("ledger", "folder/ledger")
+    # a link to nothing can't be told apart from what it names
+    os.symlink("ledger", "soft")
+    refused("decode", "cp932.tbl", "journal", "soft", says=["error: soft: it is a link to a file that is not there"])
+    refused("decode", "cp932.tbl", "journal", "ledger", "soft", says=["error: soft: it is a link; name the file itself"])
+    equal(os.path.exists("ledger"), False, "the ledger is there")
+
+
+def test_files_beside_the_checkpoint():
+    """The new file that takes the checkpoint's place, and the lock, are made and removed: they are no other files of the job."""
+    for name in ("checkpoint.new", "checkpoint.lock"):
+        shutil.copy("journal", name)
+        says = [f"error: {name}: it is the same file as ./{name}"]
+        refused("decode", "cp932.tbl", "./" + name, "ledger", "checkpoint", says=says)
+        refused("decode", "cp932.tbl", "journal", "./" + name, "checkpoint", says=says)
+        shutil.copy("cp932.tbl", name)
+        refused("decode", "./" + name, "journal", "ledger", "checkpoint", says=says)
+        remove(name)
+        os.link("journal", name)
+        refused("decode", "cp932.tbl", "journal", "ledger", "checkpoint", says=[f"error: {name}: it is the same file as journal"])
+        remove(name)
+        refused("decode", "cp932.tbl", "journal", "./" + name, "checkpoint", says=says)
+    tillbox("decode", "cp932.tbl", "journal", "ledger", "checkpoint")
+    os.rename("checkpoint", "line")
+    os.symlink("line", "checkpoint")
+    refused("decode", "cp932.tbl", "journal", "ledger", "checkpoint", says=["error: checkpoint: it is a link; name the file itself"])
+
+
+# ---------------------------------------------------------------------------------------------------------------
+# One job at a time
+# ---------------------------------------------------------------------------------------------------------------
+
+
+def at_work(process):
+    return [f"error: checkpoint: another job (process {process}) is at work on this checkpoint"]
+
+
+def halted(*words):
+    """A job that is halted after its first lines, its checkpoint's lock in its hands."""
+    job = subprocess.Popen([PROGRAM, *words], stdout=subprocess.DEVNULL, stderr=subprocess.DEVNULL)
+    while not os.path.exists("checkpoint") and job.poll() is None:
+        time.sleep(0.001)
+    job.send_signal(signal.SIGSTOP)
+    equal(job.poll(), None, "a long job has ended")
+    return job
+
+
+JOB = ("decode", "last", "cp932.tbl", "journal", "ledger", "checkpoint")
+
+
+def test_one_job_at_a_time():
+    """A job whose checkpoint another one works on changes nothing; a job that was killed is not in the way."""
+    write("journal", b"tea \x93\xfa\n" * 3000000)
+    for waited in (True, False):
+        job = halted(*JOB)
+        refused(*JOB, says=at_work(job.pid))
+        job.kill()
+        if waited:
+            job.wait()
+        # a killed process keeps its number until somebody asks how it ended
+        tillbox(*JOB, says=None)
+        job.wait()
+        equal(len(read("ledger")), 2 * 6 * 3000000, "the ledger's length")
+        equal(read("checkpoint"), line("D 932 550 - 0 21000000 18000000 over"), "the line")
+        equal(os.path.exists("checkpoint.lock"), False, "a lock is left")
+        remove("ledger", "checkpoint")
+
+
+def test_locks_that_are_left():
+    """An entry counts only while its process has the lock open on its descriptor; what is no entry is passed over."""
+    write("journal", b"tea\n")
+    process = subprocess.Popen(["sleep", "60"])
+    try:
+        entry = b"\n%d 3\n" % process.pid
+        for entries in (b"", entry, entry + b"\n99999999 3\n", b"no lock\n", b"\n%d 0\n" % os.getpid(), b"\n%d" % os.getpid(), b"\n" * 500):
+            write("checkpoint.lock", entries)
+            tillbox(*JOB, says=summary(4, 4))
+            equal(os.path.exists("checkpoint.lock"), False, f"the lock of {entries!r} is left")
+            remove("checkpoint")
+    finally:
+        process.kill()
+        process.wait()
+    with open("checkpoint.lock", "ab", buffering=0) as lock:
+        for before in (b"", b"99999999 3\n", b"12 34 5\n", b"tea", b"123456789012345678901234567890 5\n", b"1"):
+            os.truncate("checkpoint.lock", 0)
+            lock.write(before + b"\n%d %d\n" % (os.getpid(), lock.fileno()))
+            refused(*JOB, says=at_work(os.getpid()))
+    write("checkpoint.lock", b"\n99999999 3\n" * 400)
+    refused_once = tillbox(*JOB, word="failed")
+    equal(refused_once, "tillbox: error: checkpoint.lock: it has the entries of too many jobs; where none of them is at work, remove it\n", "a long lock")
+
+
+def grow(chance, text, size):
+    """The journal with some bytes more of the text; how many it has then."""
+    more = chance.randrange(1, 3000)
+    with open("journal", "ab") as file:
+        file.write(text[size : size + more])
+    return min(len(text), size + more)
+
+
+def overlapping(chance, pairs, kills):
+    """Pairs of jobs that begin at once while the journal grows: each is done, refused or killed, and the ledger is right."""
+    text = ("茶 tea 表ソ能 1,234\n" * 60000).encode("cp932")
+    size = 0
+    write("journal", b"")
+    refusals = 0
+    for _ in range(pairs):
+        size = grow(chance, text, size)
+        words = [PROGRAM, "decode", "cp932.tbl", "journal", "ledger", "checkpoint"]
+        jobs = [subprocess.Popen(words, stdout=subprocess.PIPE, stderr=subprocess.PIPE) for _ in range(2)]
+        size = grow(chance, text, size)
+        if kills:
+            time.sleep(0.004 * chance.random())
+            for job in jobs[: chance.randrange(3)]:
+                job.kill()
+        for job in jobs:
+            said, errors = job.communicate()
+            if job.returncode == -9:
+                continue
+            if said == b"failed\n":
+                refusals += 1
+                if b"is at work on this checkpoint" not in errors:
+                    raise AssertionError(f"a job failed: {errors.decode()}")
+            else:
+                equal(said, b"done\n", "last word of one of two jobs")
+    last_word = subprocess.run([PROGRAM, *JOB], capture_output=True).stdout
+    equal(last_word in (b"done\n", b"stopped\n"), True, "the last word")
+    # under 550 the run stops at a first half that the journal ends with; before it all is right
+    right = text[:size].decode("cp932", "ignore").encode("utf-16le")
+    equal(len(read("ledger")), len(right), "the ledger's length")
+    equal(read("ledger") == right, True, "the ledger is right")
+    equal(os.path.exists("checkpoint.lock"), False, "a lock is left")
+    return refusals
+
+
+def test_overlapping_jobs():
+    chance = random.Random(19)
+    if overlapping(chance, 500, kills=False) == 0:
+        raise AssertionError("no two jobs of 500 pairs overlapped")
+    remove("ledger", "checkpoint")
+    overlapping(chance, 250, kills=True)
+
+
+# ---------------------------------------------------------------------------------------------------------------
+# What the system can not do
+# ---------------------------------------------------------------------------------------------------------------
+
+
+def can_trace():
+    if shutil.which("strace") is None:
+        return False
+    return subprocess.run(["strace", "-o", "/dev/null", "true"], stderr=subprocess.DEVNULL).returncode == 0
+
+
+def injected(call, path, *words, when="1", error="EIO", says):
+    """A call of the system on a file fails, and the job says so in the system's words."""
+    if not can_trace():
+        return
+    trace = ["strace", "-o", "/dev/null", "-P", os.path.abspath(path), "-e", f"trace={call}", "-e", f"inject={call}:error={error}:when={when}"]
+    got = subprocess.run([*trace, PROGRAM, *words], capture_output=True, timeout=60)
+    said = got.stderr.decode().splitlines()[-1:]
+    equal((got.stdout.decode(), said), ("failed\n", [f"tillbox: error: {says}"]), f"{call} of {path} failed in {words}")
+
+
+def test_read_errors():
+    """They are told as such, wherever they come."""
+    write("journal", b"tea\n" * 1000)
+    write("units", "tea\n".encode("utf-16le") * 1000)
+    broken = "Input/output error"
+    for name, words in (
+        ("journal", ("decode", "cp932.tbl", "journal", "ledger")),
+        ("journal", ("import", "cp932.tbl", "journal", "records")),
+        ("units", ("encode", "cp932.tbl", "units", "receipt")),
+        ("units", ("preview", "width", "9", "cp932.tbl", "units", "receipt")),
+    ):
+        for when in ("1", "3"):
+            injected("read", name, *words, when=when, says=f"cannot read {name}: {broken}")
+    for words in (("decode", "cp932.tbl", "journal", "ledger"), ("shape", "cp932.tbl")):
+        injected("read", "cp932.tbl", *words, says=f"cannot read cp932.tbl: {broken}")
+    tillbox(*JOB)
+    injected("read", "checkpoint", *JOB, says=f"cannot read checkpoint: {broken}")
+
+
+def test_outputs_that_are_not_safe():
+    """What fails at the end of an output is told, and the last word is not done."""
+    write("journal", b"tea\n")
+    for words in (("decode", "cp932.tbl", "journal", "ledger"), JOB, ("import", "cp932.tbl", "journal", "ledger"), ("preview", "cp932.tbl", "journal", "ledger")):
+        injected("fsync", "ledger", *words, says="cannot sync ledger: Input/output error")
+        remove("checkpoint")
+    if can_trace():
+        for words in (("decode", "cp932.tbl", "journal", "ledger"), JOB, ("import", "cp932.tbl", "journal", "ledger")):
+            trace = ["strace", "-o", "/dev/null", "-P", os.path.abspath("ledger"), "-e", "trace=close", "-e", "inject=close:error=ENOSPC"]
+            got = subprocess.run([*trace, PROGRAM, *words], capture_output=True, timeout=60)
+            equal(got.stdout, b"failed\n", f"the last word of {words} whose output was not closed")
+            if b"cannot close ledger: No space left on device" not in got.stderr:
+                raise AssertionError(f"what {words} said: {got.stderr.decode()}")
+            remove("checkpoint")
+
+
+def test_a_checkpoint_that_can_not_be_made():
+    """An old ledger is not touched before it is known that a line can be put into the checkpoint's folder."""
+    write("ledger", b"kept")
+    refused("decode", "cp932.tbl", "journal", "ledger", "none/checkpoint", says=["error: cannot make none/checkpoint.lock: No such file or directory"])
+    os.mkdir("folder")
+    os.mkdir("folder/checkpoint.new")
+    refused("decode", "cp932.tbl", "journal", "ledger", "folder/checkpoint", says=[f"error: folder/checkpoint.new: {NO_PLAIN_FILE}"])
+    if can_trace():
+        trace = ["strace", "-o", "/dev/null", "-P", "checkpoint.new", "-e", "trace=openat", "-e", "inject=openat:error=EROFS"]
+        got = subprocess.run([*trace, PROGRAM, *JOB], capture_output=True, timeout=60)
+        equal((got.stdout, got.stderr), (b"failed\n", b"tillbox: error: cannot make checkpoint.new: Read-only file system\n"), "a folder that can't be written")
+        equal(read("ledger"), b"kept", "the ledger")
 
 
 # ---------------------------------------------------------------------------------------------------------------
@@ -426,11 +756,13 @@ def test_input_over_the_limit():
 def test_read_total_at_the_limit():
     with open("huge", "wb") as file:
         file.truncate(4294967295)
-    write("ledger", b"")
-    write("checkpoint", line("D 932 155 - 0 4294967000 0 on"))
-    tillbox("decode", "last", "cp932.tbl", "huge", "ledger", "checkpoint", says=summary(4294967295, 295))
-    equal(read("ledger"), bytes(2 * 295), "the ledger")
-    equal(read("checkpoint"), line("D 932 155 - 0 4294967295 295 over"), "the line")
+    with open("ledger", "wb") as file:
+        file.truncate(2 * 4294967000)
+    write("checkpoint", line("D 932 155 - 0 4294967000 4294967000 on"))
+    tillbox("decode", "last", "cp932.tbl", "huge", "ledger", "checkpoint", says=summary(4294967295, 4294967295))
+    equal(os.path.getsize("ledger"), 2 * 4294967295, "the ledger's length")
+    equal(read("checkpoint"), line("D 932 155 - 0 4294967295 4294967295 over"), "the line")
+    remove("ledger")
 
 
 # ---------------------------------------------------------------------------------------------------------------
@@ -538,6 +870,123 @@ def test_flags_by_name():
     equal(read("ledger"), "\u30fb\u30fb\u30fbA".encode("utf-16le"), "the ledger")
     tillbox("decode", "policy", "631", "sample.tbl", "journal", "ledger", says=summary(5, 3, flags=names))
     equal(read("ledger"), "\uf180?A".encode("utf-16le"), "the ledger")
+
+
+def counted(*words, word="done"):
+    """The line that counts codes by kind, without its first words; empty where there is none."""
+    return "".join(text[len(COUNTED) : -1] for text in tillbox(*words, word=word).splitlines(True) if text.startswith(COUNTED))
+
+
+def test_codes_by_kind():
+    # page 7: 80 is an undefined single, 81 5A an undefined pair, 83 invalid
+    for policy in ("555", "111", "234", "531"):
+        for single, pair, invalid in ((0, 0, 0), (1, 0, 0), (0, 2, 0), (0, 0, 3), (1, 1, 1), (700, 0, 1200), (301, 302, 303)):
+            for space in (b"", b"a", b"b" * 255):
+                parts = [b"\x80"] * single + [b"\x81\x5a"] * pair + [b"\x83"] * invalid
+                random.Random(7).shuffle(parts)
+                write("journal", space.join(parts) + space)
+                numbers = ((single, "undefined single"), (pair, "undefined pair"), (invalid, "invalid"))
+                wanted = ", ".join(f"{number} {name}" for number, name in numbers if number)
+                equal(counted("decode", "policy", policy, "sample.tbl", "journal", "ledger"), wanted, f"codes of {single, pair, invalid} under {policy}")
+    write("journal", (b"\x80a" * 600 + b"|\x83\n") * 3)
+    equal(counted("import", "sample.tbl", "journal", "records", word="failed"), "", "a field that is too long")
+    write("journal", (b"\x80a" * 100 + b"|\x83\n") * 30)
+    equal(counted("import", "sample.tbl", "journal", "records"), "3000 undefined single, 30 invalid", "codes of an import")
+    write("units", units_text(*[0xD83D, 0xDE00, 0x41, 0xDE00, 0x1234] * 700))
+    for command in (("encode", "policy", "555"), ("preview",)):
+        equal(counted(*command, "cp932.tbl", "units", "receipt"), "1400 undefined single, 700 invalid", f"codes of {command}")
+
+
+def test_codes_by_kind_before_a_stop():
+    # what comes behind the code that stops a run is not counted, nor is that code
+    for front in FRONTS:
+        for code in (b"\x83", b"\x82\x80", b"\x82\n"):
+            write("journal", b"\x80" * front + code + b"\x80\x83" * 300)
+            wanted = f"{front} undefined single" if front else ""
+            equal(counted("decode", "sample.tbl", "journal", "ledger", word="stopped"), wanted, f"codes before {code!r} behind {front}")
+    # a call counts its own codes
+    write("journal", b"\x80\x80\x81")
+    words = ("decode", "policy", "555", "sample.tbl", "journal", "ledger", "checkpoint")
+    equal(counted(*words), "2 undefined single", "codes of the first call")
+    write("journal", b"\x80\x80\x81\x5a\x80")
+    equal(counted(*words), "1 undefined single, 1 undefined pair", "codes of the second call")
+    equal(counted(*words), "", "codes of a third call")
+
+
+# ---------------------------------------------------------------------------------------------------------------
+# Another journal under the old name
+# ---------------------------------------------------------------------------------------------------------------
+
+
+def other(name="journal", output="ledger"):
+    return [
+        f"error: {name}: it is not the input that the run of the checkpoint has read",
+        f"  Up to the place where the run goes on it is not what {output} was made of. A checkpoint is of one",
+        "  input and one output: name these, or remove the checkpoint to begin anew.",
+    ]
+
+
+def test_another_journal():
+    day, next_day = "10 茶 tea 表ソ能\n", "11 茶 tea 表ソ能\n"
+    words = ("decode", "cp932.tbl", "journal", "ledger", "checkpoint")
+    for lines in (1, 20, 5000):
+        for cut in (0, 1, 2, 3, 4):
+            remove("ledger", "checkpoint")
+            first, second = (day * lines).encode("cp932"), (next_day * (lines + 3)).encode("cp932")
+            end = len(first) - cut
+            write("journal", first[:end])
+            tillbox(*words)
+            before = read("checkpoint")
+            write("journal", second)
+            refused(*words, says=other())
+            refused("decode", "last", *words[1:], says=other())
+            # the journal itself goes on
+            write("journal", first + second)
+            tillbox(*words)
+            equal(read("ledger"), (day * lines + next_day * (lines + 3)).encode("utf-16le"), f"the ledger behind {before!r}")
+            tillbox("decode", "last", *words[1:])
+            write("journal", second + first)
+            refused("decode", "last", *words[1:], says=other())
+    # another ledger
+    write("journal", first + second)
+    write("ledger", read("ledger")[:-2] + b"x\0")
+    refused("decode", "last", *words[1:], says=other())
+
+
+def test_another_pending_half():
+    """What is pending stands before the place where the run goes on, whatever comes before it."""
+    words = ("decode", "cp932.tbl", "journal", "ledger", "checkpoint")
+    write("journal", b"\x94\x4e" * 600 + b"\x94")
+    tillbox(*words)
+    write("journal", b"\x94\x4e" * 600 + b"\x95\x4e")
+    refused(*words, says=other())
+    write("journal", b"\x94\x4e" * 601)
+    tillbox(*words)
+    equal(read("ledger"), "年".encode("utf-16le") * 601, "the ledger")
+    words = ("encode", "cp932.tbl", "units", "receipt", "checkpoint2")
+    write("units", units_text(0x41, 0xD83D))
+    tillbox(*words)
+    write("units", units_text(0x41, 0xD83C, 0xDE00))
+    refused(*words, says=other("units", "receipt"))
+    write("units", units_text(0x42, 0xD83D, 0xDE00))
+    refused(*words, says=other("units", "receipt"))
+    write("units", units_text(0x41, 0xD83D, 0xDE00))
+    tillbox(*words)
+    equal(read("receipt"), b"A?", "the receipt")
+
+
+def test_another_ledger_text():
+    words = ("encode", "policy", "555", "cp932.tbl", "units", "receipt", "checkpoint")
+    for size in (1, 511, 512, 513, 1500):
+        for unit in ((0x41,), (0x5E74,), (0xD83D, 0xDE00), (0xDE00,)):
+            remove("receipt", "checkpoint")
+            first = units_text(*(unit * size))
+            write("units", first)
+            tillbox(*words)
+            write("units", units_text(*([0x42] * (2 * size + 1))))
+            refused(*words, says=other("units", "receipt"))
+            write("units", first + first)
+            tillbox(*words)
 
 
 # ---------------------------------------------------------------------------------------------------------------
@@ -968,6 +1417,7 @@ def test_checkpoints_with_a_unit():
     refused("encode", "cp1252.tbl", "ledger", "receipt", "checkpoint", says=other_run("encoding page 932", "encoding page 1252"))
     refused("decode", "cp932.tbl", "journal", "receipt", "checkpoint", says=other_run("encoding page 932", "decoding page 932"))
     # a unit whose halves are no lead bytes of the page, and a line that an older tillbox saved
+    write("ledger", units_text(0x41, 0xD841, 0xDE00))
     write("checkpoint", line("E 932 555 D841 0 2 1 on"))
     tillbox("encode", "last", "cp932.tbl", "ledger", "receipt", "checkpoint", says=encoded(3, 2, flags="undefined single"))
     equal(read("receipt"), b"A?", "the receipt")
@@ -1228,7 +1678,7 @@ def test_import_refused():
         (["none.tbl", "journal", "records"], [f"error: cannot open none.tbl: {missing}"]),
         (["cp932.tbl", "none", "records"], [f"error: cannot open none: {missing}"]),
         (["cp932.tbl", "journal", "none/records"], [f"error: cannot make none/records: {missing}"]),
-        (["cp932.tbl", "folder", "records"], ["error: cannot read folder: Is a directory"]),
+        (["cp932.tbl", "folder", "records"], [f"error: folder: {NO_PLAIN_FILE}"]),
         (["bad.tbl", "journal", "records"], ["error: bad.tbl: it is not a table image"]),
         (["cp932.tbl", "journal", "journal"], [f"error: journal: {twice}"]),
         (["cp932.tbl", "journal", "cp932.tbl"], [f"error: cp932.tbl: {twice}"]),
@@ -1415,7 +1865,7 @@ def preview_refused(*width):
         (["none.tbl", "ledger", "receipt"], [f"error: cannot open none.tbl: {missing}"]),
         (["cp932.tbl", "none", "receipt"], [f"error: cannot open none: {missing}"]),
         (["cp932.tbl", "ledger", "none/receipt"], [f"error: cannot make none/receipt: {missing}"]),
-        (["cp932.tbl", "folder", "receipt"], ["error: cannot read folder: Is a directory"]),
+        (["cp932.tbl", "folder", "receipt"], [f"error: folder: {NO_PLAIN_FILE}"]),
         (["cp932.tbl", "odd", "receipt"], ["error: odd: an odd number of bytes is no text of UTF-16 units"]),
         (["bad.tbl", "ledger", "receipt"], ["error: bad.tbl: it is not a table image"]),
         (["cp932.tbl", "ledger", "ledger"], [f"error: ledger: {twice}"]),

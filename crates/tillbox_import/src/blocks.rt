@@ -7,7 +7,9 @@ use convert::Outcome;
 use convert::Pending;
 use convert::Run;
 use fields::Held;
-use tillbox_jobs::blocks::is_taken;
+use tillbox_checks::kinds;
+use tillbox_checks::kinds::Kinds;
+use tillbox_jobs::blocks::kinds_of_decoding;
 use tillbox_jobs::blocks::stop_of_decoding;
 use tillbox_jobs::report;
 use tillbox_jobs::stops;
@@ -15,12 +17,13 @@ use tillbox_jobs::stops::Stop;
 use tillbox_storage::files;
 use tillbox_storage::messages;
 
-// After some blocks: the run, the code that it was stopped at, what is held of a field, and how far the file is; whether a field
+// After some blocks: the run, the code that it was stopped at, the codes without a character that it met before, what is held of a field, and how far the file is; whether a field
 // has too many units, and then the byte that its first unit over the limit is read from; and whether something failed, whose reason
 // was said.
 pub struct Turn {
     pub run: Run,
     pub stop: Stop,
+    pub kinds: Kinds,
     pub state: Held,
     pub progress: Progress,
     pub refused: bool,
@@ -93,6 +96,7 @@ fn broken(run: Run, state: Held, progress: Progress) -> Turn {
     Turn {
         run,
         stop: stops::none(),
+        kinds: kinds::none(),
         state,
         progress,
         refused: false,
@@ -102,12 +106,13 @@ fn broken(run: Run, state: Held, progress: Progress) -> Turn {
 }
 
 // A block whose units were cut, as far as they could be.
-fn settled(run: Run, stop: Stop, cut: Cut, place: u64) -> Turn {
+fn settled(run: Run, stop: Stop, kinds: Kinds, cut: Cut, place: u64) -> Turn {
     let state = cut.state;
     let progress = cut.progress;
     Turn {
         run,
         stop,
+        kinds,
         state,
         progress,
         refused: cut.refused,
@@ -144,7 +149,20 @@ fn told(
             block,
             outcome,
         );
-        return settled(after, stop, cut, 0);
+        let kinds = kinds_of_decoding(
+            before,
+            numbers,
+            classes,
+            singles,
+            pairs,
+            index,
+            blocks,
+            block,
+            last,
+            outcome,
+            stop,
+        );
+        return settled(after, stop, kinds, cut, 0);
     }
     let held = cut.state;
     let place = byte_at(
@@ -159,7 +177,7 @@ fn told(
         last,
         over_limit(cut.read, held.count),
     );
-    settled(after, stops::none(), cut, place)
+    settled(after, stops::none(), kinds::none(), cut, place)
 }
 
 // Decodes a block and cuts its units.
@@ -197,7 +215,7 @@ fn cut_block(
     let answer = outcome.answer;
     let after = outcome.run;
     let number = answer.number();
-    if !is_taken(number) {
+    if !messages::is_taken(number) {
         messages::refuse(number, input);
         return broken(after, state, progress);
     }
@@ -250,11 +268,11 @@ fn next_block(
     let size = tillbox_layout::block_len(run.read, total);
     let last = tillbox_layout::is_final(run.read, total);
     let mut block = [0u8; 512];
-    let count = files::read_some(source, size, &mut block);
-    if count < size {
-        files::say_short(source, input);
+    let got = files::read_block(source, size, &mut block, input);
+    if got.failed {
         return broken(run, state, progress);
     }
+    let count = got.count;
     cut_block(
         run,
         state,
@@ -273,6 +291,24 @@ fn next_block(
         input,
         output,
     )
+}
+
+// A turn with the codes without a character that all blocks up to it met.
+fn with_kinds(turn: Turn, kinds: Kinds) -> Turn {
+    let run = turn.run;
+    let stop = turn.stop;
+    let state = turn.state;
+    let progress = turn.progress;
+    Turn {
+        run,
+        stop,
+        kinds,
+        state,
+        progress,
+        refused: turn.refused,
+        place: turn.place,
+        failed: turn.failed,
+    }
 }
 
 // Whether no block follows.
@@ -315,6 +351,7 @@ pub fn all_blocks(
     let mut run = run;
     let mut state = Held::fresh();
     let mut so_far = progress;
+    let mut met = kinds::none();
     let mut done = 0;
     while done < count {
         let turn = next_block(
@@ -335,8 +372,9 @@ pub fn all_blocks(
             input,
             output,
         );
+        met = met.with(turn.kinds);
         if is_over(turn) {
-            return turn;
+            return with_kinds(turn, met);
         }
         run = turn.run;
         state = turn.state;
@@ -347,6 +385,7 @@ pub fn all_blocks(
     Turn {
         run,
         stop: stops::none(),
+        kinds: met,
         state,
         progress: so_far,
         refused: false,

@@ -8,26 +8,17 @@ use convert::Direction;
 use convert::Policy;
 use convert::Run;
 use convert::Started;
-use image::Loaded;
 use tillbox_jobs::job::Ending;
 use tillbox_jobs::job::closed;
-use tillbox_jobs::job::named_twice;
 use tillbox_jobs::stops::is_stopped;
 use tillbox_jobs::tables;
 use tillbox_storage::files;
 use tillbox_storage::messages;
 
-// Whether the records file has a name of its own.
-fn names_apart(table: &[u8], input: &[u8], output: &[u8]) -> bool {
-    if named_twice(output, table) {
-        return false;
-    }
-    !named_twice(output, input)
-}
-
 // The end of an import that was not read to its end: whole records stay, and what happened is said.
 fn broken_off(turn: Turn, out: &[u16], target: i32, input: &[u8], output: &[u8]) -> Ending {
     let run = turn.run;
+    let met = turn.kinds;
     let reached = turn.progress;
     let progress = records::cut(reached, out, target, output);
     if progress.failed {
@@ -35,10 +26,10 @@ fn broken_off(turn: Turn, out: &[u16], target: i32, input: &[u8], output: &[u8])
     }
     if turn.refused {
         report::too_long(turn, input);
-        report::summary(run, progress);
+        report::summary(run, met, progress);
         return Ending::Failed;
     }
-    report::summary(run, progress);
+    report::summary(run, met, progress);
     report::stopped(turn);
     Ending::Stopped
 }
@@ -46,6 +37,7 @@ fn broken_off(turn: Turn, out: &[u16], target: i32, input: &[u8], output: &[u8])
 // The end of an import.
 fn finished(turn: Turn, out: &mut [u16], target: i32, input: &[u8], output: &[u8]) -> Ending {
     let run = turn.run;
+    let met = turn.kinds;
     let reached = turn.progress;
     if turn.failed {
         return Ending::Failed;
@@ -60,7 +52,7 @@ fn finished(turn: Turn, out: &mut [u16], target: i32, input: &[u8], output: &[u8
     if progress.failed {
         return Ending::Failed;
     }
-    report::summary(run, progress);
+    report::summary(run, met, progress);
     Ending::Done
 }
 
@@ -185,8 +177,8 @@ fn with_input(
     }
 }
 
-// From a table set on.
-fn with_tables(
+// Imports a journal with a table set. What happened is said on standard error.
+pub fn with_tables(
     policy: Policy,
     numbers: Numbers,
     classes: &[u8],
@@ -219,46 +211,4 @@ fn with_tables(
     );
     libc::close(source);
     ending
-}
-
-// Imports a journal. What happened is said on standard error.
-pub fn import_files(policy: Policy, table: &[u8], input: &[u8], output: &[u8]) -> Ending {
-    if !names_apart(table, input, output) {
-        return Ending::Failed;
-    }
-    let mut classes = [0u8; 300];
-    let mut singles = [0u16; 300];
-    let mut pairs = [0u16; 33024];
-    let mut index = [0u8; 300];
-    let mut blocks = [0u16; 66048];
-    let loaded = tables::load(
-        table,
-        &mut classes,
-        &mut singles,
-        &mut pairs,
-        &mut index,
-        &mut blocks,
-    );
-    match loaded {
-        Loaded::NotAnImage => Ending::Failed,
-        Loaded::Table(numbers, sizes) => {
-            let a = tillbox_layout::front_bytes(sizes.classes, &classes);
-            let b = tillbox_layout::front_units(sizes.singles, &singles);
-            let c = tillbox_layout::front_units(sizes.pairs, &pairs);
-            let d = tillbox_layout::front_bytes(sizes.index, &index);
-            let e = tillbox_layout::front_units(sizes.blocks, &blocks);
-            with_tables(
-                policy,
-                numbers,
-                &classes[..a],
-                &singles[..b],
-                &pairs[..c],
-                &index[..d],
-                &blocks[..e],
-                table,
-                input,
-                output,
-            )
-        }
-    }
 }

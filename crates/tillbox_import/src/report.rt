@@ -2,6 +2,7 @@
 use crate::blocks::Turn;
 use crate::records::Progress;
 use convert::Run;
+use tillbox_checks::kinds::Kinds;
 use tillbox_jobs::report;
 use tillbox_layout::sum;
 use tillbox_storage::messages::refuse;
@@ -32,7 +33,7 @@ pub fn too_long(turn: Turn, input: &[u8]) {
 }
 
 // What was read, and what stands in the file.
-pub fn summary(run: Run, progress: Progress) {
+pub fn summary(run: Run, kinds: Kinds, progress: Progress) {
     say(b"tillbox: read ");
     say_number(run.read);
     say(b" bytes, written ");
@@ -41,6 +42,7 @@ pub fn summary(run: Run, progress: Progress) {
     say_number(progress.fields);
     say(b" fields\n");
     report::say_flags(run.flags);
+    report::say_kinds(kinds);
 }
 
 // Where a run was stopped by its policy: the record at hand is not in the file.

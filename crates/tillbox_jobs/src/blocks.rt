@@ -9,17 +9,20 @@ use codepage::Numbers;
 use convert::Direction;
 use convert::Outcome;
 use convert::Run;
+use tillbox_checks::kinds;
+use tillbox_checks::kinds::Kinds;
 use tillbox_printing::mark::note_mark;
 use tillbox_printing::replaced::replaced_in;
 use tillbox_storage::checkpoints;
 use tillbox_storage::files;
 use tillbox_storage::messages;
 
-// The run after some blocks, the code that it was stopped at, how many characters were replaced (where they are counted), and
-// whether something failed; then the reason was said.
+// The run after some blocks, the code that it was stopped at, the codes without a character that it met before, how many characters were
+// replaced (where they are counted), and whether something failed; then the reason was said.
 pub struct Turn {
     pub run: Run,
     pub stop: Stop,
+    pub kinds: Kinds,
     pub replaced: u64,
     pub failed: bool,
 }
@@ -29,28 +32,22 @@ fn broken(run: Run) -> Turn {
     Turn {
         run,
         stop: stops::none(),
+        kinds: kinds::none(),
         replaced: 0,
         failed: true,
     }
 }
 
-// Whether a call with room enough was taken.
-pub fn is_taken(number: u8) -> bool {
-    if number == 2 {
-        return false;
-    }
-    number < 10
-}
-
 // The run after a call that had room enough.
-fn settled(outcome: Outcome, stop: Stop, replaced: u64, path: &[u8]) -> Turn {
+fn settled(outcome: Outcome, stop: Stop, kinds: Kinds, replaced: u64, path: &[u8]) -> Turn {
     let answer = outcome.answer;
     let run = outcome.run;
     let number = answer.number();
-    if is_taken(number) {
+    if messages::is_taken(number) {
         return Turn {
             run,
             stop,
+            kinds,
             replaced,
             failed: false,
         };
@@ -117,8 +114,106 @@ fn stop_of_encoding(
     )
 }
 
-// Decodes a block of `size` bytes.
-fn decode_block(
+// How much of a block comes before the code that its call stopped at: `read` of it was read.
+fn before_stop(read: usize, stop: Stop) -> usize {
+    if read < stop.size {
+        return 0;
+    }
+    read - stop.size
+}
+
+// The codes without a character that a call on a block replaced or skipped.
+pub fn kinds_of_decoding(
+    before: Run,
+    numbers: Numbers,
+    classes: &[u8],
+    singles: &[u16],
+    pairs: &[u16],
+    index: &[u8],
+    blocks: &[u16],
+    block: &[u8],
+    last: bool,
+    outcome: Outcome,
+    stop: Stop,
+) -> Kinds {
+    let after = outcome.run;
+    if after.flags % 8 == 0 {
+        return kinds::none();
+    }
+    if !stops::is_stopped(after) {
+        return kinds::in_bytes(
+            before,
+            numbers,
+            classes,
+            singles,
+            pairs,
+            index,
+            blocks,
+            block,
+            last,
+        );
+    }
+    let end = tillbox_layout::front_bytes(before_stop(outcome.read, stop), block);
+    kinds::in_bytes(
+        before,
+        numbers,
+        classes,
+        singles,
+        pairs,
+        index,
+        blocks,
+        &block[..end],
+        false,
+    )
+}
+
+// The same of a block of units.
+fn kinds_of_encoding(
+    before: Run,
+    numbers: Numbers,
+    classes: &[u8],
+    singles: &[u16],
+    pairs: &[u16],
+    index: &[u8],
+    blocks: &[u16],
+    block: &[u16],
+    last: bool,
+    outcome: Outcome,
+    stop: Stop,
+) -> Kinds {
+    let after = outcome.run;
+    if after.flags % 8 == 0 {
+        return kinds::none();
+    }
+    if !stops::is_stopped(after) {
+        return kinds::in_units(
+            before,
+            numbers,
+            classes,
+            singles,
+            pairs,
+            index,
+            blocks,
+            block,
+            last,
+        );
+    }
+    let end = tillbox_layout::front_units(before_stop(outcome.read, stop), block);
+    kinds::in_units(
+        before,
+        numbers,
+        classes,
+        singles,
+        pairs,
+        index,
+        blocks,
+        &block[..end],
+        false,
+    )
+}
+
+// Decodes a block of bytes.
+fn decode_bytes(
     run: Run,
     numbers: Numbers,
     classes: &[u8],
@@ -126,19 +221,12 @@ fn decode_block(
     pairs: &[u16],
     index: &[u8],
     blocks: &[u16],
-    source: i32,
     target: i32,
-    size: usize,
+    block: &[u8],
     last: bool,
     input: &[u8],
     output: &[u8],
 ) -> Turn {
-    let mut block = [0u8; 512];
-    let count = files::read_some(source, size, &mut block);
-    if count < size {
-        files::say_short(source, input);
-        return broken(run);
-    }
     let mut units = [0u16; 1024];
     let outcome = convert::decode(
         run,
@@ -148,7 +236,7 @@ fn decode_block(
         pairs,
         index,
         blocks,
-        &block[..count],
+        block,
         last,
         &mut units,
     );
@@ -166,10 +254,61 @@ fn decode_block(
         pairs,
         index,
         blocks,
-        &block[..count],
+        block,
         outcome,
     );
-    settled(outcome, stop, 0, input)
+    let kinds = kinds_of_decoding(
+        run,
+        numbers,
+        classes,
+        singles,
+        pairs,
+        index,
+        blocks,
+        block,
+        last,
+        outcome,
+        stop,
+    );
+    settled(outcome, stop, kinds, 0, input)
+}
+
+// Decodes a block of `size` bytes of a file.
+fn decode_block(
+    run: Run,
+    numbers: Numbers,
+    classes: &[u8],
+    singles: &[u16],
+    pairs: &[u16],
+    index: &[u8],
+    blocks: &[u16],
+    source: i32,
+    target: i32,
+    size: usize,
+    last: bool,
+    input: &[u8],
+    output: &[u8],
+) -> Turn {
+    let mut block = [0u8; 512];
+    let got = files::read_block(source, size, &mut block, input);
+    if got.failed {
+        return broken(run);
+    }
+    let count = got.count;
+    decode_bytes(
+        run,
+        numbers,
+        classes,
+        singles,
+        pairs,
+        index,
+        blocks,
+        target,
+        &block[..count],
+        last,
+        input,
+        output,
+    )
 }
 
 // Encodes a block of units.
@@ -217,8 +356,21 @@ fn encode_units(
         units,
         outcome,
     );
+    let kinds = kinds_of_encoding(
+        run,
+        numbers,
+        classes,
+        singles,
+        pairs,
+        index,
+        blocks,
+        units,
+        last,
+        outcome,
+        stop,
+    );
     if !job.counts {
-        return settled(outcome, stop, 0, input);
+        return settled(outcome, stop, kinds, 0, input);
     }
     let replaced = replaced_in(
         run,
@@ -232,7 +384,7 @@ fn encode_units(
         last,
         written,
     );
-    settled(outcome, stop, replaced, input)
+    settled(outcome, stop, kinds, replaced, input)
 }
 
 // Encodes a block of `size` units of a file.
@@ -255,11 +407,11 @@ fn encode_block(
     requires { ⌜ size ≤ 512 ⌝ }
 {
     let mut block = [0u8; 1024];
-    let count = files::read_some(source, 2 * size, &mut block);
-    if count < 2 * size {
-        files::say_short(source, input);
+    let got = files::read_block(source, 2 * size, &mut block, input);
+    if got.failed {
         return broken(run);
     }
+    let count = got.count;
     let mut units = [0u16; 512];
     let length = utf16::to_units(&block[..count], &mut units);
     encode_units(
@@ -355,13 +507,14 @@ fn on_the_way(
     checkpoints::save(run, target, output, checkpoint)
 }
 
-// A turn with the characters that all blocks up to it replaced.
-fn with_replaced(turn: Turn, replaced: u64) -> Turn {
+// A turn with what all blocks up to it met and replaced.
+fn with_totals(turn: Turn, kinds: Kinds, replaced: u64) -> Turn {
     let run = turn.run;
     let stop = turn.stop;
     Turn {
         run,
         stop,
+        kinds,
         replaced,
         failed: turn.failed,
     }
@@ -386,6 +539,7 @@ pub fn all_blocks(
 ) -> Turn {
     let count = tillbox_layout::block_count(run.read, total, job.last);
     let mut run = run;
+    let mut met = kinds::none();
     let mut replaced = 0;
     let mut done = 0;
     while done < count {
@@ -408,9 +562,10 @@ pub fn all_blocks(
             return turn;
         }
         run = turn.run;
+        met = met.with(turn.kinds);
         replaced = tillbox_layout::sum(replaced, turn.replaced);
         if run.ended {
-            return with_replaced(turn, replaced);
+            return with_totals(turn, met, replaced);
         }
         done += 1;
         if !on_the_way(job, run, done, target, total, output, checkpoint) {
@@ -420,6 +575,7 @@ pub fn all_blocks(
     Turn {
         run,
         stop: stops::none(),
+        kinds: met,
         replaced,
         failed: false,
     }

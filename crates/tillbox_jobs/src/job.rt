@@ -8,13 +8,14 @@ use crate::resume::Origin;
 use crate::stops;
 use crate::stops::Stop;
 use crate::tables;
-use codepage::Fault;
 use codepage::Numbers;
 use convert::Direction;
 use convert::Policy;
 use convert::Run;
-use image::Loaded;
-use libc::STDOUT_FILENO;
+use tillbox_checks::kinds;
+use tillbox_checks::kinds::Kinds;
+use tillbox_checks::tails;
+use tillbox_lock::Lock;
 use tillbox_printing::Page;
 use tillbox_storage::checkpoints;
 use tillbox_storage::files;
@@ -46,57 +47,9 @@ pub enum Ending {
     Failed,
 }
 
-// Whether two files have the same name, and says so.
-pub fn named_twice(a: &[u8], b: &[u8]) -> bool {
-    if check::same(a, b) {
-        messages::wrong(a, b"two of the files have this name");
-        return true;
-    }
-    false
-}
-
-// Whether a file that is written has a name of its own.
-fn is_apart(name: &[u8], table: &[u8], input: &[u8], output: &[u8]) -> bool {
-    if named_twice(name, table) {
-        return false;
-    }
-    if named_twice(name, input) {
-        return false;
-    }
-    !named_twice(name, output)
-}
-
-// Whether the checkpoint, and the new file that takes its place, have names of their own.
-fn checkpoint_apart(checkpoint: &[u8], table: &[u8], input: &[u8], output: &[u8]) -> bool {
-    if !is_apart(checkpoint, table, input, output) {
-        return false;
-    }
-    let mut fresh = io::buffer();
-    let count = checkpoints::new_path(checkpoint, &mut fresh);
-    if count == 0 {
-        messages::wrong(checkpoint, b"the name is too long");
-        return false;
-    }
-    is_apart(&fresh[..count], table, input, output)
-}
-
-// Whether no file that is written has the name of another file of the job. Where one has, it was said.
-fn names_apart(job: Job, table: &[u8], input: &[u8], output: &[u8], checkpoint: &[u8]) -> bool {
-    if named_twice(output, table) {
-        return false;
-    }
-    if named_twice(output, input) {
-        return false;
-    }
-    if job.saves {
-        return checkpoint_apart(checkpoint, table, input, output);
-    }
-    true
-}
-
 // Sums up a run: all is read, or it was stopped.
-fn told(run: Run, stop: Stop, checkpoint: &[u8]) -> Ending {
-    report::summary(run, stop, checkpoint);
+fn told(run: Run, stop: Stop, kinds: Kinds, checkpoint: &[u8]) -> Ending {
+    report::summary(run, stop, kinds, checkpoint);
     if stops::is_stopped(run) {
         return Ending::Stopped;
     }
@@ -106,6 +59,7 @@ fn told(run: Run, stop: Stop, checkpoint: &[u8]) -> Ending {
 // The end of a job whose blocks are done: the last line is saved and the run summed up.
 fn finished(job: Job, turn: Turn, target: i32, output: &[u8], checkpoint: &[u8]) -> Ending {
     let run = turn.run;
+    let met = turn.kinds;
     if turn.failed {
         return Ending::Failed;
     }
@@ -116,11 +70,11 @@ fn finished(job: Job, turn: Turn, target: i32, output: &[u8], checkpoint: &[u8])
         files::sync_folder(checkpoint);
     }
     if job.counts {
-        report::preview(run, turn.replaced);
+        report::preview(run, turn.replaced, met);
         return Ending::Done;
     }
     let stop = turn.stop;
-    told(run, stop, checkpoint)
+    told(run, stop, met, checkpoint)
 }
 
 // The end of a preview whose lines were broken.
@@ -157,6 +111,79 @@ fn open_target(run: Run, resumed: bool, output: &[u8]) -> i32 {
     files::take_up(output, place)
 }
 
+// Whether the files of a run that goes on are its own, as far as it can be told. Where they are not, that was said.
+fn are_own(
+    run: Run,
+    numbers: Numbers,
+    classes: &[u8],
+    singles: &[u16],
+    pairs: &[u16],
+    index: &[u8],
+    blocks: &[u16],
+    source: i32,
+    input: &[u8],
+    output: &[u8],
+) -> bool {
+    let reader = files::open_input(output);
+    if reader < 0 {
+        return false;
+    }
+    let own = tails::are_of(
+        run,
+        numbers,
+        classes,
+        singles,
+        pairs,
+        index,
+        blocks,
+        source,
+        reader,
+        input,
+        output,
+    );
+    libc::close(reader);
+    own
+}
+
+// Whether a job's files are those of the run that it begins with.
+fn can_begin(
+    beginning: Beginning,
+    numbers: Numbers,
+    classes: &[u8],
+    singles: &[u16],
+    pairs: &[u16],
+    index: &[u8],
+    blocks: &[u16],
+    source: i32,
+    input: &[u8],
+    output: &[u8],
+) -> bool {
+    let run = beginning.run;
+    if !beginning.resumed {
+        return true;
+    }
+    are_own(
+        run,
+        numbers,
+        classes,
+        singles,
+        pairs,
+        index,
+        blocks,
+        source,
+        input,
+        output,
+    )
+}
+
+// Whether the line of a job that saves could be put into the checkpoint's folder, which is tried before an output is touched.
+fn is_ready(job: Job, checkpoint: &[u8]) -> bool {
+    if !job.saves {
+        return true;
+    }
+    checkpoints::can_save(checkpoint)
+}
+
 // From a run on.
 fn with_run(
     job: Job,
@@ -167,6 +194,7 @@ fn with_run(
     pairs: &[u16],
     index: &[u8],
     blocks: &[u16],
+    line: &mut [u8],
     source: i32,
     total: u64,
     input: &[u8],
@@ -174,7 +202,24 @@ fn with_run(
     checkpoint: &[u8],
 ) -> Ending {
     let run = beginning.run;
+    if !can_begin(
+        beginning,
+        numbers,
+        classes,
+        singles,
+        pairs,
+        index,
+        blocks,
+        source,
+        input,
+        output,
+    ) {
+        return Ending::Failed;
+    }
     if !go_to(run, source, input) {
+        return Ending::Failed;
+    }
+    if !is_ready(job, checkpoint) {
         return Ending::Failed;
     }
     let target = open_target(run, beginning.resumed, output);
@@ -194,6 +239,7 @@ fn with_run(
             source,
             target,
             total,
+            line,
             input,
             output,
         );
@@ -218,11 +264,19 @@ fn with_run(
         output,
         checkpoint,
     );
-    closed(
-        finished(job, turn, target, output, checkpoint),
-        target,
-        output,
-    )
+    let ending = finished(job, turn, target, output, checkpoint);
+    if job.saves {
+        return closed_saved(ending, target, output);
+    }
+    closed(ending, target, output)
+}
+
+// How a job ends whose output was made safe with its last line, and is closed.
+fn closed_saved(ending: Ending, target: i32, output: &[u8]) -> Ending {
+    if files::close(target, output) {
+        return ending;
+    }
+    Ending::Failed
 }
 
 // How a job ends whose output is made safe and closed.
@@ -234,14 +288,40 @@ pub fn closed(ending: Ending, target: i32, output: &[u8]) -> Ending {
 }
 
 // The end of a job whose run had ended before: its output is looked at as that of one that goes on.
-fn nothing_to_do(run: Run, output: &[u8], checkpoint: &[u8]) -> Ending {
+fn nothing_to_do(
+    run: Run,
+    numbers: Numbers,
+    classes: &[u8],
+    singles: &[u16],
+    pairs: &[u16],
+    index: &[u8],
+    blocks: &[u16],
+    source: i32,
+    input: &[u8],
+    output: &[u8],
+    checkpoint: &[u8],
+) -> Ending {
+    if !are_own(
+        run,
+        numbers,
+        classes,
+        singles,
+        pairs,
+        index,
+        blocks,
+        source,
+        input,
+        output,
+    ) {
+        return Ending::Failed;
+    }
     let target = open_target(run, true, output);
     if target < 0 {
         return Ending::Failed;
     }
     libc::close(target);
     messages::say(b"tillbox: nothing to do: the run of the checkpoint has ended\n");
-    told(run, stops::none(), checkpoint)
+    told(run, stops::none(), kinds::none(), checkpoint)
 }
 
 // From an input of `total` units on.
@@ -253,6 +333,7 @@ fn with_total(
     pairs: &[u16],
     index: &[u8],
     blocks: &[u16],
+    line: &mut [u8],
     source: i32,
     total: u64,
     input: &[u8],
@@ -284,13 +365,26 @@ fn with_total(
             pairs,
             index,
             blocks,
+            line,
             source,
             total,
             input,
             output,
             checkpoint,
         ),
-        Origin::Finished(run) => nothing_to_do(run, output, checkpoint),
+        Origin::Finished(run) => nothing_to_do(
+            run,
+            numbers,
+            classes,
+            singles,
+            pairs,
+            index,
+            blocks,
+            source,
+            input,
+            output,
+            checkpoint,
+        ),
         Origin::Failed => Ending::Failed,
     }
 }
@@ -307,8 +401,8 @@ fn is_complete(job: Job, wide: bool, bytes: u64, input: &[u8]) -> bool {
     false
 }
 
-// From an open input on.
-fn with_input(
+// From an open input on, whose size is asked here: an earlier job may have worked on the checkpoint while the input grew.
+fn with_size(
     job: Job,
     numbers: Numbers,
     classes: &[u8],
@@ -316,6 +410,7 @@ fn with_input(
     pairs: &[u16],
     index: &[u8],
     blocks: &[u16],
+    line: &mut [u8],
     source: i32,
     input: &[u8],
     output: &[u8],
@@ -340,6 +435,7 @@ fn with_input(
         pairs,
         index,
         blocks,
+        line,
         source,
         total,
         input,
@@ -348,8 +444,8 @@ fn with_input(
     )
 }
 
-// From a table set on.
-fn with_tables(
+// From an open input on. A job that saves has its checkpoint to itself.
+fn with_input(
     job: Job,
     numbers: Numbers,
     classes: &[u8],
@@ -357,6 +453,55 @@ fn with_tables(
     pairs: &[u16],
     index: &[u8],
     blocks: &[u16],
+    line: &mut [u8],
+    source: i32,
+    input: &[u8],
+    output: &[u8],
+    checkpoint: &[u8],
+) -> Ending {
+    let lock = locked(job, checkpoint);
+    if let Lock::Refused = lock {
+        return Ending::Failed;
+    }
+    let ending = with_size(
+        job,
+        numbers,
+        classes,
+        singles,
+        pairs,
+        index,
+        blocks,
+        line,
+        source,
+        input,
+        output,
+        checkpoint,
+    );
+    if let Lock::Held(fd) = lock {
+        tillbox_lock::release(fd, checkpoint);
+    }
+    ending
+}
+
+// The lock of a job that saves; one that does not needs none.
+fn locked(job: Job, checkpoint: &[u8]) -> Lock {
+    if !job.saves {
+        return Lock::Free;
+    }
+    tillbox_lock::take(checkpoint)
+}
+
+// Does a job with a table set. `checkpoint` is looked at only where the job saves, and `line` is room for a line that is broken. What
+// happened is said on standard error.
+pub fn with_tables(
+    job: Job,
+    numbers: Numbers,
+    classes: &[u8],
+    singles: &[u16],
+    pairs: &[u16],
+    index: &[u8],
+    blocks: &[u16],
+    line: &mut [u8],
     table: &[u8],
     input: &[u8],
     output: &[u8],
@@ -377,6 +522,7 @@ fn with_tables(
         pairs,
         index,
         blocks,
+        line,
         source,
         input,
         output,
@@ -384,101 +530,4 @@ fn with_tables(
     );
     libc::close(source);
     ending
-}
-
-// Does a job. `checkpoint` is looked at only where the job saves. What happened is said on standard error.
-pub fn convert_files(
-    job: Job,
-    table: &[u8],
-    input: &[u8],
-    output: &[u8],
-    checkpoint: &[u8],
-) -> Ending {
-    if !names_apart(job, table, input, output, checkpoint) {
-        return Ending::Failed;
-    }
-    let mut classes = [0u8; 300];
-    let mut singles = [0u16; 300];
-    let mut pairs = [0u16; 33024];
-    let mut index = [0u8; 300];
-    let mut blocks = [0u16; 66048];
-    let loaded = tables::load(
-        table,
-        &mut classes,
-        &mut singles,
-        &mut pairs,
-        &mut index,
-        &mut blocks,
-    );
-    match loaded {
-        Loaded::NotAnImage => Ending::Failed,
-        Loaded::Table(numbers, sizes) => {
-            let a = tillbox_layout::front_bytes(sizes.classes, &classes);
-            let b = tillbox_layout::front_units(sizes.singles, &singles);
-            let c = tillbox_layout::front_units(sizes.pairs, &pairs);
-            let d = tillbox_layout::front_bytes(sizes.index, &index);
-            let e = tillbox_layout::front_units(sizes.blocks, &blocks);
-            with_tables(
-                job,
-                numbers,
-                &classes[..a],
-                &singles[..b],
-                &pairs[..c],
-                &index[..d],
-                &blocks[..e],
-                table,
-                input,
-                output,
-                checkpoint,
-            )
-        }
-    }
-}
-
-// The shape report of a table set, in words on standard output.
-fn told_shape(numbers: Numbers, fault: Fault) -> Ending {
-    messages::put(STDOUT_FILENO, b"page ");
-    messages::put_number(STDOUT_FILENO, numbers.page as u64);
-    messages::put(STDOUT_FILENO, b": ");
-    tables::put_fault(STDOUT_FILENO, fault);
-    if let Fault::Good = fault {
-        return Ending::Done;
-    }
-    Ending::Failed
-}
-
-// Writes the shape report of a table image to standard output.
-pub fn print_shape(table: &[u8]) -> Ending {
-    let mut classes = [0u8; 300];
-    let mut singles = [0u16; 300];
-    let mut pairs = [0u16; 33024];
-    let mut index = [0u8; 300];
-    let mut blocks = [0u16; 66048];
-    let loaded = tables::load(
-        table,
-        &mut classes,
-        &mut singles,
-        &mut pairs,
-        &mut index,
-        &mut blocks,
-    );
-    match loaded {
-        Loaded::NotAnImage => Ending::Failed,
-        Loaded::Table(numbers, sizes) => {
-            let a = tillbox_layout::front_bytes(sizes.classes, &classes);
-            let b = tillbox_layout::front_units(sizes.singles, &singles);
-            let c = tillbox_layout::front_units(sizes.pairs, &pairs);
-            let d = tillbox_layout::front_bytes(sizes.index, &index);
-            let e = tillbox_layout::front_units(sizes.blocks, &blocks);
-            let fault = codepage::shape_report(
-                numbers,
-                &classes[..a],
-                &singles[..b],
-                &pairs[..c],
-                &index[..d],
-                &blocks[..e],
-            );
-            told_shape(numbers, fault)
-        }
-    }
 }

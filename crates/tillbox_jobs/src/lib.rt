@@ -2,7 +2,9 @@
 // decided by the calls of `convert` and `checkpoint`; here files are read and written.
 pub mod blocks;
 pub mod job;
+pub mod names;
 pub mod report;
 mod resume;
+pub mod shape;
 pub mod stops;
 pub mod tables;

@@ -6,6 +6,8 @@ use convert::Direction;
 use convert::Pending;
 use convert::Policy;
 use convert::Run;
+use tillbox_checks::kinds::Kinds;
+use tillbox_layout::sum;
 use tillbox_printing::Page;
 use tillbox_storage::messages::say;
 use tillbox_storage::messages::say_hex;
@@ -84,6 +86,33 @@ pub fn say_flags(flags: u8) {
     say(b" (");
     say_number(flags as u64);
     say(b")\n");
+}
+
+// How many codes there were of a kind, if any, behind those of other kinds.
+fn say_count(count: u64, before: u64, name: &[u8]) {
+    if count == 0 {
+        return;
+    }
+    if before != 0 {
+        say(b", ");
+    }
+    say_number(count);
+    say(b" ");
+    say(name);
+}
+
+// How many codes without a character this call replaced or skipped, by kind; nothing where there were none.
+pub fn say_kinds(kinds: Kinds) {
+    let before = sum(kinds.single, kinds.pair);
+    let all = sum(before, kinds.invalid);
+    if all == 0 {
+        return;
+    }
+    say(b"tillbox: replaced or skipped: ");
+    say_count(kinds.single, 0, b"undefined single");
+    say_count(kinds.pair, kinds.single, b"undefined pair");
+    say_count(kinds.invalid, before, b"invalid");
+    say(b"\n");
 }
 
 // What a run reads, in hex: a byte or a unit.
@@ -240,10 +269,11 @@ pub fn more_input(run: Run, total: u64, checkpoint: &[u8]) {
 }
 
 // The summary of a run, and how to go on where it was stopped. The name of the checkpoint is empty where there is none.
-pub fn summary(run: Run, stop: Stop, checkpoint: &[u8]) {
+pub fn summary(run: Run, stop: Stop, kinds: Kinds, checkpoint: &[u8]) {
     let pending = run.pending;
     say_totals(run);
     say_flags(run.flags);
+    say_kinds(kinds);
     say_pending(pending);
     if stops::is_stopped(run) {
         say_stop(run, stop, checkpoint);
@@ -277,8 +307,9 @@ fn say_replaced(replaced: u64) {
 }
 
 // The summary of a receipt's preview.
-pub fn preview(run: Run, replaced: u64) {
+pub fn preview(run: Run, replaced: u64, kinds: Kinds) {
     say_totals(run);
     say_replaced(replaced);
     say_flags(run.flags);
+    say_kinds(kinds);
 }

@@ -8,6 +8,7 @@ use convert::Direction;
 use convert::Policy;
 use convert::Run;
 use convert::Started;
+use tillbox_checks::kinds;
 use tillbox_storage::checkpoints;
 use tillbox_storage::files;
 use tillbox_storage::messages;
@@ -145,7 +146,7 @@ fn ended(run: Run, total: u64, path: &[u8]) -> Origin {
     }
     messages::refuse(15, path);
     report::more_input(run, total, path);
-    report::summary(run, stops::none(), path);
+    report::summary(run, stops::none(), kinds::none(), path);
     Origin::Failed
 }
 

@@ -14,10 +14,11 @@ fn told(path: &[u8], loaded: Loaded) -> Loaded {
     loaded
 }
 
-// Reads a file's image into the fronts of lent tables. Where it is no image the reason was said. The buffer has room for more than
-// the longest image that fits the tables of a job.
+// Reads a file's image, by way of lent memory, into the fronts of lent tables. Where it is no image the reason was said. The memory has
+// room for more than the longest image that fits the tables.
 pub fn load(
     path: &[u8],
+    image: &mut [u8],
     classes: &mut [u8],
     singles: &mut [u16],
     pairs: &mut [u16],
@@ -28,10 +29,13 @@ pub fn load(
     if fd < 0 {
         return Loaded::NotAnImage;
     }
-    let mut bytes = [0u8; 200000];
-    let count = files::read_some(fd, 200000, &mut bytes);
+    let got = files::read_some(fd, image.len(), image, path);
     libc::close(fd);
-    let loaded = image::load(&bytes[..count], classes, singles, pairs, index, blocks);
+    if got.failed {
+        return Loaded::NotAnImage;
+    }
+    let count = got.count;
+    let loaded = image::load(&image[..count], classes, singles, pairs, index, blocks);
     told(path, loaded)
 }
 

@@ -8,14 +8,29 @@ use tillbox_storage::messages;
 use tillbox_storage::messages::say;
 use tillbox_storage::messages::say_number;
 
+// The longest printed line that is written with its line feed by one call.
+const SHORT: usize = 1023;
+
+// A printed line, and its line feed.
+fn put_closed(page: Page, part: &[u8], target: i32, path: &[u8]) -> Page {
+    let mut bytes = [0u8; 1024];
+    let size = part.len();
+    if SHORT < size {
+        return page.put(part, target, path).put(b"\n", target, path);
+    }
+    bytes::copy(part, &mut bytes);
+    bytes[size] = b'\n';
+    let count = tillbox_layout::front_bytes(size + 1, &bytes);
+    page.put(&bytes[..count], target, path)
+}
+
 // A part of a line, and a line feed.
 fn put_part(page: Page, line: &[u8], from: usize, to: u64, target: i32, path: &[u8]) -> Page {
     let end = tillbox_layout::front_bytes(to as usize, line);
     if end < from {
         return page;
     }
-    page.put(&line[from..end], target, path)
-        .put(b"\n", target, path)
+    put_closed(page, &line[from..end], target, path)
 }
 
 // The place of a break, or 0 for the line's beginning.
@@ -56,7 +71,7 @@ fn say_line(number: u64) {
 
 // A line that is not broken, closed.
 fn put_unbroken(page: Page, line: &[u8], target: i32, path: &[u8]) -> Page {
-    let mut p = page.put(line, target, path).put(b"\n", target, path);
+    let mut p = put_closed(page, line, target, path);
     p.unbroken = sum(p.unbroken, 1);
     p.closed(1)
 }

@@ -30,11 +30,11 @@ fn next_block(
 ) -> Page {
     let mut block = [0u8; 1024];
     let bytes = tillbox_layout::front_bytes(twice(size), &block);
-    let count = files::read_some(source, bytes, &mut block);
-    if count < bytes {
-        files::say_short(source, input);
+    let got = files::read_block(source, bytes, &mut block, input);
+    if got.failed {
         return page.broken();
     }
+    let count = got.count;
     let mut units = [0u16; 512];
     let length = utf16::to_units(&block[..count], &mut units);
     let run = page.run;
@@ -64,6 +64,7 @@ fn twice(size: usize) -> usize {
 }
 
 // All blocks of a ledger of `total` units, and its last line. The run is one of 555 (`Policy::replacing`), so that it does not stop.
+// `line` is room for the bytes of one line; a line that is longer is not broken.
 pub fn print_ledger(
     run: Run,
     numbers: Numbers,
@@ -76,10 +77,10 @@ pub fn print_ledger(
     source: i32,
     target: i32,
     total: u64,
+    line: &mut [u8],
     input: &[u8],
     output: &[u8],
 ) -> Page {
-    let mut line = [0u8; 65536];
     let count = tillbox_layout::block_count(0, total, false);
     let mut page = page::first(run);
     let mut done = 0;
@@ -97,7 +98,7 @@ pub fn print_ledger(
             source,
             target,
             size,
-            &mut line,
+            line,
             input,
             output,
         );
@@ -115,7 +116,7 @@ pub fn print_ledger(
         index,
         blocks,
         width,
-        &mut line,
+        line,
         target,
         output,
     )

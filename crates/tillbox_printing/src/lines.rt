@@ -47,8 +47,8 @@ fn encode(
     let answer = outcome.answer;
     let after = outcome.run;
     let number = answer.number();
-    let refused = number == 2 || 9 < number;
-    if refused {
+    let taken = messages::is_taken(number);
+    if !taken {
         messages::refuse(number, path);
     }
     Encoded {
@@ -66,7 +66,7 @@ fn encode(
             last,
             outcome.written,
         ),
-        failed: refused,
+        failed: !taken,
     }
 }
 

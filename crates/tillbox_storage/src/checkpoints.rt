@@ -1,39 +1,24 @@
 // The checkpoint file: a run's line, replaced by a new file under its name only once the output is safe.
-ghost use Rattle.io.specs.Counts.{Counts};
 use crate::files;
 use crate::messages;
+use crate::names;
 use checkpoint::Restored;
 use checkpoint::Written;
 use convert::Run;
 
-// Reads the line of an open checkpoint file.
+// Reads the line of an open checkpoint file. Where it is refused the reason was said.
 pub fn read_line(fd: i32, path: &[u8]) -> Restored {
     let mut line = [0u8; 64];
-    let count = files::read_some(fd, 64, &mut line);
+    let got = files::read_some(fd, 64, &mut line, path);
+    if got.failed {
+        return Restored::Refused;
+    }
+    let count = got.count;
     let restored = checkpoint::read(&line[..count]);
     if let Restored::Refused = restored {
         messages::refuse(18, path);
     }
     restored
-}
-
-// Puts a path with `.new` behind it at the front of a buffer and answers its length, or 0 where it does not fit.
-pub fn new_path(path: &[u8], buffer: &mut [u8]) -> usize
-    ensures { λ r. ⌜ Counts r (now (buffer .exit)) ⌝ }
-{
-    let at = path.len();
-    if buffer.len() < 4 {
-        return 0;
-    }
-    if buffer.len() - 4 < at {
-        return 0;
-    }
-    bytes::copy(path, buffer);
-    buffer[at] = b'.';
-    buffer[at + 1] = b'n';
-    buffer[at + 2] = b'e';
-    buffer[at + 3] = b'w';
-    tillbox_layout::front_bytes(at + 4, buffer)
 }
 
 // Writes a file whole and safely. It must not be there yet.
@@ -68,8 +53,28 @@ fn replace(line: &[u8], fresh: &[u8], path: &[u8]) -> bool {
 // Puts a line in the place of a checkpoint's, by way of a new file beside it. Where it could not, the reason was said.
 fn put_line(line: &[u8], path: &[u8]) -> bool {
     let mut fresh = io::buffer();
-    let count = new_path(path, &mut fresh);
+    let count = names::beside(path, b".new", &mut fresh);
     replace(line, &fresh[..count], path)
+}
+
+// Whether a file can be made; it is removed again. Where it can not, the reason was said.
+fn can_make(fresh: &[u8]) -> bool {
+    os::unlink(fresh);
+    let fd = os::create(fresh);
+    if fd < 0 {
+        messages::cannot(b"make", fresh);
+        return false;
+    }
+    libc::close(fd);
+    os::unlink(fresh);
+    true
+}
+
+// Whether the new file of a checkpoint can be made beside it. Where it can not, the reason was said.
+pub fn can_save(path: &[u8]) -> bool {
+    let mut fresh = io::buffer();
+    let count = names::beside(path, b".new", &mut fresh);
+    can_make(&fresh[..count])
 }
 
 // Saves a run: first what was written to the output is made safe, then the line takes the checkpoint's place.

@@ -48,23 +48,62 @@ pub fn seek(fd: i32, place: i64, path: &[u8]) -> bool {
     true
 }
 
-// Reads up to `size` bytes and answers how many there were.
-pub fn read_some(fd: i32, size: usize, buffer: &mut [u8]) -> usize
-    ensures { λ r. ⌜ Counts r (now (buffer .exit)) ⌝ }
-{
-    let n = tillbox_layout::front_bytes(size, buffer);
-    let got = io::read_full(fd, &mut buffer[..n]);
-    tillbox_layout::front_bytes(got, buffer)
+// What was read: how many bytes stand at the front of the buffer, and whether it failed; then the reason was said.
+pub struct Got {
+    pub count: usize,
+    pub failed: bool,
 }
 
-// Says why fewer bytes came than there were.
-pub fn say_short(fd: i32, path: &[u8]) {
-    let mut byte = [0u8; 1];
-    if libc::read(fd, &mut byte) < 0 {
+// Reads once.
+fn read_once(fd: i32, buffer: &mut [u8], path: &[u8]) -> Got
+    ensures { λ r. ⌜ Counts (r .count) (now (buffer .exit)) ⌝ }
+{
+    let got = libc::read(fd, buffer);
+    if got < 0 {
         messages::cannot(b"read", path);
-        return;
     }
-    messages::wrong(path, b"it became shorter while it was read");
+    Got {
+        count: io::count(got, buffer),
+        failed: got < 0,
+    }
+}
+
+// Reads up to `size` bytes, to the end of the file.
+pub fn read_some(fd: i32, size: usize, buffer: &mut [u8], path: &[u8]) -> Got
+    ensures { λ r. ⌜ Counts (r .count) (now (buffer .exit)) ⌝ }
+{
+    let end = tillbox_layout::front_bytes(size, buffer);
+    let mut at = 0;
+    while at < end {
+        let turn = read_once(fd, &mut buffer[at..end], path);
+        let count = turn.count;
+        if count == 0 {
+            return Got {
+                count: tillbox_layout::front_bytes(at, buffer),
+                failed: turn.failed,
+            };
+        }
+        at += count;
+    }
+    Got {
+        count: tillbox_layout::front_bytes(at, buffer),
+        failed: false,
+    }
+}
+
+// Reads a block of `size` bytes, which fit the buffer. One that is cut short is an error too.
+pub fn read_block(fd: i32, size: usize, buffer: &mut [u8], path: &[u8]) -> Got
+    ensures { λ r. ⌜ Counts (r .count) (now (buffer .exit)) ⌝ }
+{
+    let mut got = read_some(fd, size, buffer, path);
+    if got.failed {
+        return got;
+    }
+    if got.count < size {
+        messages::wrong(path, b"it became shorter while it was read");
+        got.failed = true;
+    }
+    got
 }
 
 // Writes all bytes.
@@ -85,7 +124,7 @@ pub fn sync(fd: i32, path: &[u8]) -> bool {
     true
 }
 
-// Waits until all that was written is safe, where it can be: a pipe or a device has nothing to make safe (EINVAL).
+// Waits until all that was written is safe, where it can be: what takes everything has nothing to make safe (EINVAL).
 fn settle(fd: i32, path: &[u8]) -> bool {
     if libc::fsync(fd) < 0 {
         if os::errno() == EINVAL {
@@ -97,18 +136,24 @@ fn settle(fd: i32, path: &[u8]) -> bool {
     true
 }
 
-// Makes an output safe and closes it. Where one of both failed the reason was said.
-pub fn finish(fd: i32, path: &[u8]) -> bool {
-    let safe = settle(fd, path);
+// Closes an output. Where that failed the reason was said.
+pub fn close(fd: i32, path: &[u8]) -> bool {
     if libc::close(fd) < 0 {
         messages::cannot(b"close", path);
         return false;
     }
-    safe
+    true
+}
+
+// Makes an output safe and closes it. Where one of both failed the reason was said.
+pub fn finish(fd: i32, path: &[u8]) -> bool {
+    let safe = settle(fd, path);
+    let closed = close(fd, path);
+    safe && closed
 }
 
 // The length of the folder's part of a path, with the slash at its end; 0 where it has none.
-fn folder_len(path: &[u8]) -> usize
+pub fn folder_len(path: &[u8]) -> usize
     ensures { λ r. ⌜ Counts r (now (path .entry)) ⌝ }
 {
     let mut end = path.len();

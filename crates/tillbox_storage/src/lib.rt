@@ -2,3 +2,4 @@
 pub mod checkpoints;
 pub mod files;
 pub mod messages;
+pub mod names;

@@ -86,6 +86,14 @@ fn say_meaning(number: u8) {
     }
 }
 
+// Whether the number that a call with room enough answered is that of a call that was taken.
+pub fn is_taken(number: u8) -> bool {
+    if number == 2 {
+        return false;
+    }
+    number < 10
+}
+
 // Says the number that a call refused with, its meaning, and which file it is about.
 pub fn refuse(number: u8, path: &[u8]) {
     say(b"tillbox: error ");

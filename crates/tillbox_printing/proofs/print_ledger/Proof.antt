@@ -7,28 +7,28 @@ use Rattle.tillbox_printing.proofs.print_ledger.Statement.{statement}
 use Rattle.tillbox_printing.proofs.print_ledger.Tie as tie
 
 abbrev Inv-loop : tie.InvT-loop
-Inv-loop numbers classes singles pairs index blocks width source target total input output line₀ count page₀ done₀ line page done = (done ≤ count) × (length line ≡ length line₀)
+Inv-loop numbers classes singles pairs index blocks width source target total line₀ input output count page₀ done₀ line page done = (done ≤ count) × (length line ≡ length line₀)
 
 abbrev μ-loop : tie.MeasureT-loop
-μ-loop numbers classes singles pairs index blocks width source target total input output line₀ count page₀ done₀ line page done = count - done
+μ-loop numbers classes singles pairs index blocks width source target total line₀ input output count page₀ done₀ line page done = count - done
 
 block-count-requires : tie.Need-block-count-requires Inv-loop μ-loop
-block-count-requires c κs = search needs
+block-count-requires c κs = tt
 
 first-requires : tie.Need-first-requires Inv-loop μ-loop
-first-requires c κs = search needs
+first-requires c κs = tt
 
 loop-holds : tie.Need-loop-holds Inv-loop μ-loop
 loop-holds c = search needs
 
 block-len-requires : tie.Need-block-len-requires Inv-loop μ-loop
-block-len-requires c κs = search needs
-
-slice-aggregate-next-block : tie.Need-slice-aggregate-next-block Inv-loop μ-loop
-slice-aggregate-next-block c = search needs
+block-len-requires c κs = tt
 
 next-block-requires : tie.Need-next-block-requires Inv-loop μ-loop
-next-block-requires c κs = search needs
+next-block-requires c κs = tt
+
+same-length : tie.Need-same-length Inv-loop μ-loop
+same-length c = search needs
 
 returns : tie.Need-returns Inv-loop μ-loop
 returns c = search needs
@@ -42,11 +42,11 @@ loop-less c = search needs
 loop-again : tie.Need-loop-again Inv-loop μ-loop
 loop-again c = search needs
 
-slice-aggregate-end-text : tie.Need-slice-aggregate-end-text Inv-loop μ-loop
-slice-aggregate-end-text c = search needs
-
 end-text-requires : tie.Need-end-text-requires Inv-loop μ-loop
-end-text-requires c κs = search needs
+end-text-requires c κs = tt
+
+same-length-2 : tie.Need-same-length-2 Inv-loop μ-loop
+same-length-2 c = search needs
 
 returns-2 : tie.Need-returns-2 Inv-loop μ-loop
 returns-2 c = search needs
@@ -61,12 +61,12 @@ print-ledger-spec =
     first-requires
     loop-holds
     block-len-requires
-    slice-aggregate-next-block
     next-block-requires
+    same-length
     returns
     add-done
     loop-less
     loop-again
-    slice-aggregate-end-text
     end-text-requires
+    same-length-2
     returns-2)

@@ -4,13 +4,16 @@ use Rattle.tillbox_jobs.proofs.blocks.all_blocks.Statement.{statement}
 use Rattle.tillbox_jobs.proofs.blocks.all_blocks.Tie as tie
 
 abbrev Inv-loop : tie.InvT-loop
-Inv-loop job numbers classes singles pairs index blocks source target total input output checkpoint count run₀ replaced₀ done₀ run replaced done = Unit {0}
+Inv-loop job numbers classes singles pairs index blocks source target total input output checkpoint count run₀ met₀ replaced₀ done₀ run met replaced done = Unit {0}
 
 abbrev μ-loop : tie.MeasureT-loop
-μ-loop job numbers classes singles pairs index blocks source target total input output checkpoint count run₀ replaced₀ done₀ run replaced done = count - done
+μ-loop job numbers classes singles pairs index blocks source target total input output checkpoint count run₀ met₀ replaced₀ done₀ run met replaced done = count - done
 
 block-count-requires : tie.Need-block-count-requires Inv-loop μ-loop
 block-count-requires c κs = tt
+
+none-requires : tie.Need-none-requires Inv-loop μ-loop
+none-requires c κs = tt
 
 loop-holds : tie.Need-loop-holds Inv-loop μ-loop
 loop-holds c = tt
@@ -21,11 +24,14 @@ next-block-requires c κs = tt
 returns : tie.Need-returns Inv-loop μ-loop
 returns c = tt
 
+with-requires : tie.Need-with-requires Inv-loop μ-loop
+with-requires c κs = tt
+
 sum-requires : tie.Need-sum-requires Inv-loop μ-loop
 sum-requires c κs = tt
 
-with-replaced-requires : tie.Need-with-replaced-requires Inv-loop μ-loop
-with-replaced-requires c κs = tt
+with-totals-requires : tie.Need-with-totals-requires Inv-loop μ-loop
+with-totals-requires c κs = tt
 
 returns-2 : tie.Need-returns-2 Inv-loop μ-loop
 returns-2 c = tt
@@ -48,8 +54,8 @@ loop-less c = omega arith
 loop-again : tie.Need-loop-again Inv-loop μ-loop
 loop-again c = tt
 
-none-requires : tie.Need-none-requires Inv-loop μ-loop
-none-requires c κs = tt
+none-requires-2 : tie.Need-none-requires-2 Inv-loop μ-loop
+none-requires-2 c κs = tt
 
 returns-4 : tie.Need-returns-4 Inv-loop μ-loop
 returns-4 c = tt
@@ -61,11 +67,13 @@ all-blocks-spec =
     Inv-loop
     μ-loop
     block-count-requires
+    none-requires
     loop-holds
     next-block-requires
     returns
+    with-requires
     sum-requires
-    with-replaced-requires
+    with-totals-requires
     returns-2
     add-done
     on-the-way-requires
@@ -73,5 +81,5 @@ all-blocks-spec =
     returns-3
     loop-less
     loop-again
-    none-requires
+    none-requires-2
     returns-4)

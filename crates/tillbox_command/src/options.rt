@@ -170,15 +170,20 @@ fn with_policy(options: Options) -> Options {
     }
 }
 
-// The words behind the command, in either order.
-pub fn chosen() -> Options {
+// The words from an argument on, in either order.
+pub fn chosen_from(next: usize) -> Options {
     let policy = Policy::standard();
     let options = Options {
         last: false,
         policy,
         asked: false,
         valid: true,
-        next: 2,
+        next,
     };
     with_last(with_policy(with_last(options)))
+}
+
+// The words behind the command.
+pub fn chosen() -> Options {
+    chosen_from(2)
 }

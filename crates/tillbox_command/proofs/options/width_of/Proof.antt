@@ -3,8 +3,8 @@ use Prim.Native.Nat.{_-_, _≤_, min}
 use native.Mathlib.Omega.{arith}
 use lib.ListN.{length}
 use borrow.Author.Needs.{needs}
-use Rattle.tillbox.proofs.options.width_of.Statement.{statement}
-use Rattle.tillbox.proofs.options.width_of.Tie as tie
+use Rattle.tillbox_command.proofs.options.width_of.Statement.{statement}
+use Rattle.tillbox_command.proofs.options.width_of.Tie as tie
 
 abbrev Inv-loop : tie.InvT-loop
 Inv-loop digits value₀ i₀ value i = i ≤ length digits
