@@ -32,8 +32,8 @@ pub data Form : Type 0 where
   inRecord : Form
 
 -- A call: a run call, in either form, on a piece of the text, marked last or not; line writing; line reading. `lent` is the lent output
--- before the call; its length is the room. "Demand 3 covers any mixture of the two forms in one run" (CR 13): what follows looks at no
--- form.
+-- before the call; its length is the room.
+-- "Demand 3 covers any mixture of the two forms in one run" (CR 13): what follows looks at no form.
 pub data Call : Type 0 where
   feeding : Form → (piece : List ℕ) → (last : Bool) → (lent : List ℕ) → Call
   saving : (lent : List ℕ) → Call
