@@ -19,7 +19,7 @@ use prog.Wp.{Heap, Calls, Loops, WpFn, Tables}
 use ghost.Atoms.{Atoms}
 use contract.Monad.{Fun, fact}
 use contract.Running.{givenOf, tables, tablesOf}
-use types.Kit.{Given, Item, ‵, raw, some, later, _⊛_, ⋆, _$_, _∵_, !, qed, by, move, keep, drop, use1, use2, split, join, pick, rewrite, fsplit, fsplit3, fjoin, fjoin3, feqL, feqI, suffices, frame, await, done}
+use types.Kit.{Given, Item, ‵, raw, some, later, _⊛_, ⋆, _$_, _∵_, !, qed, by, move, keep, drop, use1, use2, use3, split, join, pick, rewrite, fsplit, fsplit3, fjoin, fjoin3, feqL, feqI, suffices, frame, await, done}
 use types.Run.{look, look-raw, store-raw, init, forget, stop, hop, fld, from, load, addr, of-opd, and-then, no-more, assigns, land, returns, enter, alloc1, alloc0, params1, pass1, pass0, free1, free0}
 use types.Part.{agg, whole, sub, look-in}
 use types.SemTy.{Body}
@@ -27,7 +27,7 @@ use sound.WpLaws.{FmC, fmOf, WpFn-mono}
 use denote.RattleType.{RattleType, owns}
 use denote.Laws.{Is, shows}
 use denote.Memory.{mem}
-use denote.Plain.{bool-vals, bool-tells}
+use denote.Plain.{bool-vals, bool-tells, bool-makes}
 use denote.Builtin.{u8, u16, bool}
 use denote.Ref.{RefT, MutRef, ptr-vals, mut-tells}
 use denote.Slice.{slice-vals, ShrSlice, MutSlice, Room, finally, shr-slice-tells, mut-slice-tells}
@@ -100,10 +100,10 @@ module _ {M : Type 1} (𝓤 : URA M) (H : Heap 𝓤) (A : Atoms 𝓤) (W : Given
   Tk = tokens 𝓤 κs qs
 
   abbrev Args : Fml
-  Args = Passed κs u8 u16 c s p i b x t y
+  Args = Passed κs u8 u16 bool c s p i b x t (vbool t) y
 
   abbrev Held : Fml
-  Held = Kept κs u8 u16 c s p i b x t y
+  Held = Kept κs u8 u16 bool c s p i b x t (vbool t) y
 
   -- what the callee's triple binds outside, and that the caller has what it asks
   abbrev to-callee : Callee 𝓤 H A at-mem run .Ghost
@@ -121,7 +121,7 @@ module _ {M : Type 1} (𝓤 : URA M) (H : Heap 𝓤) (A : Atoms 𝓤) (W : Given
       suffices ! _ (ends-at 𝓤 H A here.ended stayed (here.clauses 𝓤 H A at-mem run) W (((κ, κs), (q, qs), tt, (ref, rest), (vptr b₀ o₀ ∷ [], values)), tt) (machN (hereOf r)) (hereOf r)
       (r .run, (tt, (tt, (tt, (tt, (tt, (tt, (tt, (tt, (zs, tt)))))))))) (tt, (tt, (tt, (tt, (tt, (tt, (tt, (tt, (tt, (l, tt))))))))))) $
       says ! e $ move ! (2 ∷ 3 ∷ []) $ join ! $ frame ! $ feqI ! (List Val) (vptr b₀ o₀ ∷ []) (vptr b₀ o₀ ∷ []) refl $ fjoin3 ! $
-      move ! (2 ∷ 1 ∷ []) $ use2 W (‵ (AtExit κs u8 u16 c s p i b x t y zs)) (at-exit κs u8 u16 c s p i b x t y 𝓤 H A W zs) $
+      owned ! bool (Is bool) (bool-makes 𝓤 H A W) t _ refl $ move ! (3 ∷ 0 ∷ 2 ∷ []) $ use3 W (‵ (AtExit κs u8 u16 bool c s p i b x t (vbool t) y zs)) (at-exit κs u8 u16 bool c s p i b x t (vbool t) y 𝓤 H A W zs) $
       owned ! S-row (Is S-row) (LL.makes S.the-type S′.the-plain 𝓤 H A) n _ is-n $ fjoin ! $ move ! (1 ∷ 0 ∷ []) $ fjoin ! $ frame ! $
       owned ! N.the-row (Is N.the-row) (LL.makes N.the-type N′.the-plain 𝓤 H A) (hereOf r) _ is $ done !
 
@@ -140,7 +140,7 @@ module _ {M : Type 1} (𝓤 : URA M) (H : Heap 𝓤) (A : Atoms 𝓤) (W : Given
         assigns ! (addr ! (from ! (fld ! refl (hop ! (look-in ! 15 (sub ! 0 refl (whole !))) (stop !))))) (from ! (stop !)) (init ! 9 refl (tt, tt)) $
         assigns ! (agg ! (and-then ! (load ! (from ! (stop !)) (look ! 9 refl)) (and-then ! (load ! (from ! (fld ! refl (stop !))) (look-in ! 15 (sub ! 1 refl (whole !)))) (no-more !)))) (from ! (stop !)) (init ! 7 refl (tt, (tt, (record { fits = room-y .0 }, tt)))) $
         -- what the callee asks, and the shared slices again
-        move ! (6 ∷ []) $ fsplit ! $ drop ! $ use1 W (‵ (fsep Args Held)) (twice κs u8 u16 c s p i b x t y 𝓤 H A W) $ fsplit ! $
+        move ! (6 ∷ []) $ fsplit ! $ drop ! $ use1 W (‵ (fsep Args Held)) (twice κs u8 u16 bool c s p i b x t (vbool t) y 𝓤 H A W) $ fsplit ! $
         move ! (7 ∷ 0 ∷ []) $ use2 W (raw (Callee 𝓤 H A at-mem run .pre to-callee)) (goes-callee is) $
         -- [what the callee asks; the shared slices; the record's cell; what it owns; the open borrow; obs; auth; _14; …]
         calls-at ! fm (Callee 𝓤 H A at-mem run) known to-callee (and-then ! (load ! (from ! (stop !)) (look ! 11 refl)) (and-then ! (load ! (from ! (stop !)) (look ! 31 refl)) (and-then ! (load ! (from ! (stop !)) (look ! 29 refl)) (and-then ! (load ! (from ! (stop !)) (look ! 27 refl)) (and-then ! (load ! (from ! (stop !)) (look ! 25 refl)) (and-then ! (load ! (from ! (stop !)) (look ! 23 refl)) (and-then ! (load ! (from ! (stop !)) (look ! 21 refl)) (and-then ! (load ! (from ! (stop !)) (look ! 19 refl)) (and-then ! (load ! (from ! (stop !)) (look ! 17 refl)) (and-then ! (load ! (from ! (stop !)) (look ! 7 refl)) (no-more !))))))))))) (λ w.

@@ -28,7 +28,7 @@ use denote.RattleType.{RattleType, owns}
 use denote.Laws.{Is, shows}
 use denote.Memory.{mem, cellAt}
 use denote.Lend.{lends-ref, ref-back}
-use denote.Plain.{bool-vals, bool-tells}
+use denote.Plain.{bool-vals, bool-tells, bool-makes}
 use denote.Builtin.{u8, u16, bool}
 use denote.Ref.{RefT, MutRef}
 use denote.Slice.{slice-vals, ShrSlice, MutSlice, Room, finally, shr-slice-tells, mut-slice-tells}
@@ -101,10 +101,10 @@ module _ {M : Type 1} (𝓤 : URA M) (H : Heap 𝓤) (A : Atoms 𝓤) (W : Given
   Tk = tokens 𝓤 κs qs
 
   abbrev Args : Fml
-  Args = Passed κs u8 u16 c s p i b x t y
+  Args = Passed κs u8 u16 bool c s p i b x t (vbool t) y
 
   abbrev Held : Fml
-  Held = Kept κs u8 u16 c s p i b x t y
+  Held = Kept κs u8 u16 bool c s p i b x t (vbool t) y
 
   -- the local that is lent, in the block l, for the lifetime ν under the name δ
   abbrev ref : ℕ → GName → RefT Run
@@ -128,7 +128,7 @@ module _ {M : Type 1} (𝓤 : URA M) (H : Heap 𝓤) (A : Atoms 𝓤) (W : Given
       qed W (Tk ∷ ‵ (finally u16 γ′ zs) ∷ ‵ Held ∷ []) ∵
       suffices ! _ (ends-at 𝓤 H A through.ended stayed (through.clauses 𝓤 H A at-mem run) W ((κs, qs, tt, (h, rest), (mach h ∷ [], values)), tt) (machO (outcomeOf r held)) (outcomeOf r held)
       (tt, (tt, (tt, (tt, (tt, (tt, (tt, (tt, (tt, (zs, tt)))))))))) (tt, (tt, (tt, (tt, (tt, (tt, (tt, (tt, (tt, (l, tt))))))))))) $
-      says ! e $ frame ! $ move ! (1 ∷ 0 ∷ []) $ use2 W (‵ (AtExit κs u8 u16 c s p i b x t y zs)) (at-exit κs u8 u16 c s p i b x t y 𝓤 H A W zs) $
+      says ! e $ frame ! $ owned ! bool (Is bool) (bool-makes 𝓤 H A W) t _ refl $ move ! (2 ∷ 0 ∷ 1 ∷ []) $ use3 W (‵ (AtExit κs u8 u16 bool c s p i b x t (vbool t) y zs)) (at-exit κs u8 u16 bool c s p i b x t (vbool t) y 𝓤 H A W zs) $
       owned ! S-row (Is S-row) (LL.makes S.the-type S′.the-plain 𝓤 H A) n _ is-n $ fjoin ! $ owned ! R (Is R) (LL.makes T.the-type T′.the-plain 𝓤 H A) h _ is-h $ fjoin ! $ frame ! $
       owned ! O.the-row (Is O.the-row) (LL.makes O.the-type O′.the-plain 𝓤 H A) (outcomeOf r held) _ is-o $ done !
 
@@ -147,7 +147,7 @@ module _ {M : Type 1} (𝓤 : URA M) (H : Heap 𝓤) (A : Atoms 𝓤) (W : Given
         move ! (10 ∷ []) $ use1 W (‵ (cellAt fullShare (R .mir) (mach h ∷ []) l₁₁ 0)) (W .laws .at-raw fullShare T′.mir l₁₁ 0 (mach h)) $ owned ! R (Is R) (LL.makes T.the-type T′.the-plain 𝓤 H A) h _ is-h $ move ! (1 ∷ 0 ∷ []) $ use2 W (‵ (mem R .lies h l₁₁ 0)) (lies-in 𝓤 H A W R h l₁₁ 0 (mach h ∷ [])) $
         lft-new ! tt (λ ν. move ! (1 ∷ []) $ use1 W (later (some (λ (δ : GName). ‵ (Lent l₁₁ ν δ) ⊛ ‵ (flent (ν ∷ []) (Body (mem R) l₁₁ 0 δ))))) (lends-ref 𝓤 H A W R (named 0) (ν ∷ []) h l₁₁ 0) $ await ! tt $ pick ! (λ δ. split ! $
         -- [the reference; the lender's part; the token of ν; _16; …; that _11 dies; …; the tokens; what the parameters own]
-        move ! (37 ∷ []) $ fsplit ! $ drop ! $ fsplit ! $ drop ! $ use1 W (‵ (fsep Args Held)) (twice κs u8 u16 c s p i b x t y 𝓤 H A W) $ fsplit ! $
+        move ! (37 ∷ []) $ fsplit ! $ drop ! $ fsplit ! $ drop ! $ use1 W (‵ (fsep Args Held)) (twice κs u8 u16 bool c s p i b x t (vbool t) y 𝓤 H A W) $ fsplit ! $
         move ! (4 ∷ 38 ∷ []) $ join ! $ move ! (0 ∷ 3 ∷ 1 ∷ []) $ use3 W (raw (Callee 𝓤 H A at-mem run .pre (to-callee l₁₁ ν δ))) (goes-callee l₁₁ ν δ) $
         -- [what the callee asks; the shared slices; the lender's part; _16; …]
         calls-at ! fm (Callee 𝓤 H A at-mem run) known (to-callee l₁₁ ν δ) (and-then ! (load ! (from ! (stop !)) (look ! 9 refl)) (and-then ! (load ! (from ! (stop !)) (look ! 30 refl)) (and-then ! (load ! (from ! (stop !)) (look ! 28 refl)) (and-then ! (load ! (from ! (stop !)) (look ! 26 refl)) (and-then ! (load ! (from ! (stop !)) (look ! 24 refl)) (and-then ! (load ! (from ! (stop !)) (look ! 22 refl)) (and-then ! (load ! (from ! (stop !)) (look ! 20 refl)) (and-then ! (load ! (from ! (stop !)) (look ! 18 refl)) (and-then ! (load ! (from ! (stop !)) (look ! 16 refl)) (and-then ! (load ! (from ! (stop !)) (look ! 5 refl)) (no-more !))))))))))) (λ w.
