@@ -59,6 +59,13 @@ typedef struct {
     uint8_t number;
 } till_handed;
 
+/* What a run call on a record answers; the new run is in the record. */
+typedef struct {
+    size_t read;
+    size_t written;
+    uint8_t number;
+} till_here;
+
 /* What till_save answers: number 0 and the line's length, or the number of the refusal. */
 typedef struct {
     size_t size;
@@ -151,6 +158,11 @@ till_outcome till_decode(till_run run, TILL_TABLES, const uint8_t *piece, size_t
 /* One call of an encoding run: UTF-16 units to bytes; as till_decode. What is pending is a high surrogate: with a low one it is one
  * undefined single, else it is invalid. A piece of n units gives at most 2 n bytes, or 2 n + 1 where a unit was pending. */
 till_outcome till_encode(till_run run, TILL_TABLES, const uint16_t *piece, size_t piece_len, uint8_t last, uint8_t *out, size_t out_len);
+
+/* The same calls over one run record, which is updated where it stands: same answers, same output, and *run is then the new run. A
+ * refused call leaves *run as it was. Both forms may be mixed in one run. In libcapi_record.a. */
+till_here till_decode_here(till_run *run, TILL_TABLES, const uint8_t *piece, size_t piece_len, uint8_t last, uint16_t *out, size_t out_len);
+till_here till_encode_here(till_run *run, TILL_TABLES, const uint16_t *piece, size_t piece_len, uint8_t last, uint8_t *out, size_t out_len);
 
 /* A whole text of at most 65,536 units in one call, under the three digits; with no room it only counts: the need, and the flags that
  * a conversion would set. Answer 2, ahead of 3, exactly if the need is over the room. Refusals, in this order, with out as it was: 17 a digit
