@@ -321,7 +321,7 @@ def test_a_small_stack():
         ["preview", "width", "9", "cp932.tbl", "units", "receipt"],
         *(["shape", os.path.join(TABLES, name)] for name in sorted(os.listdir(TABLES)) if name.endswith(".tbl")),
     ):
-        size = 144 if "width" in words else 128
+        size = 128
         got = subprocess.run([PROGRAM, *words], capture_output=True, preexec_fn=lambda: small(size), env={})
         equal((got.returncode, got.stdout.endswith(b"done\n")), (0, True), f"{words} with a stack of {size} KiB: {got.stderr[-300:]}")
 
@@ -1898,7 +1898,7 @@ def test_preview_that_can_not_write():
 # ---------------------------------------------------------------------------------------------------------------
 
 TOO_MANY_BYTES = "it has over 65,536 bytes"
-TOO_MANY_LINES = "it would be over 8,193 printed lines"
+TOO_MANY_LINES = "it would be over 4,097 printed lines"
 
 
 def too_wide(width):
@@ -2016,14 +2016,14 @@ def test_preview_of_long_lines():
     preview_lines(50, "sample.tbl", "a" * 200000 + "\nb", [a * 3 + a[:3392], b"b"], whole=[(1, TOO_MANY_BYTES)])
     # 65,537 units that are fewer bytes: each pair is one
     preview_lines(65536, "sample.tbl", "a" * 65535 + "\U0001f600", [a[1:] + b"?"], replaced=1, flags="undefined single")
-    # 8,192 breaks are 8,193 printed lines; one more is not broken
-    preview_lines(1, "sample.tbl", "a" * 8193 + "\nb", [b"a"] * 8193 + [b"b"])
-    preview_lines(1, "sample.tbl", "a" * 8194 + "\nbc\n", [a[:8194], b"b", b"c"], whole=[(1, TOO_MANY_LINES)])
-    preview_lines(8, "sample.tbl", "a" * 65536, [b"a" * 8] * 8192)
-    preview_lines(7, "sample.tbl", "a" * 57351, [b"a" * 7] * 8193)
-    preview_lines(7, "sample.tbl", "a" * 57352, [a[:57352]], whole=[(1, TOO_MANY_LINES)])
-    preview_lines(3, "sample.tbl", "\u3000" * 8193 + "\n", [WIDE] * 8193)
-    preview_lines(3, "sample.tbl", "\u3000" * 8194 + "\n", [WIDE * 8194], whole=[(1, TOO_MANY_LINES)])
+    # 4,096 breaks are 4,097 printed lines; one more is not broken
+    preview_lines(1, "sample.tbl", "a" * 4097 + "\nb", [b"a"] * 4097 + [b"b"])
+    preview_lines(1, "sample.tbl", "a" * 4098 + "\nbc\n", [a[:4098], b"b", b"c"], whole=[(1, TOO_MANY_LINES)])
+    preview_lines(16, "sample.tbl", "a" * 65536, [b"a" * 16] * 4096)
+    preview_lines(15, "sample.tbl", "a" * 61455, [b"a" * 15] * 4097)
+    preview_lines(15, "sample.tbl", "a" * 61456, [a[:61456]], whole=[(1, TOO_MANY_LINES)])
+    preview_lines(3, "sample.tbl", "\u3000" * 4097 + "\n", [WIDE] * 4097)
+    preview_lines(3, "sample.tbl", "\u3000" * 4098 + "\n", [WIDE * 4098], whole=[(1, TOO_MANY_LINES)])
     # a code that is too long behind more breaks than are broken, and in a line of too many bytes
     preview_lines(1, "sample.tbl", "a" * 9000 + "\u3000\nb", [a[:9000] + WIDE, b"b"], whole=[(1, too_wide(1))])
     preview_lines(1, "sample.tbl", "\u3000" + "a" * 65536, [WIDE + a], whole=[(1, TOO_MANY_BYTES)])

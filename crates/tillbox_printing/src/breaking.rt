@@ -94,7 +94,7 @@ fn refused(page: Page, why: Refusal, width: u64, line: &[u8], target: i32, path:
         }
         Refusal::ListTooShort => {
             say_line(page.number);
-            say(b"it would be over 8,193 printed lines\n");
+            say(b"it would be over 4,097 printed lines\n");
         }
         _ => messages::refuse(why.number(), path),
     }
@@ -116,7 +116,7 @@ pub fn put_line(
     target: i32,
     path: &[u8],
 ) -> Page {
-    let mut breaks = [0u64; 8192];
+    let mut breaks = [0u64; 4096];
     let proposed = linebreak::propose_breaks(
         numbers,
         classes,
