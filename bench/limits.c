@@ -9,9 +9,8 @@ till_outcome nothing_decode(till_run run, TILL_TABLES, const uint8_t *piece, siz
 #define STACK (1 << 20)
 #define PAINT 0xA5
 
-enum call { NOTHING, DECODE, ENCODE, START, SAVE, LOAD, SHAPE, CALLS };
-static const char *const call_names[CALLS] = {"(parameters of a run call)", "till_decode", "till_encode", "till_start", "till_save", "till_load",
-    "till_shape"};
+enum call { NOTHING, DECODE, ENCODE, DECODE_HERE, ENCODE_HERE, START, SAVE, LOAD, SHAPE, CALLS };
+static const char *const call_names[CALLS] = {"(parameters of a run call)", "till_decode", "till_encode", "till_decode_here", "till_encode_here", "till_start", "till_save", "till_load", "till_shape"};
 
 static table_set page;
 static uint8_t *text;
@@ -21,6 +20,8 @@ static enum call which;
 static uint16_t units_out[200000];
 static uint8_t bytes_out[200000], line[TILL_LINE_LIMIT];
 static till_outcome outcome;
+static till_here here;
+static till_run record;
 static till_handed handed;
 static till_saved saved;
 static till_fault fault;
@@ -28,11 +29,17 @@ static size_t deepest;
 
 static const table_set *volatile page_now = &page;
 
+static int is_encoding(enum call c)
+{
+    return c == ENCODE || c == ENCODE_HERE;
+}
+
 /* Paints the free stack, makes one call, and looks for the deepest byte that is no longer painted. */
 __attribute__((noinline)) static size_t painted_call(const uint8_t *piece)
 {
     const table_set *t = page_now;
-    till_run run = fresh_run(t, which == ENCODE);
+    till_run run = fresh_run(t, is_encoding(which));
+    record = run;
     uint8_t *sp;
     __asm__ volatile("mov %%rsp, %0" : "=r"(sp));
     /* not by memset: its frame would lie in what is painted */
@@ -42,6 +49,8 @@ __attribute__((noinline)) static size_t painted_call(const uint8_t *piece)
     case NOTHING: outcome = nothing_decode(run, TABLES(t), piece, piece_size, 1, units_out, 200000); break;
     case DECODE: outcome = till_decode(run, TABLES(t), piece, piece_size, 1, units_out, 200000); break;
     case ENCODE: outcome = till_encode(run, TABLES(t), (const uint16_t *)piece, piece_size / 2, 1, bytes_out, 200000); break;
+    case DECODE_HERE: here = till_decode_here(&record, TABLES(t), piece, piece_size, 1, units_out, 200000); break;
+    case ENCODE_HERE: here = till_encode_here(&record, TABLES(t), (const uint16_t *)piece, piece_size / 2, 1, bytes_out, 200000); break;
     case START: handed = till_start(0, t->page, 5, 5, 5); break;
     case SAVE: saved = till_save(run, line, sizeof line); break;
     case LOAD: handed = till_load(line, saved.size); break;
@@ -62,7 +71,7 @@ static void *on_thread(void *stack)
             deepest = n;
         if (piece_size < 4096 && at > 40 * piece_size)
             break;
-        if (which != DECODE && which != ENCODE)
+        if (which < DECODE || which > ENCODE_HERE)
             break;
     }
     return NULL;
@@ -99,8 +108,8 @@ static void stack_table(const char *folder)
     for (enum call c = NOTHING; c < CALLS; c++) {
         deepest = 0;
         for (int k = 0; k < 3; k++) {
-            load_text(folder, names[k], c == ENCODE ? "units" : "bytes");
-            measure_stack(c, c == ENCODE ? 2 : 1);
+            load_text(folder, names[k], is_encoding(c) ? "units" : "bytes");
+            measure_stack(c, is_encoding(c) ? 2 : 1);
             measure_stack(c, 512);
             measure_stack(c, 65536);
         }
