@@ -18,7 +18,7 @@ pub struct Progress {
     pub fields: u64,
     // Units in the file, units that wait in the output block, and units up to the end of the last whole record.
     pub written: u64,
-    pub waiting: usize,
+    pub unwritten: usize,
     pub whole: u64,
     // Whether something could not be written; the reason was said.
     pub failed: bool,
@@ -31,15 +31,15 @@ fn failed(progress: Progress) -> Progress {
     p
 }
 
-// The progress before the first record: nothing is in the file, and `waiting` units of the output block are its mark.
-fn empty(waiting: usize) -> Progress {
+// The progress before the first record: nothing is in the file, and `unwritten` units of the output block are its mark.
+fn empty(unwritten: usize) -> Progress {
     Progress {
         begun: false,
         inside: 0,
         records: 0,
         fields: 0,
         written: 0,
-        waiting,
+        unwritten,
         whole: 1,
         failed: false,
     }
@@ -57,21 +57,21 @@ pub fn begin(out: &mut [u16]) -> Progress {
 // Writes what waits in the output block.
 fn flush(progress: Progress, out: &[u16], target: i32, path: &[u8]) -> Progress {
     let mut p = progress;
-    let waiting = tillbox_layout::front_units(p.waiting, out);
+    let unwritten = tillbox_layout::front_units(p.unwritten, out);
     let mut bytes = [0u8; 2048];
-    let length = utf16::to_bytes(&out[..waiting], &mut bytes);
+    let length = utf16::to_bytes(&out[..unwritten], &mut bytes);
     if !files::write(target, &bytes[..length], path) {
         return failed(p);
     }
-    p.written = sum(p.written, waiting as u64);
-    p.waiting = 0;
+    p.written = sum(p.written, unwritten as u64);
+    p.unwritten = 0;
     p
 }
 
 // The output block with room for one field more.
 fn with_room(progress: Progress, out: &[u16], target: i32, path: &[u8]) -> Progress {
-    let waiting = tillbox_layout::front_units(progress.waiting, out);
-    if out.len() - waiting < FIELD_ROOM {
+    let unwritten = tillbox_layout::front_units(progress.unwritten, out);
+    if out.len() - unwritten < FIELD_ROOM {
         return flush(progress, out, target, path);
     }
     progress
@@ -80,8 +80,8 @@ fn with_room(progress: Progress, out: &[u16], target: i32, path: &[u8]) -> Progr
 // Some units more wait; the record at hand is begun or closed.
 fn advanced(progress: Progress, size: usize, closed: bool) -> Progress {
     let mut p = progress;
-    let waiting = sum(p.waiting as u64, size as u64);
-    p.waiting = waiting as usize;
+    let unwritten = sum(p.unwritten as u64, size as u64);
+    p.unwritten = unwritten as usize;
     p.begun = !closed;
     if !closed {
         return p;
@@ -89,7 +89,7 @@ fn advanced(progress: Progress, size: usize, closed: bool) -> Progress {
     p.records = sum(p.records, 1);
     p.fields = sum(p.fields, p.inside);
     p.inside = 0;
-    p.whole = sum(p.written, waiting);
+    p.whole = sum(p.written, unwritten);
     p
 }
 
@@ -117,8 +117,8 @@ pub fn put(
     if p.failed {
         return p;
     }
-    let waiting = tillbox_layout::front_units(p.waiting, out);
-    let part = csv::put_field(p.begun, field, closed, &mut out[waiting..]);
+    let unwritten = tillbox_layout::front_units(p.unwritten, out);
+    let part = csv::put_field(p.begun, field, closed, &mut out[unwritten..]);
     p.inside = sum(p.inside, 1);
     settled(p, part, closed, path)
 }
@@ -132,8 +132,8 @@ pub fn finish(progress: Progress, out: &mut [u16], target: i32, path: &[u8]) -> 
     if !p.begun {
         return flush(p, out, target, path);
     }
-    let waiting = tillbox_layout::front_units(p.waiting, out);
-    let part = csv::put_close(p.begun, &mut out[waiting..]);
+    let unwritten = tillbox_layout::front_units(p.unwritten, out);
+    let part = csv::put_close(p.begun, &mut out[unwritten..]);
     let closed = settled(p, part, true, path);
     if closed.failed {
         return closed;

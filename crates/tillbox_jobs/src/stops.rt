@@ -123,7 +123,7 @@ fn lacking_units(
 
 // The code that ends with a byte: one that waited and this one, if they are one code, or this one alone.
 fn ending_byte(
-    waiting: Pending,
+    pending: Pending,
     numbers: Numbers,
     classes: &[u8],
     singles: &[u16],
@@ -132,7 +132,7 @@ fn ending_byte(
     blocks: &[u16],
     byte: u8,
 ) -> Stop {
-    if let Pending::Byte(lead) = waiting {
+    if let Pending::Byte(lead) = pending {
         let both = lacking_bytes(
             numbers,
             classes,
@@ -162,7 +162,7 @@ fn ending_byte(
 
 // The same of units.
 fn ending_unit(
-    waiting: Pending,
+    pending: Pending,
     numbers: Numbers,
     classes: &[u8],
     singles: &[u16],
@@ -171,7 +171,7 @@ fn ending_unit(
     blocks: &[u16],
     unit: u16,
 ) -> Stop {
-    if let Pending::High(high) = waiting {
+    if let Pending::High(high) = pending {
         let both = lacking_units(
             numbers,
             classes,
@@ -254,9 +254,9 @@ pub fn stop_in_bytes(
         &mut units,
     );
     let after = outcome.run;
-    let waiting = after.pending;
+    let pending = after.pending;
     ending_byte(
-        waiting,
+        pending,
         numbers,
         classes,
         singles,
@@ -302,9 +302,9 @@ pub fn stop_in_units(
         &mut bytes,
     );
     let after = outcome.run;
-    let waiting = after.pending;
+    let pending = after.pending;
     ending_unit(
-        waiting,
+        pending,
         numbers,
         classes,
         singles,
