@@ -1,4 +1,4 @@
--- The machine values of a run of C, of an outcome and of a call's result, and what whoever holds an outcome knows of the other two.
+-- The machine values of a run of C and of a call's result, and what whoever holds an outcome knows of both.
 use mathlib.Core.List.{[], _∷_, List}
 use mir.Val.{Val}
 use denote.RattleType.{RattleType}
@@ -18,12 +18,9 @@ use Rattle.capi_record.proofs.TillHere.Laws as N′
 abbrev pub R : RattleType
 R = T.the-row
 
--- the machine values of a run, of an outcome and of a call's result
+-- the machine values of a run and of a call's result
 abbrev pub mach : TillRun → Val
 mach = LL.val T.the-type T′.the-laws
-
-abbrev pub machO : TillOutcome → Val
-machO = LL.val O.the-type O′.the-laws
 
 abbrev pub machN : TillHere → Val
 machN = LL.val N.the-type N′.the-laws

@@ -1,6 +1,5 @@
 -- The machine values of a run, of the table set's numbers, of an outcome and of a call's result, and what whoever holds one of them
 -- knows of another.
-use Prim.Native.Nat.{ℕ}
 use mathlib.Core.List.{[], _∷_, List}
 use mir.Val.{Val}
 use denote.RattleType.{RattleType}

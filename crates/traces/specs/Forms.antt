@@ -1,7 +1,6 @@
 -- Document 02, CR 13: the two forms of a run call beside each other. docs/RULES.md, "Lists of calls".
 use mathlib.Core.List.{List, [], _∷_}
 use mathlib.Core.Path.{_≡_}
-use Prim.Native.Nat.{ℕ}
 use Rattle.convert.specs.declared.Run.{Run}
 use Rattle.runrecord.specs.Records.{outcomeOf}
 use Rattle.traces.specs.Model.{byValue, Call, feeding, saving, loading}

@@ -1,8 +1,8 @@
 -- Document 01, "The lists of demand 3": what the program returned for each call of a list, and the one claim over all of it.
 -- docs/RULES.md, "Lists of calls".
-use mathlib.Core.Bool.{Bool, true, false}
+use mathlib.Core.Bool.{true}
 use mathlib.Core.List.{List, [], _∷_, _++_}
-use mathlib.Core.Option.{Option, none, some}
+use mathlib.Core.Option.{none, some}
 use mathlib.Core.Path.{_≡_}
 use Prim.Native.Nat.{ℕ, zero, suc, _<_, _≤_, _^_}
 use lib.ListN.{length, take, drop}
@@ -20,7 +20,7 @@ use Rattle.checkpoint.specs.declared.Restored.{Restored}
 use Rattle.checkpoint.specs.Line.{writeOf, readOf, writtenAs, Saved, restoredAs}
 use Rattle.runrecord.specs.declared.Here.{Here}
 use Rattle.runrecord.specs.Records.{outcomeOf}
-use Rattle.traces.specs.Model.{Setting, Form, byValue, inRecord, Call, feeding, saving, loading, Said, says, saidOfLoading, isAccepted, inHand, Model, opened, next, play, AllAllowed, wholeOf}
+use Rattle.traces.specs.Model.{Setting, byValue, inRecord, Call, feeding, saving, loading, Said, says, saidOfLoading, isAccepted, inHand, Model, opened, next, play, AllAllowed, wholeOf}
 
 -- What the program returned for a call, with the lent output after it; for a run call in the record form, with what the record holds
 -- then.
