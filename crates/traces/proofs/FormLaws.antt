@@ -14,7 +14,7 @@ use Rattle.convert.proofs.CallLaws.{accepted-facts, feed-shape}
 use Rattle.convert.proofs.RunLaws.{refused-same}
 use Rattle.traces.specs.Model.{Setting, byValue, inRecord, Call, feeding, saving, loading, says, isAccepted, Model, opened, acceptedBy, next, Allowed, AllAllowed}
 use Rattle.traces.specs.Traces.{Result, fed, fedHere, saved, loaded, Entry, Meets, observed, handAfter, AllMeet, callsOf, SameFor, Trace}
-use Rattle.traces.specs.Forms.{callByValue, resultByValue, allByValue, RecordHolds}
+use Rattle.traces.specs.Forms.{callByValue, resultByValue, allByValue, NoRecord, RecordHolds}
 
 -- ---- the model looks at no form
 next-by-value : (s : Setting) (m : Model) (c : Call) → next s m (callByValue c) ≡ next s m c
@@ -79,6 +79,31 @@ by-value-trace s start es t = record { started = t .started; allowed = all-allow
 pub by-value-same : (es : List Entry) → SameFor (length es) es (allByValue es)
 by-value-same [] = tt
 by-value-same (e ∷ es) = (sym (seen-by-value (e .result)), by-value-same es)
+
+-- ---- lists without the record form
+entry-stays : (s : Setting) (hand : Run) (c : Call) (r : Result) (cs : List Call) → Meets s hand c r → NoRecord (c ∷ cs) → (callByValue c ≡ c) × (resultByValue r ≡ r) × NoRecord cs
+entry-stays s hand (feeding byValue piece last before) (fed r after) cs w n = (refl, refl, n)
+entry-stays s hand (feeding byValue piece last before) (fedHere r held after) cs w n = absurd w
+entry-stays s hand (feeding byValue piece last before) (saved r after) cs w n = absurd w
+entry-stays s hand (feeding byValue piece last before) (loaded r) cs w n = absurd w
+entry-stays s hand (feeding inRecord piece last before) r cs w n = absurd n
+entry-stays s hand (saving before) (fed r after) cs w n = absurd w
+entry-stays s hand (saving before) (fedHere r held after) cs w n = absurd w
+entry-stays s hand (saving before) (saved r after) cs w n = (refl, refl, n)
+entry-stays s hand (saving before) (loaded r) cs w n = absurd w
+entry-stays s hand (loading line) (fed r after) cs w n = absurd w
+entry-stays s hand (loading line) (fedHere r held after) cs w n = absurd w
+entry-stays s hand (loading line) (saved r after) cs w n = absurd w
+entry-stays s hand (loading line) (loaded r) cs w n = (refl, refl, n)
+
+-- A list without the record form is its own list by value: of it every theorem says what it said before the form came.
+pub by-value-stays : (s : Setting) (hand : Run) (es : List Entry) → AllMeet s hand es → NoRecord (callsOf es) → allByValue es ≡ es
+unfolding AllMeet
+by-value-stays s hand [] w n = refl
+by-value-stays s hand (e ∷ es) w n =
+    let x = entry-stays s hand (e .call) (e .result) (callsOf es) (w .0) n in
+    let rest = by-value-stays s (handAfter hand (e .result)) es (w .1) (x .2) in
+    λ i. record { call = x .0 i; result = x .1 i } ∷ rest i
 
 -- ---- the record
 -- an accepted call has one of the numbers 0 to 3

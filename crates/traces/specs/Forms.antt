@@ -3,7 +3,7 @@ use mathlib.Core.List.{List, [], _∷_}
 use mathlib.Core.Path.{_≡_}
 use Rattle.convert.specs.declared.Run.{Run}
 use Rattle.runrecord.specs.Records.{outcomeOf}
-use Rattle.traces.specs.Model.{byValue, Call, feeding, saving, loading}
+use Rattle.traces.specs.Model.{byValue, inRecord, Call, feeding, saving, loading}
 use Rattle.traces.specs.Traces.{Result, fed, fedHere, saved, loaded, Entry, handAfter}
 
 -- a call, with a run call by value
@@ -23,6 +23,14 @@ resultByValue (loaded r) = loaded r
 abbrev pub allByValue : List Entry → List Entry
 allByValue [] = []
 allByValue (e ∷ es) = record { call = callByValue (e .call); result = resultByValue (e .result) } ∷ allByValue es
+
+-- A list of calls without the record form.
+abbrev pub NoRecord : List Call → Type 0
+NoRecord [] = Unit {0}
+NoRecord (feeding byValue piece last lent ∷ cs) = NoRecord cs
+NoRecord (feeding inRecord piece last lent ∷ cs) = ⊥
+NoRecord (saving lent ∷ cs) = NoRecord cs
+NoRecord (loading line ∷ cs) = NoRecord cs
 
 -- A record holds, after a call in the record form, the run that is then in hand: the new one, or on refusal what it held.
 abbrev pub RecordHolds : (hand : Run) → Result → Type 0
