@@ -38,8 +38,7 @@ fn finished(state: ListState) -> Ending {
     Ending::Done
 }
 
-// From a list of `total` bytes on. The spelling and the line feed behind it stand on the stack: two parts of one lent memory can not be
-// lent at the same time.
+// From a list of `total` bytes on.
 fn with_total(
     numbers: Numbers,
     classes: &[u8],
@@ -60,7 +59,6 @@ fn with_total(
     if target < 0 {
         return Ending::Failed;
     }
-    let mut spelled = [0u8; 65537];
     let state = crate::spell_list(
         numbers,
         classes,
@@ -72,7 +70,6 @@ fn with_total(
         target,
         total,
         line,
-        &mut spelled,
         input,
         output,
     );

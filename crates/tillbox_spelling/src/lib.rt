@@ -23,7 +23,6 @@ fn next_block(
     target: i32,
     size: usize,
     line: &mut [u8],
-    spelled: &mut [u8],
     input: &[u8],
     output: &[u8],
 ) -> ListState {
@@ -43,14 +42,12 @@ fn next_block(
         blocks,
         &block[..count],
         line,
-        spelled,
         target,
         output,
     )
 }
 
-// All blocks of a list of `total` bytes, and its last line. `line` is room for the bytes of one line, and `spelled` for its spelling and a
-// line feed; a line that is longer is not spelled.
+// All blocks of a list of `total` bytes, and its last line. `line` is room for the bytes of one line; one that is longer is not spelled.
 fn spell_list(
     numbers: Numbers,
     classes: &[u8],
@@ -62,7 +59,6 @@ fn spell_list(
     target: i32,
     total: u64,
     line: &mut [u8],
-    spelled: &mut [u8],
     input: &[u8],
     output: &[u8],
 ) -> ListState {
@@ -83,7 +79,6 @@ fn spell_list(
             target,
             size,
             line,
-            spelled,
             input,
             output,
         );
@@ -101,7 +96,6 @@ fn spell_list(
         index,
         blocks,
         line,
-        spelled,
         target,
         output,
     )

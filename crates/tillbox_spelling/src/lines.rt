@@ -6,6 +6,9 @@ use crate::state::append;
 use codepage::Numbers;
 use spelling::Spelled;
 
+// The longest line whose spelling is put into the small buffer.
+const SHORT: usize = 512;
+
 // A line that is not spelled, closed as it is.
 fn put_as_is(state: ListState, line: &[u8], feed: &[u8], target: i32, path: &[u8]) -> ListState {
     state
@@ -44,7 +47,7 @@ fn counted(state: ListState, line: &[u8], spelled: &[u8], count: usize) -> ListS
     state.with_changed().closed()
 }
 
-// A whole line that fits the buffer, spelled and written.
+// A whole line, spelled into a buffer that has room for its spelling and a line feed, and written.
 fn put_line(
     state: ListState,
     numbers: Numbers,
@@ -81,6 +84,68 @@ fn put_line(
     }
 }
 
+// A line of at most SHORT bytes: its spelling has at most twice as many.
+fn put_short(
+    state: ListState,
+    numbers: Numbers,
+    classes: &[u8],
+    singles: &[u16],
+    pairs: &[u16],
+    index: &[u8],
+    blocks: &[u16],
+    line: &[u8],
+    feed: &[u8],
+    target: i32,
+    path: &[u8],
+) -> ListState {
+    let mut spelled = [0u8; 1025];
+    put_line(
+        state,
+        numbers,
+        classes,
+        singles,
+        pairs,
+        index,
+        blocks,
+        line,
+        feed,
+        &mut spelled,
+        target,
+        path,
+    )
+}
+
+// A line of any size. Its spelling stands on the stack, since two parts of one lent memory can not be lent at the same time.
+fn put_long(
+    state: ListState,
+    numbers: Numbers,
+    classes: &[u8],
+    singles: &[u16],
+    pairs: &[u16],
+    index: &[u8],
+    blocks: &[u16],
+    line: &[u8],
+    feed: &[u8],
+    target: i32,
+    path: &[u8],
+) -> ListState {
+    let mut spelled = [0u8; 65537];
+    put_line(
+        state,
+        numbers,
+        classes,
+        singles,
+        pairs,
+        index,
+        blocks,
+        line,
+        feed,
+        &mut spelled,
+        target,
+        path,
+    )
+}
+
 // The end of the line at hand: `feed` is its line feed, or empty at the list's end.
 fn end_line(
     state: ListState,
@@ -92,7 +157,6 @@ fn end_line(
     blocks: &[u16],
     line: &[u8],
     feed: &[u8],
-    spelled: &mut [u8],
     target: i32,
     path: &[u8],
 ) -> ListState {
@@ -104,7 +168,22 @@ fn end_line(
         return put_as_is(state, b"", feed, target, path);
     }
     let length = tillbox_layout::front_bytes(state.length, line);
-    put_line(
+    if length <= SHORT {
+        return put_short(
+            state,
+            numbers,
+            classes,
+            singles,
+            pairs,
+            index,
+            blocks,
+            &line[..length],
+            feed,
+            target,
+            path,
+        );
+    }
+    put_long(
         state,
         numbers,
         classes,
@@ -114,7 +193,6 @@ fn end_line(
         blocks,
         &line[..length],
         feed,
-        spelled,
         target,
         path,
     )
@@ -132,7 +210,6 @@ fn put_part(
     part: &[u8],
     closes: bool,
     line: &mut [u8],
-    spelled: &mut [u8],
     target: i32,
     path: &[u8],
 ) -> ListState {
@@ -150,7 +227,6 @@ fn put_part(
         blocks,
         line,
         b"\n",
-        spelled,
         target,
         path,
     )
@@ -167,7 +243,6 @@ pub fn put_bytes(
     blocks: &[u16],
     block: &[u8],
     line: &mut [u8],
-    spelled: &mut [u8],
     target: i32,
     path: &[u8],
 ) -> ListState {
@@ -187,7 +262,6 @@ pub fn put_bytes(
             &block[at..end],
             end < block.len(),
             line,
-            spelled,
             target,
             path,
         );
@@ -212,7 +286,6 @@ pub fn end_list(
     index: &[u8],
     blocks: &[u16],
     line: &[u8],
-    spelled: &mut [u8],
     target: i32,
     path: &[u8],
 ) -> ListState {
@@ -229,7 +302,6 @@ pub fn end_list(
         blocks,
         line,
         b"",
-        spelled,
         target,
         path,
     )

@@ -7,10 +7,10 @@ use Rattle.tillbox_spelling.proofs.spell_list.Statement.{statement}
 use Rattle.tillbox_spelling.proofs.spell_list.Tie as tie
 
 abbrev Inv-loop : tie.InvT-loop
-Inv-loop numbers classes singles pairs index blocks source target total line₀ spelled₀ input output count state₀ done₀ line spelled state done = (done ≤ count) × (length line ≡ length line₀) × (length spelled ≡ length spelled₀)
+Inv-loop numbers classes singles pairs index blocks source target total line₀ input output count state₀ done₀ line state done = (done ≤ count) × (length line ≡ length line₀)
 
 abbrev μ-loop : tie.MeasureT-loop
-μ-loop numbers classes singles pairs index blocks source target total line₀ spelled₀ input output count state₀ done₀ line spelled state done = count - done
+μ-loop numbers classes singles pairs index blocks source target total line₀ input output count state₀ done₀ line state done = count - done
 
 block-count-requires : tie.Need-block-count-requires Inv-loop μ-loop
 block-count-requires c κs = search needs
@@ -30,9 +30,6 @@ next-block-requires c κs = search needs
 same-length : tie.Need-same-length Inv-loop μ-loop
 same-length c = search needs
 
-same-length-2 : tie.Need-same-length-2 Inv-loop μ-loop
-same-length-2 c = search needs
-
 returns : tie.Need-returns Inv-loop μ-loop
 returns c = search needs
 
@@ -48,11 +45,8 @@ loop-again c = search needs
 end-list-requires : tie.Need-end-list-requires Inv-loop μ-loop
 end-list-requires c κs = search needs
 
-same-length-3 : tie.Need-same-length-3 Inv-loop μ-loop
-same-length-3 c = search needs
-
-same-length-4 : tie.Need-same-length-4 Inv-loop μ-loop
-same-length-4 c = search needs
+same-length-2 : tie.Need-same-length-2 Inv-loop μ-loop
+same-length-2 c = search needs
 
 returns-2 : tie.Need-returns-2 Inv-loop μ-loop
 returns-2 c = search needs
@@ -69,12 +63,10 @@ spell-list-spec =
     block-len-requires
     next-block-requires
     same-length
-    same-length-2
     returns
     add-done
     loop-less
     loop-again
     end-list-requires
-    same-length-3
-    same-length-4
+    same-length-2
     returns-2)

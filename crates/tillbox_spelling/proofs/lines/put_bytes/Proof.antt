@@ -7,10 +7,10 @@ use Rattle.tillbox_spelling.proofs.lines.put_bytes.Statement.{statement
 use Rattle.tillbox_spelling.proofs.lines.put_bytes.Tie as tie
 
 abbrev Inv-loop : tie.InvT-loop
-Inv-loop numbers classes singles pairs index blocks block line₀ spelled₀ target path s₀ at₀ line spelled s at = (at ≤ length block) × (length line ≡ length line₀) × (length spelled ≡ length spelled₀)
+Inv-loop numbers classes singles pairs index blocks block line₀ target path s₀ at₀ line s at = (at ≤ length block) × (length line ≡ length line₀)
 
 abbrev μ-loop : tie.MeasureT-loop
-μ-loop numbers classes singles pairs index blocks block line₀ spelled₀ target path s₀ at₀ line spelled s at = length block - at
+μ-loop numbers classes singles pairs index blocks block line₀ target path s₀ at₀ line s at = length block - at
 
 loop-holds : tie.Need-loop-holds Inv-loop μ-loop
 loop-holds c = search needs
@@ -36,17 +36,11 @@ put-part-requires c κs = search needs
 same-length : tie.Need-same-length Inv-loop μ-loop
 same-length c = search needs
 
-same-length-2 : tie.Need-same-length-2 Inv-loop μ-loop
-same-length-2 c = search needs
-
 returns : tie.Need-returns Inv-loop μ-loop
 returns c = search needs
 
-same-length-3 : tie.Need-same-length-3 Inv-loop μ-loop
-same-length-3 c = search needs
-
-same-length-4 : tie.Need-same-length-4 Inv-loop μ-loop
-same-length-4 c = search needs
+same-length-2 : tie.Need-same-length-2 Inv-loop μ-loop
+same-length-2 c = search needs
 
 returns-2 : tie.Need-returns-2 Inv-loop μ-loop
 returns-2 c = search needs
@@ -57,11 +51,8 @@ loop-less c = search needs
 loop-again : tie.Need-loop-again Inv-loop μ-loop
 loop-again c = search needs
 
-same-length-5 : tie.Need-same-length-5 Inv-loop μ-loop
-same-length-5 c = search needs
-
-same-length-6 : tie.Need-same-length-6 Inv-loop μ-loop
-same-length-6 c = search needs
+same-length-3 : tie.Need-same-length-3 Inv-loop μ-loop
+same-length-3 c = search needs
 
 returns-3 : tie.Need-returns-3 Inv-loop μ-loop
 returns-3 c = search needs
@@ -80,13 +71,10 @@ put-bytes-spec =
     part-put-part-end
     put-part-requires
     same-length
-    same-length-2
     returns
-    same-length-3
-    same-length-4
+    same-length-2
     returns-2
     loop-less
     loop-again
-    same-length-5
-    same-length-6
+    same-length-3
     returns-3)
