@@ -23,6 +23,7 @@ import tempfile
 import time
 
 import second_converter
+from fixed_scripts import double_codes, edited
 
 ROOT = os.path.dirname(os.path.dirname(os.path.abspath(__file__)))
 TABLES = os.path.join(ROOT, "tables")
@@ -161,6 +162,7 @@ def test_help_goes_to_standard_output():
         "tillbox encode [last] [policy DDD] TABLE LEDGER RECEIPT [CHECKPOINT]\n",
         "tillbox import [policy DDD] TABLE JOURNAL RECORDS\n",
         "  tillbox preview [width N] TABLE LEDGER RECEIPT\n",
+        "  tillbox spell TABLE NAMES SPELLINGS\n",
         "tillbox shape TABLE\n",
         # the standard, and what gets through
         "550",
@@ -179,7 +181,7 @@ def test_man_page_has_the_calls_of_help():
         text = page.read()
     synopsis = text.split(".SH SYNOPSIS\n.nf\n")[1].split("\n.fi\n")[0].split("\n")
     equal(synopsis, calls, "the synopsis of the man page")
-    for command in ("decode", "encode", "import", "preview", "shape"):
+    for command in ("decode", "encode", "import", "preview", "spell", "shape"):
         if f".B {command}\n" not in text:
             raise AssertionError(f"the man page does not tell of {command}")
 
@@ -190,7 +192,7 @@ def test_other_words_for_help_and_the_version():
         got = subprocess.run([PROGRAM, word], capture_output=True)
         equal((got.stdout, got.stderr), (help_text, b""), word)
     got = subprocess.run([PROGRAM, "--version"], capture_output=True)
-    equal(got.stdout, b"tillbox, by document 01 with the change requests 1, 2, 4, 5, 6, 10 and 12\n", "the version")
+    equal(got.stdout, b"tillbox, by document 01 with the change requests 1, 2, 4, 5, 6, 8, 10 and 12\n", "the version")
 
 
 def test_a_byte_order_mark_is_told():
@@ -248,6 +250,10 @@ def test_misuse_says_how_to_call():
         (["import", "a.tbl", "journal", "records", "checkpoint"], "three names of files are asked for"),
         (["import", "policy", "55", "a.tbl", "journal", "records"], "a policy is three digits"),
         (["import", "last", "a.tbl", "journal", "records"], "import has no word last: the journal is complete"),
+        (["spell"], "three names of files are asked for"),
+        (["spell", "a.tbl", "names"], "three names of files are asked for"),
+        (["spell", "a.tbl", "names", "spellings", "checkpoint"], "three names of files are asked for"),
+        (["spell", "policy", "555", "a.tbl", "names", "spellings"], "three names of files are asked for"),
         (["preview"], "three names of files are asked for"),
         (["preview", "a.tbl", "ledger"], "three names of files are asked for"),
         (["preview", "a.tbl", "ledger", "receipt", "checkpoint"], "three names of files are asked for"),
@@ -308,6 +314,7 @@ def test_a_small_stack():
     units = "茶 tea (green) 表ソ能\n".encode("utf-16le") * 3000 + b"a\0" * 70000
     write("units", units)
     write("journal", "茶|tea|表ソ能\n".encode("cp932") * 3000)
+    write("names", "茶|tea|表ソ能\n".encode("cp932") * 3000 + OTHER * 32768)
 
     def small(size):
         resource.setrlimit(resource.RLIMIT_STACK, (size * 1024, size * 1024))
@@ -319,6 +326,7 @@ def test_a_small_stack():
         ["import", "cp932.tbl", "journal", "records"],
         ["preview", "cp932.tbl", "units", "receipt"],
         ["preview", "width", "9", "cp932.tbl", "units", "receipt"],
+        ["spell", "cp932.tbl", "names", "spellings"],
         *(["shape", os.path.join(TABLES, name)] for name in sorted(os.listdir(TABLES)) if name.endswith(".tbl")),
     ):
         size = 128
@@ -438,6 +446,7 @@ def test_two_names_of_one_file():
         refused("decode", "cp932.tbl", "journal", name, "checkpoint", says=says)
         refused("import", "cp932.tbl", "journal", name, says=says)
         refused("preview", "cp932.tbl", "journal", name, says=says)
+        refused("spell", "cp932.tbl", "journal", name, says=says)
         refused("decode", "cp932.tbl", name, "journal", says=[f"error: journal: it is the same file as {name}"])
         if name != "soft":
             refused("decode", "cp932.tbl", "journal", "ledger", name, says=says)
@@ -2105,6 +2114,207 @@ def test_preview_with_a_width_that_can_not_write():
     write("ledger", units_text(*[0x61] * 30000))
     says = ["error: cannot write receipt: File too large"]
     tillbox("preview", "width", "32", "cp932.tbl", "ledger", "receipt", word="failed", says=says, limit=20000)
+
+
+# ---------------------------------------------------------------------------------------------------------------
+# Spell
+# ---------------------------------------------------------------------------------------------------------------
+
+TOO_LONG_SPELLED = "its spelling would have over 65,536 bytes"
+# Two codes of page 932 for one character, U+9AD9; the first is its own, by the page's table.
+OWN, OTHER = bytes.fromhex("FBFC"), bytes.fromhex("EEE0")
+
+
+def no_spelling(place, code):
+    return f"the code at byte {place}, counted from 0, has no standard spelling: {code}"
+
+
+def spelled(read_total, written, lines, changed, untold=()):
+    """What is said of a list; untold has the lines that are not spelled, each as its number, from 1, and why."""
+    told = [f"line {number} is not spelled: {why}" for number, why in untold]
+    return [*told, f"read {read_total} bytes, written {written} bytes", f"lines: {lines}", f"lines changed: {changed}", f"lines refused: {len(untold)}"]
+
+
+def spell(table, names, spellings, lines, changed=0, untold=()):
+    write("names", names)
+    tillbox("spell", table, "names", "spellings", says=spelled(len(names), len(spellings), lines, changed, untold))
+    equal(read("spellings") == spellings, True, f"the spellings of {names[:60]!r} with {table}")
+
+
+def test_spell_names():
+    # each code of a character that has more than one, and its own: U+9AD9, U+00AC, U+2235, U+2170, U+2160
+    for code, own in (
+        ("FBFC", "FBFC"), ("EEE0", "FBFC"), ("81CA", "81CA"), ("EEF9", "81CA"), ("FA54", "81CA"), ("879A", "81E6"), ("FA5B", "81E6"),
+        ("81E6", "81E6"), ("EEEF", "FA40"), ("FA40", "FA40"), ("FA4A", "8754"), ("8754", "8754"),
+    ):
+        code, own = bytes.fromhex(code), bytes.fromhex(own)
+        spell("cp932.tbl", b"A" + code + b"\n", b"A" + own + b"\n", 1, changed=int(code != own))
+    bridge = bytes.fromhex("8BB4")
+    spell("cp932.tbl", OTHER + bridge + b"\n" + OWN + bridge + b"\n", (OWN + bridge + b"\n") * 2, 2, changed=1)
+    # a line is one change, however many codes of it are
+    spell("cp932.tbl", OTHER * 3 + b"\nA\n" + OTHER + b"\n", OWN * 3 + b"\nA\n" + OWN + b"\n", 3, changed=2)
+    # bytes of a line feed are none inside a character: no second byte of the page is 0A
+    spell("cp932.tbl", b"tea\r\n\t|\n", b"tea\r\n\t|\n", 2)
+
+
+def test_spell_makes_the_output_anew():
+    write("spellings", b"x" * 5000)
+    spell("cp932.tbl", OTHER + b"\n", OWN + b"\n", 1, changed=1)
+    os.remove("spellings")
+    spell("cp932.tbl", OTHER + b"\n", OWN + b"\n", 1, changed=1)
+
+
+def test_spell_of_ends():
+    spell("cp932.tbl", b"", b"", 0)
+    spell("cp932.tbl", b"\n", b"\n", 1)
+    spell("cp932.tbl", b"\n\n\n", b"\n\n\n", 3)
+    spell("cp932.tbl", b"A", b"A", 1)
+    spell("cp932.tbl", OTHER, OWN, 1, changed=1)
+    spell("cp932.tbl", b"A\n" + OTHER, b"A\n" + OWN, 2, changed=1)
+    spell("cp932.tbl", b"\n\n" + OTHER + b"\n\n" + OTHER, b"\n\n" + OWN + b"\n\n" + OWN, 5, changed=2)
+
+
+def test_spell_of_refused_lines():
+    for code, shown in (
+        (b"\x80", "80"), (b"\xa0", "A0"), (b"\xfd", "FD"),
+        # a lead at the line's end, one before a byte below 80 that may not be second, and one before another byte
+        (b"\x82", "82"), (b"\x82 ", "82"), (b"\x82\xff", "82 FF"),
+        # a pair without a character
+        (b"\x85\x40", "85 40"),
+    ):
+        for end in (b"", b"\n"):
+            # alone, behind a character of two bytes, in front of another fault, and at the list's end
+            spell("cp932.tbl", code + end, code + end, 1, untold=[(1, no_spelling(0, shown))])
+            text = b"A\n" + OTHER + code + b"\n" + OTHER + b"\n" + code + b" \xfd" + end
+            wanted = text.replace(b"\n" + OTHER + b"\n", b"\n" + OWN + b"\n")
+            spell("cp932.tbl", text, wanted, 4, changed=1, untold=[(2, no_spelling(2, shown)), (4, no_spelling(0, shown))])
+    # a character whose own code reads back as another one
+    spell("sample.tbl", b"A\xa0B\n\x81\x40\x81\x5a\n", b"A\xa0B\n\x81\x40\x81\x5a\n", 2, untold=[(1, no_spelling(1, "A0")), (2, no_spelling(2, "81 5A"))])
+
+
+def test_spell_of_long_lines():
+    a = b"a" * 65536
+    long = "it has over 65,536 bytes"
+    for size in (65534, 65535, 65536):
+        spell("cp932.tbl", a[:size] + b"\nA", a[:size] + b"\nA", 2)
+        spell("cp932.tbl", a[: size - 2] + OTHER, a[: size - 2] + OWN, 1, changed=1)
+        spell("cp932.tbl", OTHER + a[: size - 2] + b"\n", OWN + a[: size - 2] + b"\n", 1, changed=1)
+        spell("cp932.tbl", a[: size - 1] + b"\x82\n", a[: size - 1] + b"\x82\n", 1, untold=[(1, no_spelling(size - 1, "82"))])
+    for size in (65537, 65538, 66048, 200000):
+        text = OTHER + b"a" * (size - 2)
+        spell("cp932.tbl", text, text, 1, untold=[(1, long)])
+        spell("cp932.tbl", text + b"\n", text + b"\n", 1, untold=[(1, long)])
+        # the lines around it are spelled, and numbered with it
+        around = OTHER + b"\n" + text + b"\n" + OTHER + b"\n\xfd"
+        spell("cp932.tbl", around, OWN + b"\n" + text + b"\n" + OWN + b"\n\xfd", 4, changed=2, untold=[(2, long), (4, no_spelling(0, "FD"))])
+    # a spelling that is longer than its line: 80 is spelled 827C
+    write("double.tbl", edited(double_codes).image())
+    spell("double.tbl", b"\x80" * 32768 + b"\n", b"\x82\x7c" * 32768 + b"\n", 1, changed=1)
+    spell("double.tbl", b"\x80" * 32768, b"\x82\x7c" * 32768, 1, changed=1)
+    spell("double.tbl", b"\x80" * 32769 + b"\n\x80", b"\x80" * 32769 + b"\n\x82\x7c", 2, changed=1, untold=[(1, TOO_LONG_SPELLED)])
+    for size in (511, 512, 513, 514, 1024):
+        for end in (b"", b"\n"):
+            spell("double.tbl", b"\x80" * size + end, b"\x82\x7c" * size + end, 1, changed=1)
+    # one that is shorter: 8143 is spelled 41
+    spell("double.tbl", b"\x81\x43" * 32768 + b"\n\n", b"\x41" * 32768 + b"\n\n", 2, changed=1)
+
+
+def test_spell_over_blocks():
+    # characters and line feeds at the ends of blocks of 512 bytes
+    for size in (*range(507, 516), 1022, 1023, 1024, 1025, 5000):
+        for end in (b"", b"\n", b"\n\n"):
+            lines = 1 + (end == b"\n\n")
+            spell("cp932.tbl", b"a" * size + OTHER + end, b"a" * size + OWN + end, lines, changed=1)
+            spell("cp932.tbl", b"a" * size + b"\n" + OTHER + end, b"a" * size + b"\n" + OWN + end, lines + 1, changed=1)
+            text = b"a" * size + b"\x82\n" + OTHER + end
+            spell("cp932.tbl", text, text.replace(OTHER, OWN), lines + 1, changed=1, untold=[(1, no_spelling(size, "82"))])
+
+
+def list_of(table, names):
+    """By the rules in Python: the bytes are split at 0A, and each line is spelled by the second converter."""
+    written, changed, untold = [], 0, []
+    parts = names.split(b"\n")
+    for number, part in enumerate(parts, 1):
+        out = [0] * 65536
+        answer = second_converter.spell_call(table, list(part), out)
+        kind, value = answer
+        if kind == "fault":
+            code = next(code for place, code in second_converter.codes_from(table, list(part), 0) if place == value)
+            untold.append((number, no_spelling(value, " ".join(f"{byte:02X}" for byte in part[value : value + code.size]))))
+            written.append(part)
+        else:
+            written.append(bytes(out[:value]))
+            changed += written[-1] != part
+    return b"\n".join(written), len(parts) - (parts[-1] == b""), changed, untold
+
+
+def test_spell_of_random_lists():
+    rng = random.Random(8)
+    write("double.tbl", edited(double_codes).image())
+    for name, parts in (
+        ("cp932.tbl", [OWN, OTHER, b"a", b"\n", b"\n", b"\x81\xca", b"\xfa\x54", b"\xb1", b"\x82\xa0"]),
+        ("double.tbl", [b"\x80", b"\x82\x7c", b"A", b"\n", b"\n", b"\x81\x40", b"\x81\x42", b"\x81\x43"]),
+    ):
+        table = second_converter.read_image(read(name))
+        for turn in range(40):
+            faults = [bytes([rng.randrange(256)]) for _ in range(turn % 4)]
+            names = b"".join(rng.choice(parts + parts + faults) for _ in range(rng.choice((5, 50, 700, 3000))))
+            spell(name, names, *list_of(table, names))
+            if not list_of(table, names)[3]:
+                # a spelling is its own
+                again = read("spellings")
+                spell(name, again, again, list_of(table, names)[1])
+
+
+def test_spell_with_a_line_feed_as_second_byte():
+    image = bytearray(read("sample.tbl"))
+    image[28 + 0x0A] += 4
+    write("feeds.tbl", image)
+    write("names", b"A\n")
+    write("spellings", b"kept")
+    refused("spell", "feeds.tbl", "names", "spellings", says=[
+        "error: feeds.tbl: the line feed (0A) may be a second byte in it, so that the lines of a list can not be told apart"
+    ])
+
+
+def test_spell_refused():
+    write("names", b"A\n")
+    write("spellings", b"kept")
+    missing = "No such file or directory"
+    twice = "two of the files have this name"
+    os.mkdir("folder")
+    write("bad.tbl", b"no table")
+    image = bytearray(read("cp932.tbl"))
+    image[28 + 0xFF] = 3
+    write("class.tbl", image)
+    for words, says in [
+        (["none.tbl", "names", "spellings"], [f"error: cannot open none.tbl: {missing}"]),
+        (["cp932.tbl", "none", "spellings"], [f"error: cannot open none: {missing}"]),
+        (["cp932.tbl", "names", "none/spellings"], [f"error: cannot make none/spellings: {missing}"]),
+        (["cp932.tbl", "folder", "spellings"], [f"error: folder: {NO_PLAIN_FILE}"]),
+        (["cp932.tbl", "names", "/dev/full"], [f"error: /dev/full: {NO_PLAIN_FILE}"]),
+        (["bad.tbl", "names", "spellings"], ["error: bad.tbl: it is not a table image"]),
+        (["cp932.tbl", "names", "names"], [f"error: names: {twice}"]),
+        (["cp932.tbl", "names", "cp932.tbl"], [f"error: cp932.tbl: {twice}"]),
+        (["cp932.tbl", "", "spellings"], ["error: the name of a file is empty or too long"]),
+        (
+            ["class.tbl", "names", "spellings"],
+            ["error 10: the shape of the tables is not good (class.tbl)", "  the first bad place: the class at FF is none of 0, 1, 2, 4, 5, 6"],
+        ),
+    ]:
+        refused("spell", *words, says=says)
+
+
+def test_spell_that_can_not_write():
+    for text in (b"tea\n" * 10000, b"a" * 60000, b"a" * 70000, b"\xfd\n" * 15000):
+        write("names", text)
+        said = tillbox("spell", "cp932.tbl", "names", "spellings", word="failed", limit=20000)
+        equal(said.splitlines()[-1], "tillbox: error: cannot write spellings: File too large", "the last line")
+    write("names", b"tea\n" * 1000)
+    injected("read", "names", "spell", "cp932.tbl", "names", "spellings", when="3", says="cannot read names: Input/output error")
+    injected("fsync", "spellings", "spell", "cp932.tbl", "names", "spellings", says="cannot sync spellings: Input/output error")
+    injected("close", "spellings", "spell", "cp932.tbl", "names", "spellings", error="ENOSPC", says="cannot close spellings: No space left on device")
+    tillbox("spell", "cp932.tbl", "names", "/dev/null", says=spelled(4000, 4000, 1000, 0))
 
 
 def main():

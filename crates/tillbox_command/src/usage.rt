@@ -2,12 +2,13 @@
 pub fn put(fd: i32) {
     io::write_all(
         fd,
-        b"tillbox converts a till's journal to UTF-16LE and back, imports its records and previews receipts.\n\n",
+        b"tillbox converts a till's journal to UTF-16LE and back, imports its records, previews receipts and spells names.\n\n",
     );
     put_commands(fd);
     put_words(fd);
     put_import(fd);
     put_preview(fd);
+    put_spelling(fd);
     put_checkpoints(fd);
     put_ending(fd);
 }
@@ -16,7 +17,7 @@ pub fn put(fd: i32) {
 pub fn put_version(fd: i32) {
     io::write_all(
         fd,
-        b"tillbox, by document 01 with the change requests 1, 2, 4, 5, 6, 10 and 12\n",
+        b"tillbox, by document 01 with the change requests 1, 2, 4, 5, 6, 8, 10 and 12\n",
     );
 }
 
@@ -32,6 +33,7 @@ fn put_commands(fd: i32) {
     );
     io::write_all(fd, b"  tillbox import [policy DDD] TABLE JOURNAL RECORDS\n");
     io::write_all(fd, b"  tillbox preview [width N] TABLE LEDGER RECEIPT\n");
+    io::write_all(fd, b"  tillbox spell TABLE NAMES SPELLINGS\n");
     io::write_all(fd, b"  tillbox shape TABLE\n");
     io::write_all(fd, b"  tillbox help, --version\n\n");
 }
@@ -40,7 +42,7 @@ fn put_commands(fd: i32) {
 fn put_words(fd: i32) {
     io::write_all(
         fd,
-        b"TABLE is a table image. JOURNAL and RECEIPT are till bytes, LEDGER is UTF-16LE.\n",
+        b"TABLE is a table image. JOURNAL, RECEIPT, NAMES and SPELLINGS are till bytes, LEDGER is UTF-16LE.\n",
     );
     io::write_all(
         fd,
@@ -88,6 +90,22 @@ fn put_preview(fd: i32) {
         b"characters were replaced. With width N its lines are broken to printed lines of at most N bytes, no character is\n",
     );
     io::write_all(fd, b"cut, and each is closed by a line feed.\n\n");
+}
+
+// What a spelling makes.
+fn put_spelling(fd: i32) {
+    io::write_all(
+        fd,
+        b"spell makes SPELLINGS anew from NAMES, one name a line: each code is written as the one that the table gives its\n",
+    );
+    io::write_all(
+        fd,
+        b"character, so that equal names are equal bytes. A line with a code that has no such spelling, or with over 65,536\n",
+    );
+    io::write_all(
+        fd,
+        b"bytes, is told with its number, from 1, and copied as it is.\n\n",
+    );
 }
 
 // What a checkpoint is for, and the word `last`.

@@ -12,11 +12,12 @@ pub enum Kind {
     Convert,
     Import,
     Shape,
+    Spell,
     // The words are wrong; that was said.
     Misused,
 }
 
-// A command, its job, and which argument is the first name. A shape has no job, and an import uses its policy alone.
+// A command, its job, and which argument is the first name. A shape and a spelling have no job, and an import uses its policy alone.
 pub struct Call {
     pub kind: Kind,
     pub job: Job,
@@ -150,6 +151,14 @@ fn shape_call() -> Call {
     plain(Kind::Shape, Policy::standard(), 2)
 }
 
+// `spell`: three files.
+fn spell_call() -> Call {
+    if os::arg_count() != 5 {
+        return misused(b"three names of files are asked for");
+    }
+    plain(Kind::Spell, Policy::standard(), 2)
+}
+
 // The command that the first word names.
 pub fn command() -> Call {
     if os::arg_count() < 2 {
@@ -169,6 +178,9 @@ pub fn command() -> Call {
     }
     if options::is_word(1, b"shape") {
         return shape_call();
+    }
+    if options::is_word(1, b"spell") {
+        return spell_call();
     }
     misused(b"no such command")
 }

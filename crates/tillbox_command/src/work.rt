@@ -13,7 +13,7 @@ use tillbox_layout::front_bytes;
 use tillbox_layout::front_units;
 use tillbox_storage::names::is_plain;
 
-// The most bytes of a line that is broken. They stand where the image was.
+// The most bytes of a line that is broken or spelled. They stand where the image was.
 const LINE: usize = 65536;
 
 // Whether the names of a call are of files that it can use; names that it has not are empty. It is asked before `run`, whose stack
@@ -59,6 +59,34 @@ fn convert(
     )
 }
 
+// Spells a list: the memory of the image has room for a line.
+fn spell(
+    numbers: Numbers,
+    classes: &[u8],
+    singles: &[u16],
+    pairs: &[u16],
+    index: &[u8],
+    blocks: &[u16],
+    image: &mut [u8],
+    table: &[u8],
+    input: &[u8],
+    output: &[u8],
+) -> Ending {
+    let room = front_bytes(LINE, image);
+    tillbox_spelling::job::with_tables(
+        numbers,
+        classes,
+        singles,
+        pairs,
+        index,
+        blocks,
+        &mut image[..room],
+        table,
+        input,
+        output,
+    )
+}
+
 // From a table set on.
 fn with_tables(
     call: Call,
@@ -93,6 +121,18 @@ fn with_tables(
                 output,
             )
         }
+        Kind::Spell => spell(
+            numbers,
+            classes,
+            singles,
+            pairs,
+            index,
+            blocks,
+            image,
+            table,
+            input,
+            output,
+        ),
         _ => convert(
             job,
             numbers,
