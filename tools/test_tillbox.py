@@ -2088,6 +2088,9 @@ def printed_lines(table, units, width):
         if breaks is None:
             whole.append((number, too_wide(width)))
             breaks = []
+        elif len(breaks) > 4096:
+            whole.append((number, TOO_MANY_LINES))
+            breaks = []
         lines += [line[start:end] for start, end in zip([0] + breaks, breaks + [len(line)])]
     return lines, whole, replaced, flags
 
