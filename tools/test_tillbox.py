@@ -1675,31 +1675,39 @@ def test_import_stops_late():
     equal(records_text(), "kept,whole\r\n", "the records")
 
 
-def test_import_refused():
-    write("records", b"kept")
+def names_refused(words, source, target, *more):
+    """What is refused of the names of a command with a table, an input and an output, behind its own words: all before a file is touched."""
     missing = "No such file or directory"
     twice = "two of the files have this name"
     os.mkdir("folder")
+    write(target, b"kept")
     write("bad.tbl", b"no table")
     image = bytearray(read("cp932.tbl"))
     image[28 + 0xFF] = 3
     write("class.tbl", image)
-    for words, says in [
-        (["none.tbl", "journal", "records"], [f"error: cannot open none.tbl: {missing}"]),
-        (["cp932.tbl", "none", "records"], [f"error: cannot open none: {missing}"]),
-        (["cp932.tbl", "journal", "none/records"], [f"error: cannot make none/records: {missing}"]),
-        (["cp932.tbl", "folder", "records"], [f"error: folder: {NO_PLAIN_FILE}"]),
-        (["bad.tbl", "journal", "records"], ["error: bad.tbl: it is not a table image"]),
-        (["cp932.tbl", "journal", "journal"], [f"error: journal: {twice}"]),
-        (["cp932.tbl", "journal", "cp932.tbl"], [f"error: cp932.tbl: {twice}"]),
-        (["cp932.tbl", "", "records"], ["error: the name of a file is empty or too long"]),
-        (["policy", "565", "cp932.tbl", "journal", "records"], ["error 17: the page is 0, or a policy digit is not allowed (policy)", "  the digits are 565; each is 0 to 5, and the first may be 6"]),
+    for names, says in [
+        (["none.tbl", source, target], [f"error: cannot open none.tbl: {missing}"]),
+        (["cp932.tbl", "none", target], [f"error: cannot open none: {missing}"]),
+        (["cp932.tbl", source, f"none/{target}"], [f"error: cannot make none/{target}: {missing}"]),
+        (["cp932.tbl", "folder", target], [f"error: folder: {NO_PLAIN_FILE}"]),
+        (["cp932.tbl", source, "/dev/full"], [f"error: /dev/full: {NO_PLAIN_FILE}"]),
+        (["bad.tbl", source, target], ["error: bad.tbl: it is not a table image"]),
+        (["cp932.tbl", source, source], [f"error: {source}: {twice}"]),
+        (["cp932.tbl", source, "cp932.tbl"], [f"error: cp932.tbl: {twice}"]),
+        (["cp932.tbl", "", target], ["error: the name of a file is empty or too long"]),
         (
-            ["class.tbl", "journal", "records"],
+            ["class.tbl", source, target],
             ["error 10: the shape of the tables is not good (class.tbl)", "  the first bad place: the class at FF is none of 0, 1, 2, 4, 5, 6"],
         ),
+        *more,
     ]:
-        refused("import", *words, says=says)
+        refused(*words, *names, says=says)
+
+
+def test_import_refused():
+    names_refused(["import"], "journal", "records")
+    says = ["error 17: the page is 0, or a policy digit is not allowed (policy)", "  the digits are 565; each is 0 to 5, and the first may be 6"]
+    refused("import", "policy", "565", "cp932.tbl", "journal", "records", says=says)
     with open("huge", "wb") as file:
         file.truncate(4294967296)
     refused("import", "cp932.tbl", "huge", "records", says=["error 16: the input has over 4,294,967,295 units (huge)"])
@@ -1862,31 +1870,9 @@ def test_preview_of_random_ledgers():
 def preview_refused(*width):
     """What is refused of a preview, with the words before the names."""
     write("ledger", units_text(0x41))
-    write("receipt", b"kept")
-    missing = "No such file or directory"
-    twice = "two of the files have this name"
-    os.mkdir("folder")
     write("odd", b"A\0B")
-    write("bad.tbl", b"no table")
-    image = bytearray(read("cp932.tbl"))
-    image[28 + 0xFF] = 3
-    write("class.tbl", image)
-    for words, says in [
-        (["none.tbl", "ledger", "receipt"], [f"error: cannot open none.tbl: {missing}"]),
-        (["cp932.tbl", "none", "receipt"], [f"error: cannot open none: {missing}"]),
-        (["cp932.tbl", "ledger", "none/receipt"], [f"error: cannot make none/receipt: {missing}"]),
-        (["cp932.tbl", "folder", "receipt"], [f"error: folder: {NO_PLAIN_FILE}"]),
-        (["cp932.tbl", "odd", "receipt"], ["error: odd: an odd number of bytes is no text of UTF-16 units"]),
-        (["bad.tbl", "ledger", "receipt"], ["error: bad.tbl: it is not a table image"]),
-        (["cp932.tbl", "ledger", "ledger"], [f"error: ledger: {twice}"]),
-        (["cp932.tbl", "ledger", "cp932.tbl"], [f"error: cp932.tbl: {twice}"]),
-        (["cp932.tbl", "", "receipt"], ["error: the name of a file is empty or too long"]),
-        (
-            ["class.tbl", "ledger", "receipt"],
-            ["error 10: the shape of the tables is not good (class.tbl)", "  the first bad place: the class at FF is none of 0, 1, 2, 4, 5, 6"],
-        ),
-    ]:
-        refused("preview", *width, *words, says=says)
+    odd = (["cp932.tbl", "odd", "receipt"], ["error: odd: an odd number of bytes is no text of UTF-16 units"])
+    names_refused(["preview", *width], "ledger", "receipt", odd)
     with open("huge", "wb") as file:
         file.truncate(2 * 4294967296)
     refused("preview", *width, "cp932.tbl", "huge", "receipt", says=["error 16: the input has over 4,294,967,295 units (huge)"])
@@ -2282,30 +2268,7 @@ def test_spell_with_a_line_feed_as_second_byte():
 
 def test_spell_refused():
     write("names", b"A\n")
-    write("spellings", b"kept")
-    missing = "No such file or directory"
-    twice = "two of the files have this name"
-    os.mkdir("folder")
-    write("bad.tbl", b"no table")
-    image = bytearray(read("cp932.tbl"))
-    image[28 + 0xFF] = 3
-    write("class.tbl", image)
-    for words, says in [
-        (["none.tbl", "names", "spellings"], [f"error: cannot open none.tbl: {missing}"]),
-        (["cp932.tbl", "none", "spellings"], [f"error: cannot open none: {missing}"]),
-        (["cp932.tbl", "names", "none/spellings"], [f"error: cannot make none/spellings: {missing}"]),
-        (["cp932.tbl", "folder", "spellings"], [f"error: folder: {NO_PLAIN_FILE}"]),
-        (["cp932.tbl", "names", "/dev/full"], [f"error: /dev/full: {NO_PLAIN_FILE}"]),
-        (["bad.tbl", "names", "spellings"], ["error: bad.tbl: it is not a table image"]),
-        (["cp932.tbl", "names", "names"], [f"error: names: {twice}"]),
-        (["cp932.tbl", "names", "cp932.tbl"], [f"error: cp932.tbl: {twice}"]),
-        (["cp932.tbl", "", "spellings"], ["error: the name of a file is empty or too long"]),
-        (
-            ["class.tbl", "names", "spellings"],
-            ["error 10: the shape of the tables is not good (class.tbl)", "  the first bad place: the class at FF is none of 0, 1, 2, 4, 5, 6"],
-        ),
-    ]:
-        refused("spell", *words, says=says)
+    names_refused(["spell"], "names", "spellings")
 
 
 def test_spell_that_can_not_write():
