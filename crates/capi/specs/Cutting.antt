@@ -8,7 +8,7 @@ use Rattle.fields.specs.declared.Place.{Place}
 use Rattle.fields.specs.declared.Place.the-variants.{Buffer, Block}
 use Rattle.fields.specs.declared.Answer.{Answer}
 use Rattle.fields.specs.declared.Answer.the-variants.{Field as FieldFound, Incomplete, Refused}
-use Rattle.fields.specs.Fields.{Called, fieldCall, refusalNumber}
+use Rattle.fields.specs.Fields.{FieldCalled, fieldCall, refusalNumber}
 use Rattle.capi.specs.declared.cutting.TillField.{TillField}
 use Rattle.capi.specs.Interface.{isLast}
 
@@ -35,7 +35,7 @@ fieldOut (Incomplete read) held = record { read = read; count = 0; held = held; 
 fieldOut (Refused refusal) held = refusedField held (refusalNumber refusal)
 
 -- What the call gives: that of `fieldCall`, and every unit of the buffer. Any mark but 0 is last.
-unfoldable pub cutOut : Called → TillField
+unfoldable pub cutOut : FieldCalled → TillField
 cutOut called = fieldOut (called .answer) (called .held)
 
 -- The promise of the exported call: what it returns, and the buffer after it.

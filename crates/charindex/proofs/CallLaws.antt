@@ -20,7 +20,7 @@ use Rattle.charindex.specs.declared.Appended.the-variants as appended
 use Rattle.charindex.specs.declared.Found.the-variants as found
 use Rattle.charindex.specs.Index.{countOf, blocksOf, startAt, startAfter, appendOf, findOf}
 use Rattle.charindex.specs.Calls.{countsWithin, appendRefusal, Appending, appendUnless, appendingOf, AppendedAs, foundOr29, findRefusal, findingOf}
-use Rattle.charindex.specs.Steps.{written, goingOn}
+use Rattle.charindex.specs.Steps.{writtenEntries, goingOn}
 
 -- tables of a good shape have 256 classes
 pub classes-size : (p : CodePage) → isGood (firstFault p) ≡ true → length (p .classes) ≡ 256
@@ -93,10 +93,10 @@ module _ (p : CodePage) (journal : List ℕ) (former : ℕ) (entries : List ℕ)
 -- ---- appending to an index that is long enough, by its former blocks
 abbrev onFrom : Reader → (journal : List ℕ) → (first : ℕ) → (entries : List ℕ) → Appending
 onFrom r journal first entries =
-    appendUnless (refuseUnless BadIndex (countsWithin entries first) none) (blocksOf (length journal)) entries (written r journal (startAfter entries first) first entries)
+    appendUnless (refuseUnless BadIndex (countsWithin entries first) none) (blocksOf (length journal)) entries (writtenEntries r journal (startAfter entries first) first entries)
 
 on-from : (r : Reader) (journal : List ℕ) (former : ℕ) (entries : List ℕ) → goingOn r journal former entries ≡ onFrom r journal (blocksOf former) entries
-unfolding goingOn appendOf written
+unfolding goingOn appendOf writtenEntries
 on-from r journal former entries = refl
 
 module _ (r : Reader) (journal : List ℕ) (former : ℕ) (entries : List ℕ) (all : ℕ) (a : all ≡ blocksOf (length journal)) where
@@ -107,11 +107,11 @@ module _ (r : Reader) (journal : List ℕ) (former : ℕ) (entries : List ℕ) (
 
   module _ (first : ℕ) (e : first ≡ blocksOf former) where
     -- there was no block: from the front
-    pub on-front : (after : List ℕ) → first ≡ 0 → after ≡ written r journal (record { place = 0; count = 0 }) first entries → AppendedAs (goingOn r journal former entries) (appended.Entries all) after
+    pub on-front : (after : List ℕ) → first ≡ 0 → after ≡ writtenEntries r journal (record { place = 0; count = 0 }) first entries → AppendedAs (goingOn r journal former entries) (appended.Entries all) after
     unfolding countsWithin startAfter
     on-front after z w =
         as-from first 0 e z (appended.Entries all) after
-        (record { answer = ap (λ (n : ℕ). appended.Entries n) a; lent = w ∙ ap (λ (b : ℕ). written r journal (record { place = 0; count = 0 }) b entries) z })
+        (record { answer = ap (λ (n : ℕ). appended.Entries n) a; lent = w ∙ ap (λ (b : ℕ). writtenEntries r journal (record { place = 0; count = 0 }) b entries) z })
 
     module _ (some-block : 0 < first) (s : Start) (q : s ≡ startAt (first - 1) (entryAt entries (first - 1))) where
       same : first ≡ suc (first - 1)
@@ -126,11 +126,11 @@ module _ (r : Reader) (journal : List ℕ) (former : ℕ) (entries : List ℕ) (
           (rw (lt-leb (countOf (entryAt entries (first - 1))) (512 * (first - 1)) over) (record { answer = refl; lent = refl }))
 
       -- else it is gone on from
-      pub on-last : (after : List ℕ) → s .count ≤ 512 * (first - 1) → after ≡ written r journal s first entries → AppendedAs (goingOn r journal former entries) (appended.Entries all) after
+      pub on-last : (after : List ℕ) → s .count ≤ 512 * (first - 1) → after ≡ writtenEntries r journal s first entries → AppendedAs (goingOn r journal former entries) (appended.Entries all) after
       unfolding countsWithin startAfter
       on-last after h w =
           let within : countOf (entryAt entries (first - 1)) ≤ 512 * (first - 1) = subst (λ (t : Start). t .count ≤ 512 * (first - 1)) q h in
-          let here : after ≡ written r journal (startAt (first - 1) (entryAt entries (first - 1))) (suc (first - 1)) entries =
-          w ∙ ap (λ (t : Start). written r journal t first entries) q ∙ ap (λ (b : ℕ). written r journal (startAt (first - 1) (entryAt entries (first - 1))) b entries) same in
+          let here : after ≡ writtenEntries r journal (startAt (first - 1) (entryAt entries (first - 1))) (suc (first - 1)) entries =
+          w ∙ ap (λ (t : Start). writtenEntries r journal t first entries) q ∙ ap (λ (b : ℕ). writtenEntries r journal (startAt (first - 1) (entryAt entries (first - 1))) b entries) same in
           as-from first (suc (first - 1)) e same (appended.Entries all) after
           (rw (le-leb (countOf (entryAt entries (first - 1))) (512 * (first - 1)) within) (record { answer = ap (λ (n : ℕ). appended.Entries n) a; lent = here }))

@@ -10,7 +10,7 @@ use Rattle.codepage.specs.Reading.{Reader}
 use Rattle.codepage_walk.specs.Walk.{Placed}
 use Rattle.charindex.specs.declared.Start.{Start}
 use Rattle.charindex.specs.Index.{blocksOf, blockEntry, entriesFrom, codesFrom, newEntries}
-use Rattle.charindex.specs.Steps.{Reached, written}
+use Rattle.charindex.specs.Steps.{Reached, writtenEntries}
 
 -- the entries of one block more
 pub entries-more : (count : ℕ) (ps : List Placed) (block blocks : ℕ) → entriesFrom count ps block (suc blocks) ≡ entriesFrom count ps block blocks ++ (blockEntry count ps (512 * (block + blocks)) ∷ [])
@@ -60,8 +60,8 @@ module _ (r : Reader) (journal : List ℕ) (from counted first : ℕ) (before : 
       }
 
   -- behind the last block
-  pub writing-end : block ≡ blocksOf (length journal) → drop block entries ≡ drop block before → entries ≡ written r journal (record { place = from; count = counted }) first before
-  unfolding written newEntries
+  pub writing-end : block ≡ blocksOf (length journal) → drop block entries ≡ drop block before → entries ≡ writtenEntries r journal (record { place = from; count = counted }) first before
+  unfolding writtenEntries newEntries
   writing-end e same =
       sym (take-append-drop block entries) ∙ ap (λ (l : List ℕ). l ++ drop block entries) (w .done)
       ∙ ap (λ (l : List ℕ). (take first before ++ entriesFrom counted (codesFrom r journal from) first (block - first)) ++ l) same

@@ -27,29 +27,29 @@ pub record AppendRow : Type 0 where
   pub answer : Appended
   pub after : List ℕ
 
-abbrev row : List ℕ → ℕ → List ℕ → Appended → List ℕ → AppendRow
-row journal former entries answer after = record { journal = journal; former = former; entries = entries; answer = answer; after = after }
+abbrev indexRow : List ℕ → ℕ → List ℕ → Appended → List ℕ → AppendRow
+indexRow journal former entries answer after = record { journal = journal; former = former; entries = entries; answer = answer; after = after }
 
 -- the rows of appending
 abbrev pub appendRows : List AppendRow
 appendRows =
     -- made anew: block 1 has 512 codes before it and begins with a second byte; the rest of the list as before
-    row acrossBlocks 0 (9 ∷ 9 ∷ 9 ∷ []) (appended.Entries 2) (0 ∷ 1025 ∷ 9 ∷ [])
+    indexRow acrossBlocks 0 (9 ∷ 9 ∷ 9 ∷ []) (appended.Entries 2) (0 ∷ 1025 ∷ 9 ∷ [])
     -- the former journal ended with 81 alone
-    ∷ row acrossBlocks 512 (0 ∷ 9 ∷ 9 ∷ []) (appended.Entries 2) (0 ∷ 1025 ∷ 9 ∷ [])
+    ∷ indexRow acrossBlocks 512 (0 ∷ 9 ∷ 9 ∷ []) (appended.Entries 2) (0 ∷ 1025 ∷ 9 ∷ [])
     -- nothing new, and nothing of the former entries is touched
-    ∷ row acrossBlocks 513 (8 ∷ 6 ∷ 9 ∷ []) (appended.Entries 2) (8 ∷ 6 ∷ 9 ∷ [])
+    ∷ indexRow acrossBlocks 513 (8 ∷ 6 ∷ 9 ∷ []) (appended.Entries 2) (8 ∷ 6 ∷ 9 ∷ [])
     -- a wrong former entry: its count and mark are gone on from
-    ∷ row acrossBlocks 1 (1 ∷ 9 ∷ []) (appended.Entries 2) (1 ∷ 1023 ∷ [])
+    ∷ indexRow acrossBlocks 1 (1 ∷ 9 ∷ []) (appended.Entries 2) (1 ∷ 1023 ∷ [])
     -- 33; 28 too short; 28 a former last entry that counts 1 code before byte 0, 513 before byte 512
-    ∷ row acrossBlocks 514 (0 ∷ []) (appended.Refused FormerTooLong) (0 ∷ [])
-    ∷ row acrossBlocks 513 (0 ∷ []) (appended.Refused BadIndex) (0 ∷ [])
-    ∷ row acrossBlocks 1 (2 ∷ 9 ∷ []) (appended.Refused BadIndex) (2 ∷ 9 ∷ [])
-    ∷ row acrossBlocks 513 (0 ∷ 1026 ∷ []) (appended.Refused BadIndex) (0 ∷ 1026 ∷ [])
+    ∷ indexRow acrossBlocks 514 (0 ∷ []) (appended.Refused FormerTooLong) (0 ∷ [])
+    ∷ indexRow acrossBlocks 513 (0 ∷ []) (appended.Refused BadIndex) (0 ∷ [])
+    ∷ indexRow acrossBlocks 1 (2 ∷ 9 ∷ []) (appended.Refused BadIndex) (2 ∷ 9 ∷ [])
+    ∷ indexRow acrossBlocks 513 (0 ∷ 1026 ∷ []) (appended.Refused BadIndex) (0 ∷ 1026 ∷ [])
     -- 512 codes before byte 512 are not too many
-    ∷ row acrossBlocks 513 (0 ∷ 1024 ∷ []) (appended.Entries 2) (0 ∷ 1024 ∷ [])
+    ∷ indexRow acrossBlocks 513 (0 ∷ 1024 ∷ []) (appended.Entries 2) (0 ∷ 1024 ∷ [])
     -- the empty journal
-    ∷ row [] 0 [] (appended.Entries 0) []
+    ∷ indexRow [] 0 [] (appended.Entries 0) []
     ∷ []
 
 -- what a row says

@@ -25,8 +25,8 @@ pub record Reached (r : Reader) (text : List ℕ) (from : Start) (to : ℕ) (s :
   pub later : (b : ℕ) → to < b → blockEntry (from .count) (codesFrom r text (from .place)) b ≡ blockEntry (s .count) (codesFrom r text (s .place)) b
 
 -- the entries written from a start on: those of the first blocks, the new ones, and those behind the last block
-unfoldable pub written : Reader → (journal : List ℕ) → Start → (first : ℕ) → (entries : List ℕ) → List ℕ
-written r journal s first entries = take first entries ++ (newEntries r journal s first ++ drop (blocksOf (length journal)) entries)
+unfoldable pub writtenEntries : Reader → (journal : List ℕ) → Start → (first : ℕ) → (entries : List ℕ) → List ℕ
+writtenEntries r journal s first entries = take first entries ++ (newEntries r journal s first ++ drop (blocksOf (length journal)) entries)
 
 -- how many blocks there are up to and including a block
 abbrev pub blocksTo : Option ℕ → ℕ

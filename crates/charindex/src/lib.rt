@@ -18,7 +18,7 @@ ghost use Rattle.convert.specs.Runs.{pieceLimit};
 ghost use Rattle.codepage_walk.specs.Checks.{ForClasses};
 ghost use Rattle.charindex.specs.Index.{blocksOf, startAt, lastBlock, codesFrom, codeNumber, findOf};
 ghost use Rattle.charindex.specs.Calls.{indexNumber, foundOr29, appendingOf, AppendedAs, findingOf};
-ghost use Rattle.charindex.specs.Steps.{Inside, Reached, written, blocksTo, goingOn};
+ghost use Rattle.charindex.specs.Steps.{Inside, Reached, writtenEntries, blocksTo, goingOn};
 use codepage::Numbers;
 use convert::Run;
 
@@ -110,7 +110,7 @@ fn read_to(classes: &[u8], text: &[u8], from: Start, to: usize) -> Start
 fn write_entries(classes: &[u8], journal: &[u8], start: Start, first: usize, entries: &mut [u32])
     requires { ⌜ (length (now classes) ≡ 256) × Inside (now journal) start × (start .place ≤ 512 * first) × (length (now journal) ≤ pieceLimit) ⌝ }
     requires { ⌜ (first ≤ blocksOf (length (now journal))) × (blocksOf (length (now journal)) ≤ length (now entries)) ⌝ }
-    ensures { λ _. ⌜ ForClasses (now (classes .entry)) (λ (reader : Reader). now (entries .exit) ≡ written reader (now (journal .entry)) start first (now (entries .entry))) ⌝ }
+    ensures { λ _. ⌜ ForClasses (now (classes .entry)) (λ (reader : Reader). now (entries .exit) ≡ writtenEntries reader (now (journal .entry)) start first (now (entries .entry))) ⌝ }
 {
     let blocks = blocks_of(journal.len());
     let mut place = start.place;

@@ -14,7 +14,7 @@ use Rattle.codepage.specs.CodePage.{pick}
 use Rattle.checkpoint.specs.Line.{digitValue, hexValue}
 use Rattle.checkpoint.proofs.ParserLaws.{hex-back}
 use Rattle.console_script.specs.declared.words.Number.{Number}
-use Rattle.console_script.specs.Words.{firstWord, spelled, atMost, plain, given, numberIn, numberThen, numberAt, allHex, digitAt, byteAt, unitAt}
+use Rattle.console_script.specs.Words.{firstWord, spelled, limited, plain, given, numberIn, numberThen, numberAt, allHex, digitAt, byteAt, unitAt}
 
 -- ---- The end of a word
 module _ (byte : ℕ) (bytes : List ℕ) where
@@ -113,47 +113,47 @@ module _ {p : Bool} where
   test-true false e f = absurd (false≢true (sym e))
 
 module _ (limit : ℕ) where
-  at-most : (value : ℕ) → value ≤ limit → atMost limit (some value) ≡ some value
-  unfolding atMost
+  at-most : (value : ℕ) → value ≤ limit → limited limit (some value) ≡ some value
+  unfolding limited
   at-most value h = rw (le-leb value limit h)
 
-  over-most : (value : ℕ) → limit < value → atMost limit (some value) ≡ none
-  unfolding atMost
+  over-most : (value : ℕ) → limit < value → limited limit (some value) ≡ none
+  unfolding limited
   over-most value h = rw (lt-leb value limit h)
 
-  none-most : atMost limit none ≡ none
-  unfolding atMost
+  none-most : limited limit none ≡ none
+  unfolding limited
   none-most = refl
 
   -- digits behind a number over the limit do not bring it back
-  over-limit : (value : ℕ) (bytes : List ℕ) → limit < value → atMost limit (spelled value bytes) ≡ none
-  over-limit value [] h = ap (atMost limit) (spelled-nil value) ∙ over-most value h
+  over-limit : (value : ℕ) (bytes : List ℕ) → limit < value → limited limit (spelled value bytes) ≡ none
+  over-limit value [] h = ap (limited limit) (spelled-nil value) ∙ over-most value h
   over-limit value (byte ∷ bytes) h = by-case (λ digit. over-limit (10 * value + digit) bytes (omega arith)) (digitValue byte) refl
     where
-      by-case : ((digit : ℕ) → atMost limit (spelled (10 * value + digit) bytes) ≡ none) → (o : Option ℕ) → digitValue byte ≡ o
-          → atMost limit (spelled value (byte ∷ bytes)) ≡ none
-      by-case more none q = ap (atMost limit) (spelled-other value byte bytes q) ∙ none-most
-      by-case more (some digit) q = ap (atMost limit) (spelled-cons value byte bytes digit q) ∙ more digit
+      by-case : ((digit : ℕ) → limited limit (spelled (10 * value + digit) bytes) ≡ none) → (o : Option ℕ) → digitValue byte ≡ o
+          → limited limit (spelled value (byte ∷ bytes)) ≡ none
+      by-case more none q = ap (limited limit) (spelled-other value byte bytes q) ∙ none-most
+      by-case more (some digit) q = ap (limited limit) (spelled-cons value byte bytes digit q) ∙ more digit
 
   -- one turn: a digit that brings the number over the limit
   pub over-turn : (word : List ℕ) (value i digit : ℕ) → i < length word → digitValue (getD word i 0) ≡ some digit → limit < 10 * value + digit
-      → atMost limit (spelled value (drop i word)) ≡ none
-  over-turn word value i digit h e k = ap (atMost limit) (spelled-turn word value i digit h e) ∙ over-limit (10 * value + digit) (drop (i + 1) word) k
+      → limited limit (spelled value (drop i word)) ≡ none
+  over-turn word value i digit h e k = ap (limited limit) (spelled-turn word value i digit h e) ∙ over-limit (10 * value + digit) (drop (i + 1) word) k
 
   -- one turn: a byte that is no digit
-  pub none-turn : (word : List ℕ) (value i : ℕ) → i < length word → digitValue (getD word i 0) ≡ none → atMost limit (spelled value (drop i word)) ≡ none
-  none-turn word value i h e = ap (atMost limit) (spelled-none word value i h e) ∙ none-most
+  pub none-turn : (word : List ℕ) (value i : ℕ) → i < length word → digitValue (getD word i 0) ≡ none → limited limit (spelled value (drop i word)) ≡ none
+  none-turn word value i h e = ap (limited limit) (spelled-none word value i h e) ∙ none-most
 
   -- the end: all digits are read, and the number is within the limit
-  pub end-turn : (word : List ℕ) (value i : ℕ) → length word ≤ i → value ≤ limit → atMost limit (spelled value (drop i word)) ≡ some value
-  end-turn word value i h k = ap (atMost limit) (spelled-end word value i h) ∙ at-most value k
+  pub end-turn : (word : List ℕ) (value i : ℕ) → length word ≤ i → value ≤ limit → limited limit (spelled value (drop i word)) ≡ some value
+  end-turn word value i h k = ap (limited limit) (spelled-end word value i h) ∙ at-most value k
 
   -- ---- A number's word
-  number-bad : (word : List ℕ) → atMost limit (spelled 0 word) ≡ none → numberIn limit word ≡ none
+  number-bad : (word : List ℕ) → limited limit (spelled 0 word) ≡ none → numberIn limit word ≡ none
   unfolding numberIn
   number-bad word e = by-case (plain word)
     where
-      by-case : (b : Bool) → pick b (atMost limit (spelled 0 word)) none ≡ none
+      by-case : (b : Bool) → pick b (limited limit (spelled 0 word)) none ≡ none
       by-case true = e
       by-case false = refl
 
@@ -161,7 +161,7 @@ module _ (limit : ℕ) where
   unfolding numberIn
   number-spare word e = rw e
 
-  number-good : (word : List ℕ) (value : ℕ) → atMost limit (spelled 0 word) ≡ some value → plain word ≡ true → numberIn limit word ≡ some value
+  number-good : (word : List ℕ) (value : ℕ) → limited limit (spelled 0 word) ≡ some value → plain word ≡ true → numberIn limit word ≡ some value
   unfolding numberIn
   number-good word value e p = rw (p, e)
 
@@ -184,7 +184,7 @@ module _ (limit : ℕ) where
           rw (le-leb at (length line) inside, w, ends)
 
       -- a word with a byte that is no digit, or over the limit: no number
-      pub not-digits : (next : ℕ) → none ≡ atMost limit (spelled 0 (take (end - at) (drop at line))) → next ≡ length line + 2
+      pub not-digits : (next : ℕ) → none ≡ limited limit (spelled 0 (take (end - at) (drop at line))) → next ≡ length line + 2
           → _≡_ {A = Number} (record { value = 0; next = next }) (numberAt limit line at)
       unfolding numberThen
       not-digits next e q = rw q (found none (number-bad _ (sym e)))
@@ -196,7 +196,7 @@ module _ (limit : ℕ) where
       not-plain next e q = rw q (found none (number-spare _ (sym e)))
 
       -- a word that is a number within the limit: its value, and the place of the next word
-      pub is-number : (value : ℕ) → some value ≡ atMost limit (spelled 0 (take (end - at) (drop at line))) → true ≡ plain (take (end - at) (drop at line))
+      pub is-number : (value : ℕ) → some value ≡ limited limit (spelled 0 (take (end - at) (drop at line))) → true ≡ plain (take (end - at) (drop at line))
           → _≡_ {A = Number} (record { value = value; next = end + 1 }) (numberAt limit line at)
       unfolding numberThen
       is-number value e p = found (some value) (number-good _ value (sym e) (sym p))

@@ -26,9 +26,9 @@ spelled value (byte ∷ bytes) =
     ]
 
 -- a number of at most `limit`
-unfoldable pub atMost : (limit : ℕ) → Option ℕ → Option ℕ
-atMost limit none = none
-atMost limit (some number) = pick (leb number limit) (some number) none
+unfoldable pub limited : (limit : ℕ) → Option ℕ → Option ℕ
+limited limit none = none
+limited limit (some number) = pick (leb number limit) (some number) none
 
 -- a number that was found, or none
 abbrev pub given : (found : Bool) → (number : ℕ) → Option ℕ
@@ -40,7 +40,7 @@ plain word = pick (eqb (length word) 0) false (pick (eqb (getD word 0 0) 0x30) (
 
 -- the decimal number of at most `limit` that a word is
 unfoldable pub numberIn : (limit : ℕ) → (word : List ℕ) → Option ℕ
-numberIn limit word = pick (plain word) (atMost limit (spelled 0 word)) none
+numberIn limit word = pick (plain word) (limited limit (spelled 0 word)) none
 
 -- a number and the place of the next word; where there is none, the place two behind the line's end
 unfoldable pub numberThen : (line : List ℕ) → (next : ℕ) → Option ℕ → Number

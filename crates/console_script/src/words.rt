@@ -6,7 +6,7 @@ ghost use mathlib.Core.Option.{Option·getD};
 ghost use Prim.Native.Nat.{_+_, _*_, _≤_, _<_};
 ghost use lib.ListN.{length, drop};
 ghost use Rattle.checkpoint.specs.Line.{digitValue, hexValue};
-ghost use Rattle.console_script.specs.Words.{firstWord, spelled, atMost, given, plain, numberAt, allHex, digitAt, byteAt, unitAt};
+ghost use Rattle.console_script.specs.Words.{firstWord, spelled, limited, given, plain, numberAt, allHex, digitAt, byteAt, unitAt};
 use convert::Direction;
 use convert::Pending;
 use convert::Policy;
@@ -136,7 +136,7 @@ fn hex_value(byte: u8) -> u8
 // The value of decimal digits with no spare zero, if it is within a limit. A larger one is left at once, so it never wraps.
 fn decimal_value(word: &[u8], limit: u64) -> Value
     ensures { λ r. ⌜ r .value ≤ limit ⌝ }
-    ensures { λ r. ⌜ given (r .ok) (r .value) ≡ atMost limit (spelled 0 (now (word .entry))) ⌝ }
+    ensures { λ r. ⌜ given (r .ok) (r .value) ≡ limited limit (spelled 0 (now (word .entry))) ⌝ }
 {
     let mut value: u64 = 0;
     let mut i = 0;

@@ -14,7 +14,7 @@ use Rattle.codepage.specs.Lent.{over}
 use Rattle.csv.specs.declared.Put.the-variants.{Units, NoRoom}
 use Rattle.csv.specs.Csv.{isSpecial, needsQuotes, escaped, escapedField, quoted, fieldText, lineEnd}
 use Rattle.csv.specs.Records.{breakIf, partText, PutAs}
-use Rattle.csv.specs.Steps.{laidAt, Laid, oneIf, when, inQuotes, inOrder}
+use Rattle.csv.specs.Steps.{laidAt, LaidAt, countIf, when, inQuotes, inOrder}
 
 -- nothing behind a list changes nothing
 pub append-none : (l : List ℕ) → l ++ [] ≡ l
@@ -45,8 +45,8 @@ unfolding laidAt
 laid-nothing before place = sym (paste-zero before place [])
 
 -- two parts, one behind the other
-pub both : {before between after first second : List ℕ} {place next r : ℕ} → place + length first ≤ length before → Laid before between place first next → Laid between after next second r
-    → Laid before after place (first ++ second) r
+pub both : {before between after first second : List ℕ} {place next r : ℕ} → place + length first ≤ length before → LaidAt before between place first next → LaidAt between after next second r
+    → LaidAt before after place (first ++ second) r
 both {before} {between} {after} {first} {second} {place} {next} {r} h a b =
     record {
       lent =
@@ -58,7 +58,7 @@ both {before} {between} {after} {first} {second} {place} {next} {r} h a b =
     }
 
 -- from the front on: the promise of a call
-pub laid-all : (text before after : List ℕ) (r : ℕ) → length text ≤ length before → Laid before after 0 text r → PutAs text (Units r) before after
+pub laid-all : (text before after : List ℕ) (r : ℕ) → length text ≤ length before → LaidAt before after 0 text r → PutAs text (Units r) before after
 unfolding laidAt over
 laid-all text before after r h laid =
     let front : 0 + length text ≡ length text = omega arith in
@@ -81,7 +81,7 @@ laid-none text before h =
 
 -- ---- a unit, if it is wanted
 -- a unit that is wanted is one unit, else none
-pub when-length : (wanted : Bool) (unit : ℕ) → length (when wanted unit) ≡ oneIf wanted
+pub when-length : (wanted : Bool) (unit : ℕ) → length (when wanted unit) ≡ countIf wanted
 unfolding when
 when-length true unit = refl
 when-length false unit = refl
@@ -95,7 +95,7 @@ leb-rest a b c room h k = by (leb c (room - a - b)) refl
     by false e = let s : room - a - b < c = leb-false _ _ e in e ∙ sym (lt-leb (a + b + c) room (omega arith))
 
 -- a unit that may be wanted needs at most one place
-pub one-most : (wanted : Bool) → oneIf wanted ≤ 1
+pub one-most : (wanted : Bool) → countIf wanted ≤ 1
 one-most true = omega arith
 one-most false = omega arith
 
@@ -106,7 +106,7 @@ module _ (before : List ℕ) (place unit : ℕ) where
   store-one h = sets-eq (unit ∷ []) before place (omega arith)
 
   -- a unit that is wanted is stored at the place
-  pub laid-wanted : (wanted : Bool) → wanted ≡ true → place < length before → Laid before (set before place unit) place (when wanted unit) (place + 1)
+  pub laid-wanted : (wanted : Bool) → wanted ≡ true → place < length before → LaidAt before (set before place unit) place (when wanted unit) (place + 1)
   unfolding when
   laid-wanted wanted e h =
       record {
@@ -115,7 +115,7 @@ module _ (before : List ℕ) (place unit : ℕ) where
       }
 
   -- a unit that is not wanted: nothing is stored, and the place stays
-  pub laid-unwanted : (wanted : Bool) → wanted ≡ false → Laid before before place (when wanted unit) place
+  pub laid-unwanted : (wanted : Bool) → wanted ≡ false → LaidAt before before place (when wanted unit) place
   unfolding when
   laid-unwanted wanted e =
       record {
@@ -124,7 +124,7 @@ module _ (before : List ℕ) (place unit : ℕ) where
       }
 
   -- a unit that is no quote is stored as it is
-  pub laid-other : (unit ≡ 0x22 → ⊥) → place < length before → Laid before (set before place unit) place (escaped unit) (place + 1)
+  pub laid-other : (unit ≡ 0x22 → ⊥) → place < length before → LaidAt before (set before place unit) place (escaped unit) (place + 1)
   unfolding escaped
   laid-other e h =
       record {
@@ -133,7 +133,7 @@ module _ (before : List ℕ) (place unit : ℕ) where
       }
 
   -- a quote of a field is stored twice
-  pub laid-quote : unit ≡ 0x22 → place + 2 ≤ length before → Laid before (set (set before place 0x22) (place + 1) 0x22) place (escaped unit) (place + 2)
+  pub laid-quote : unit ≡ 0x22 → place + 2 ≤ length before → LaidAt before (set (set before place 0x22) (place + 1) 0x22) place (escaped unit) (place + 2)
   unfolding escaped laidAt
   laid-quote e h =
       record {
@@ -182,10 +182,10 @@ module _ (field : List ℕ) (i : ℕ) (h : i < length field) where
 
   -- one unit more is laid
   pub laid-turn : {before between after : List ℕ} {place at r : ℕ} → place + length (escapedField field) ≤ length before
-      → Laid before between place (escapedField (take i field)) at → Laid between after at (escaped (getD field i 0)) r
-      → Laid before after place (escapedField (take (i + 1) field)) r
+      → LaidAt before between place (escapedField (take i field)) at → LaidAt between after at (escaped (getD field i 0)) r
+      → LaidAt before after place (escapedField (take (i + 1) field)) r
   laid-turn {before} {between} {after} {place} {at} {r} fits a b =
-      subst (λ (l : List ℕ). Laid before after place l r) (sym escaped-turn) (both (omega (arith, escaped-rest)) a b)
+      subst (λ (l : List ℕ). LaidAt before after place l r) (sym escaped-turn) (both (omega (arith, escaped-rest)) a b)
 
   -- and counted
   pub count-turn : (count r : ℕ) → length (escapedField (take i field)) ≡ i + count → length (escaped (getD field i 0)) ≡ 1 + r
@@ -199,14 +199,14 @@ pub count-end : (field : List ℕ) (i count : ℕ) → length (escapedField (tak
 count-end field i count e h k = ap (λ (l : List ℕ). length (escapedField l)) (sym (take-all i field h)) ∙ omega arith
 
 -- before the first unit of a field nothing is laid
-pub laid-start : (before field : List ℕ) (place : ℕ) → Laid before before place (escapedField (take 0 field)) place
+pub laid-start : (before field : List ℕ) (place : ℕ) → LaidAt before before place (escapedField (take 0 field)) place
 unfolding escapedField
 laid-start before field place = record { lent = sym (laid-nothing before place); next = omega arith }
 
 -- behind the last unit of a field all of it is laid
-pub laid-whole : {before after : List ℕ} {place at : ℕ} (field : List ℕ) (i : ℕ) → length field ≤ i → Laid before after place (escapedField (take i field)) at
-    → Laid before after place (escapedField field) at
-laid-whole {before} {after} {place} {at} field i h a = subst (λ (l : List ℕ). Laid before after place (escapedField l) at) (take-all i field h) a
+pub laid-whole : {before after : List ℕ} {place at : ℕ} (field : List ℕ) (i : ℕ) → length field ≤ i → LaidAt before after place (escapedField (take i field)) at
+    → LaidAt before after place (escapedField field) at
+laid-whole {before} {after} {place} {at} field i h a = subst (λ (l : List ℕ). LaidAt before after place (escapedField l) at) (take-all i field h) a
 
 -- ---- whether a field has to be quoted
 module _ (field : List ℕ) (i : ℕ) (so-far : needsQuotes field ≡ needsQuotes (drop i field)) (h : i < length field) where
@@ -259,14 +259,14 @@ in-order begun closed field =
     ∙ ap (λ (l : List ℕ). pick begun (0x2C ∷ []) [] ++ (l ++ breakIf closed)) (field-in-order field (needsQuotes field) refl)
 
 -- how many units there are
-pub break-length : (wanted : Bool) → length (breakIf wanted) ≡ 2 * oneIf wanted
+pub break-length : (wanted : Bool) → length (breakIf wanted) ≡ 2 * countIf wanted
 unfolding breakIf
 break-length true = refl
 break-length false = refl
 
 module _ (quotes : Bool) (field : List ℕ) where
   -- the length of a field's text: its units with doubled quotes, and two if it is in quotes
-  pub quotes-length : length (inQuotes quotes field) ≡ length (escapedField field) + 2 * oneIf quotes
+  pub quotes-length : length (inQuotes quotes field) ≡ length (escapedField field) + 2 * countIf quotes
   unfolding inQuotes
   quotes-length =
       omega (
@@ -277,7 +277,7 @@ module _ (quotes : Bool) (field : List ℕ) where
       )
 
   -- the length of a call's text: the field's units with doubled quotes, and what stands before and behind them
-  pub order-length : (begun closed : Bool) → length (inOrder begun quotes closed field) ≡ length (escapedField field) + (oneIf begun + 2 * oneIf quotes + 2 * oneIf closed)
+  pub order-length : (begun closed : Bool) → length (inOrder begun quotes closed field) ≡ length (escapedField field) + (countIf begun + 2 * countIf quotes + 2 * countIf closed)
   unfolding inOrder
   order-length begun closed =
       omega (
@@ -291,8 +291,8 @@ module _ (quotes : Bool) (field : List ℕ) where
 
 -- three parts, one behind the other
 pub quotes-laid : {before a b after : List ℕ} {place p q r : ℕ} (quotes : Bool) (field : List ℕ) → place + length (inQuotes quotes field) ≤ length before
-    → Laid before a place (when quotes 0x22) p → Laid a b p (escapedField field) q → Laid b after q (when quotes 0x22) r → length a ≡ length before
-    → Laid before after place (inQuotes quotes field) r
+    → LaidAt before a place (when quotes 0x22) p → LaidAt a b p (escapedField field) q → LaidAt b after q (when quotes 0x22) r → length a ≡ length before
+    → LaidAt before after place (inQuotes quotes field) r
 unfolding inQuotes
 quotes-laid quotes field h x y z same =
     both (omega (arith, when-length quotes 0x22, quotes-length quotes field)) x
@@ -300,8 +300,8 @@ quotes-laid quotes field h x y z same =
 
 -- the comma, the field and the line break, laid one behind the other from the front, are the call's text
 pub part-laid : {before a b after : List ℕ} {p q r : ℕ} (begun quotes closed : Bool) (field : List ℕ) → length (inOrder begun quotes closed field) ≤ length before
-    → Laid before a 0 (when begun 0x2C) p → Laid a b p (inQuotes quotes field) q → Laid b after q (breakIf closed) r → length a ≡ length before
-    → Laid before after 0 (inOrder begun quotes closed field) r
+    → LaidAt before a 0 (when begun 0x2C) p → LaidAt a b p (inQuotes quotes field) q → LaidAt b after q (breakIf closed) r → length a ≡ length before
+    → LaidAt before after 0 (inOrder begun quotes closed field) r
 unfolding inOrder
 part-laid begun quotes closed field h x y z same =
     both (omega (arith, when-length begun 0x2C, order-length quotes field begun closed)) x
@@ -310,7 +310,7 @@ part-laid begun quotes closed field h x y z same =
 -- a line break
 module _ (before : List ℕ) (place : ℕ) (wanted : Bool) where
   -- a line break that is wanted is stored as 000D 000A
-  pub break-laid : wanted ≡ true → place + 2 ≤ length before → Laid before (set (set before place 0x0D) (place + 1) 0x0A) place (breakIf wanted) (place + 2)
+  pub break-laid : wanted ≡ true → place + 2 ≤ length before → LaidAt before (set (set before place 0x0D) (place + 1) 0x0A) place (breakIf wanted) (place + 2)
   unfolding breakIf laidAt
   break-laid e h =
       record {
@@ -322,7 +322,7 @@ module _ (before : List ℕ) (place : ℕ) (wanted : Bool) where
       }
 
   -- a line break that is not wanted: nothing is stored, and the place stays
-  pub break-unwanted : wanted ≡ false → Laid before before place (breakIf wanted) place
+  pub break-unwanted : wanted ≡ false → LaidAt before before place (breakIf wanted) place
   unfolding breakIf
   break-unwanted e =
       record {
@@ -332,7 +332,7 @@ module _ (before : List ℕ) (place : ℕ) (wanted : Bool) where
 
 -- ---- the call: what was counted is the part's length
 module _ (begun quotes closed : Bool) (field before : List ℕ) (count more : ℕ) (fits : Bool) (q : quotes ≡ needsQuotes field)
-    (n : length (escapedField field) ≡ length field + count) (m : more ≡ oneIf begun + 2 * oneIf quotes + 2 * oneIf closed)
+    (n : length (escapedField field) ≡ length field + count) (m : more ≡ countIf begun + 2 * countIf quotes + 2 * countIf closed)
     (f : fits ≡ leb (length field + count + more) (length before)) where
   part-is : inOrder begun quotes closed field ≡ partText begun field closed
   part-is = ap (λ (b : Bool). inOrder begun b closed field) q ∙ in-order begun closed field
@@ -351,6 +351,6 @@ module _ (begun quotes closed : Bool) (field before : List ℕ) (count more : �
   part-room e = let s : length field + count + more ≤ length before = leb-true _ _ (sym f ∙ e) in omega (arith, part-size)
 
   -- the count is within the room and the text is laid: the promise holds with its length
-  pub part-whole : {after : List ℕ} {r : ℕ} → fits ≡ true → Laid before after 0 (inOrder begun quotes closed field) r → PutAs (partText begun field closed) (Units r) before after
+  pub part-whole : {after : List ℕ} {r : ℕ} → fits ≡ true → LaidAt before after 0 (inOrder begun quotes closed field) r → PutAs (partText begun field closed) (Units r) before after
   part-whole {after} {r} e laid =
       subst (λ (l : List ℕ). PutAs l (Units r) before after) part-is (laid-all (inOrder begun quotes closed field) before after r (part-room e) laid)

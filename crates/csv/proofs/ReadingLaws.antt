@@ -9,8 +9,8 @@ use lib.Dec.{eqb}
 use lib.Seq.{append-snoc}
 use borrow.Author.Tests.{eqb-true}
 use Rattle.codepage.specs.CodePage.{pick}
-use Rattle.csv.specs.Csv.{isSpecial, needsQuotes, escaped, escapedField, quoted, fieldText, Row, othersText, rowText, fileText}
-use Rattle.csv.specs.Reading.{Mark, quote, comma, return, feed, other, mark, State, record-begins, field-begins, plain, in-quotes, behind-quote, line-breaks, Rest, broken, no-more, going, withUnit, behindComma, behindBreak, step, ended, reading, rowsIn, rowsOf}
+use Rattle.csv.specs.Csv.{isSpecial, needsQuotes, escaped, escapedField, quoted, fieldText, CsvRecord, othersText, rowText, fileText}
+use Rattle.csv.specs.Reading.{Mark, quote, comma, return, feed, other, mark, State, record-begins, field-begins, plain, in-quotes, behind-quote, line-breaks, Rest, broken, no-more, going, withUnit, behindComma, behindBreak, step, atTextEnd, reading, rowsIn, rowsOf}
 use Rattle.csv.proofs.CsvLaws.{append-none, or-false}
 
 -- ---- units
@@ -37,7 +37,7 @@ withUnits : List ℕ → Rest → Rest
 withUnits [] rest = rest
 withUnits (unit ∷ units) rest = withUnit unit (withUnits units rest)
 
-with-all : (units : List ℕ) (others : List (List ℕ)) (rows : List Row) → withUnits units (going [] others rows) ≡ going units others rows
+with-all : (units : List ℕ) (others : List (List ℕ)) (rows : List CsvRecord) → withUnits units (going [] others rows) ≡ going units others rows
 unfolding withUnits withUnit
 with-all [] others rows = refl
 with-all (unit ∷ units) others rows = ap (withUnit unit) (with-all units others rows)
@@ -136,13 +136,13 @@ unfolding othersText delimiter
 others-begin [] text = record { is-comma = false; behind = 0x0A ∷ text; here = refl }
 others-begin (field ∷ others) text = record { is-comma = true; behind = (fieldText field ++ othersText others) ++ text; here = refl }
 
-break-back : (rest : Rest) (rows : List Row) → rowsIn rest ≡ some rows → behindBreak rest ≡ going [] [] rows
+break-back : (rest : Rest) (rows : List CsvRecord) → rowsIn rest ≡ some rows → behindBreak rest ≡ going [] [] rows
 unfolding rowsIn behindBreak
 break-back broken rows e = let z : _≡_ {A = ℕ} 0 1 = cc in absurd (omega arith)
 break-back no-more rows e = cc
 break-back (going field others more) rows e = cc
 
-module _ (text : List ℕ) (rows : List Row) (behind : rowsIn (reading record-begins text) ≡ some rows) where
+module _ (text : List ℕ) (rows : List CsvRecord) (behind : rowsIn (reading record-begins text) ≡ some rows) where
   fields-back : {s : State} → Begins s → (field : List ℕ) (others : List (List ℕ)) → reading plain (othersText others ++ text) ≡ going [] others rows
       → reading s ((fieldText field ++ othersText others) ++ text) ≡ going field others rows
   fields-back {s} b field others e =
@@ -160,12 +160,12 @@ module _ (text : List ℕ) (rows : List Row) (behind : rowsIn (reading record-be
   others-back (field ∷ others) = ap behindComma (fields-back of-field field others (others-back others))
 
   -- A RECORD splits back into its fields.
-  pub row-back : (row : Row) → rowsIn (reading record-begins (rowText row ++ text)) ≡ some (row ∷ rows)
+  pub row-back : (row : CsvRecord) → rowsIn (reading record-begins (rowText row ++ text)) ≡ some (row ∷ rows)
   unfolding rowText rowsIn
   row-back row = ap rowsIn (fields-back of-record (row .first) (row .others) (others-back (row .others)))
 
 -- THE ROUND TRIP.
-pub file-back : (rows : List Row) → rowsOf (fileText rows) ≡ some rows
-unfolding rowsOf fileText reading ended rowsIn
+pub file-back : (rows : List CsvRecord) → rowsOf (fileText rows) ≡ some rows
+unfolding rowsOf fileText reading atTextEnd rowsIn
 file-back [] = refl
 file-back (row ∷ rows) = row-back (fileText rows) rows (file-back rows) row

@@ -32,7 +32,7 @@ unfoldable pub fieldText : (field : List ℕ) → List ℕ
 fieldText field = pick (needsQuotes field) (quoted field) field
 
 -- A record has at least one field.
-pub record Row : Type 0 where
+pub record CsvRecord : Type 0 where
   pub first : List ℕ
   pub others : List (List ℕ)
 
@@ -46,10 +46,10 @@ othersText [] = lineEnd
 othersText (field ∷ others) = 0x2C ∷ (fieldText field ++ othersText others)
 
 -- a record with its line break
-unfoldable pub rowText : Row → List ℕ
+unfoldable pub rowText : CsvRecord → List ℕ
 rowText row = fieldText (row .first) ++ othersText (row .others)
 
 -- THE FILE of some records.
-unfoldable pub fileText : List Row → List ℕ
+unfoldable pub fileText : List CsvRecord → List ℕ
 fileText [] = []
 fileText (row ∷ rows) = rowText row ++ fileText rows

@@ -9,7 +9,7 @@ use mathlib.Core.Option.{Option, none, some}
 use Prim.Native.Nat.{ℕ}
 use lib.Dec.{eqb}
 use Rattle.codepage.specs.CodePage.{pick}
-use Rattle.csv.specs.Csv.{Row}
+use Rattle.csv.specs.Csv.{CsvRecord}
 
 -- What a unit is in the grammar.
 pub data Mark : Type 0 where
@@ -38,7 +38,7 @@ pub data State : Type 0 where
 pub data Rest : Type 0 where
   broken : Rest
   no-more : Rest
-  going : (field : List ℕ) → (others : List (List ℕ)) → (rows : List Row) → Rest
+  going : (field : List ℕ) → (others : List (List ℕ)) → (rows : List CsvRecord) → Rest
 
 -- a unit of the field at hand, in front of what the rest says of that field
 unfoldable pub withUnit : (unit : ℕ) → Rest → Rest
@@ -92,25 +92,25 @@ step behind-quote other unit rest = broken
 step line-breaks other unit rest = broken
 
 -- the text's end: allowed only where a record would begin
-unfoldable pub ended : State → Rest
-ended record-begins = no-more
-ended field-begins = broken
-ended plain = broken
-ended in-quotes = broken
-ended behind-quote = broken
-ended line-breaks = broken
+unfoldable pub atTextEnd : State → Rest
+atTextEnd record-begins = no-more
+atTextEnd field-begins = broken
+atTextEnd plain = broken
+atTextEnd in-quotes = broken
+atTextEnd behind-quote = broken
+atTextEnd line-breaks = broken
 
 -- what a text says from a state on
 unfoldable pub reading : State → (text : List ℕ) → Rest
-reading state [] = ended state
+reading state [] = atTextEnd state
 reading state (unit ∷ text) = step state (mark unit) unit (λ next. reading next text)
 
 -- the records of what a text says, from the beginning of a record on
-unfoldable pub rowsIn : Rest → Option (List Row)
+unfoldable pub rowsIn : Rest → Option (List CsvRecord)
 rowsIn broken = none
 rowsIn no-more = some []
 rowsIn (going field others rows) = some (record { first = field; others = others } ∷ rows)
 
 -- THE RECORDS that a text says, or none if it breaks the grammar.
-unfoldable pub rowsOf : (text : List ℕ) → Option (List Row)
+unfoldable pub rowsOf : (text : List ℕ) → Option (List CsvRecord)
 rowsOf text = rowsIn (reading record-begins text)

@@ -13,14 +13,14 @@ unfoldable pub laidAt : (before : List ℕ) → (place : ℕ) → (units : List 
 laidAt before place units = (take place before ++ units) ++ drop (place + length units) before
 
 -- units were laid at a place, and r is the place behind them
-pub record Laid (before after : List ℕ) (place : ℕ) (units : List ℕ) (r : ℕ) : Type 0 where
+pub record LaidAt (before after : List ℕ) (place : ℕ) (units : List ℕ) (r : ℕ) : Type 0 where
   pub lent : after ≡ laidAt before place units
   pub next : r ≡ place + length units
 
 -- 1 for a unit that is wanted, else 0
-abbrev pub oneIf : Bool → ℕ
-oneIf true = 1
-oneIf false = 0
+abbrev pub countIf : Bool → ℕ
+countIf true = 1
+countIf false = 0
 
 -- a unit, if it is wanted
 unfoldable pub when : Bool → (unit : ℕ) → List ℕ

@@ -11,7 +11,7 @@ ghost use lib.Dec.{leb};
 ghost use lib.ListN.{length};
 ghost use Rattle.csv.specs.Csv.{isSpecial, needsQuotes, escaped, escapedField};
 ghost use Rattle.csv.specs.Records.{closes, breakIf, partText, PutAs};
-ghost use Rattle.csv.specs.Steps.{Laid, oneIf, when, inQuotes, inOrder};
+ghost use Rattle.csv.specs.Steps.{LaidAt, countIf, when, inQuotes, inOrder};
 use fields::End;
 
 // How many units a call wrote, or that they do not fit the slice, which is then as before.
@@ -84,7 +84,7 @@ fn quote_count(field: &[u16]) -> usize
 
 // 1 for a unit that is wanted, else 0.
 fn one_if(wanted: bool) -> usize
-    ensures { λ r. ⌜ r ≡ oneIf wanted ⌝ }
+    ensures { λ r. ⌜ r ≡ countIf wanted ⌝ }
 {
     if wanted {
         return 1;
@@ -94,7 +94,7 @@ fn one_if(wanted: bool) -> usize
 
 // How many units stand before and behind a field.
 fn around(begun: bool, quotes: bool, closed: bool) -> usize
-    ensures { λ r. ⌜ r ≡ oneIf begun + 2 * oneIf quotes + 2 * oneIf closed ⌝ }
+    ensures { λ r. ⌜ r ≡ countIf begun + 2 * countIf quotes + 2 * countIf closed ⌝ }
 {
     one_if(begun) + 2 * one_if(quotes) + 2 * one_if(closed)
 }
@@ -115,7 +115,7 @@ fn fit(a: usize, b: usize, c: usize, room: usize) -> bool
 // Lays a unit at a place, if it is wanted, and answers the place behind it.
 fn lay_if(wanted: bool, unit: u16, out: &mut [u16], place: usize) -> usize
     requires { ⌜ place + length (when wanted unit) ≤ length (now out) ⌝ }
-    ensures { λ r. ⌜ Laid (now (out .entry)) (now (out .exit)) place (when wanted unit) r ⌝ }
+    ensures { λ r. ⌜ LaidAt (now (out .entry)) (now (out .exit)) place (when wanted unit) r ⌝ }
 {
     if wanted {
         out[place] = unit;
@@ -127,7 +127,7 @@ fn lay_if(wanted: bool, unit: u16, out: &mut [u16], place: usize) -> usize
 // Lays a unit as it stands inside quotes.
 fn lay_escaped(unit: u16, out: &mut [u16], place: usize) -> usize
     requires { ⌜ place + length (escaped unit) ≤ length (now out) ⌝ }
-    ensures { λ r. ⌜ Laid (now (out .entry)) (now (out .exit)) place (escaped unit) r ⌝ }
+    ensures { λ r. ⌜ LaidAt (now (out .entry)) (now (out .exit)) place (escaped unit) r ⌝ }
 {
     if unit == QUOTE {
         out[place] = QUOTE;
@@ -141,7 +141,7 @@ fn lay_escaped(unit: u16, out: &mut [u16], place: usize) -> usize
 // Lays a field with its quotes doubled.
 fn lay_field(field: &[u16], out: &mut [u16], place: usize) -> usize
     requires { ⌜ place + length (escapedField (now field)) ≤ length (now out) ⌝ }
-    ensures { λ r. ⌜ Laid (now (out .entry)) (now (out .exit)) place (escapedField (now (field .entry))) r ⌝ }
+    ensures { λ r. ⌜ LaidAt (now (out .entry)) (now (out .exit)) place (escapedField (now (field .entry))) r ⌝ }
 {
     let mut at = place;
     let mut i = 0;
@@ -155,7 +155,7 @@ fn lay_field(field: &[u16], out: &mut [u16], place: usize) -> usize
 // Lays a field, in quotes if it has to be quoted.
 fn lay_quoted(quotes: bool, field: &[u16], out: &mut [u16], place: usize) -> usize
     requires { ⌜ place + length (inQuotes quotes (now field)) ≤ length (now out) ⌝ }
-    ensures { λ r. ⌜ Laid (now (out .entry)) (now (out .exit)) place (inQuotes quotes (now (field .entry))) r ⌝ }
+    ensures { λ r. ⌜ LaidAt (now (out .entry)) (now (out .exit)) place (inQuotes quotes (now (field .entry))) r ⌝ }
 {
     let begin = lay_if(quotes, QUOTE, out, place);
     let end = lay_field(field, out, begin);
@@ -165,7 +165,7 @@ fn lay_quoted(quotes: bool, field: &[u16], out: &mut [u16], place: usize) -> usi
 // Lays a line break, if it is wanted.
 fn lay_break(wanted: bool, out: &mut [u16], place: usize) -> usize
     requires { ⌜ place + length (breakIf wanted) ≤ length (now out) ⌝ }
-    ensures { λ r. ⌜ Laid (now (out .entry)) (now (out .exit)) place (breakIf wanted) r ⌝ }
+    ensures { λ r. ⌜ LaidAt (now (out .entry)) (now (out .exit)) place (breakIf wanted) r ⌝ }
 {
     if wanted {
         out[place] = CARRIAGE_RETURN;
@@ -178,7 +178,7 @@ fn lay_break(wanted: bool, out: &mut [u16], place: usize) -> usize
 // Lays a field with all that is before and behind it.
 fn lay_part(begun: bool, quotes: bool, closed: bool, field: &[u16], out: &mut [u16]) -> usize
     requires { ⌜ length (inOrder begun quotes closed (now field)) ≤ length (now out) ⌝ }
-    ensures { λ r. ⌜ Laid (now (out .entry)) (now (out .exit)) 0 (inOrder begun quotes closed (now (field .entry))) r ⌝ }
+    ensures { λ r. ⌜ LaidAt (now (out .entry)) (now (out .exit)) 0 (inOrder begun quotes closed (now (field .entry))) r ⌝ }
 {
     let begin = lay_if(begun, COMMA, out, 0);
     let end = lay_quoted(quotes, field, out, begin);

@@ -13,8 +13,8 @@ use Rattle.codepage.specs.CodePage.{pick}
 use Rattle.fields.specs.declared.End.{End}
 use Rattle.fields.specs.declared.End.the-variants.{Bar, LineFeed, Text}
 use Rattle.fields.specs.declared.Held.{Held}
-use Rattle.fields.specs.Fields.{Field, separator, prepend, before, fieldsOf, isText, separated, fresh, readBy}
-use Rattle.fields.specs.Cuttings.{Entry, AllMeet, givenBy, Progress, opened, next, play, Allowed, AllAllowed, Trace, NoneLast}
+use Rattle.fields.specs.Fields.{Field, separator, prepend, before, fieldsOf, isText, separated, freshHeld, readBy}
+use Rattle.fields.specs.Cuttings.{FieldEntry, AllFieldsMeet, givenBy, Progress, openedCutting, nextProgress, playFields, FieldAllowed, AllFieldsAllowed, FieldTrace, NoneLast}
 use Rattle.fields.proofs.EveryCutting.{Kept, kept-start, kept-call, every-cutting}
 
 -- ---- the law
@@ -55,23 +55,23 @@ separated-first (u ∷ text) more = first-before u (separator u) (fieldsOf text)
 
 -- ---- lists of calls
 -- A list of calls on a beginning, none marked last, is a list of calls on the whole, and gives the same.
-longer : (text more : List ℕ) (es : List Entry) (state : Held) (buffer : List ℕ) (p q : Progress) → Kept text state buffer p → q .position ≡ p .position → q .given ≡ p .given
-    → NoneLast es → AllAllowed text p es → AllMeet state buffer es → AllAllowed (text ++ more) q es × (play (text ++ more) q es .given ≡ play text p es .given)
-unfolding NoneLast AllAllowed Allowed AllMeet play next
+longer : (text more : List ℕ) (es : List FieldEntry) (state : Held) (buffer : List ℕ) (p q : Progress) → Kept text state buffer p → q .position ≡ p .position → q .given ≡ p .given
+    → NoneLast es → AllFieldsAllowed text p es → AllFieldsMeet state buffer es → AllFieldsAllowed (text ++ more) q es × (playFields (text ++ more) q es .given ≡ playFields text p es .given)
+unfolding NoneLast AllFieldsAllowed FieldAllowed AllFieldsMeet playFields nextProgress
 longer text more [] state buffer p q k a b going ok w = (tt, b)
 longer text more (e ∷ es) state buffer p q k a b going ok w =
     let rest : List ℕ = ok .0 .0 in
     let here : drop (q .position) (text ++ more) ≡ e .block ++ (rest ++ more) =
     ap (λ (n : ℕ). drop n (text ++ more)) a ∙ drop-append-le (p .position) text more (k .within) ∙ ap (λ (l : List ℕ). l ++ more) (ok .0 .1) ∙ append-assoc (e .block) rest more in
     let later =
-    longer text more es (e .outcome .state) (e .buffer) (next text p e) (next (text ++ more) q e) (kept-call text state buffer p e rest k (ok .0 .1) (ok .0 .2) (w .0))
+    longer text more es (e .outcome .state) (e .buffer) (nextProgress text p e) (nextProgress (text ++ more) q e) (kept-call text state buffer p e rest k (ok .0 .1) (ok .0 .2) (w .0))
     (ap (λ (n : ℕ). n + readBy (e .outcome .answer)) a) (ap (λ (l : List Field). l ++ givenBy (e .outcome .answer) (e .part)) b) (going .1) (ok .1) (w .1) in
     (((rest ++ more, here, λ l. absurd (false≢true (sym (going .0) ∙ l))), later .0), later .1)
 
 -- FOR THE IMPORT: the fields given on a beginning of a text by calls not marked last are the first of the whole text's.
-pub every-beginning : (text more buffer : List ℕ) (es : List Entry) → Trace text buffer es → NoneLast es
-    → (others : List Field) × (fieldsOf (text ++ more) ≡ play text opened es .given ++ others)
+pub every-beginning : (text more buffer : List ℕ) (es : List FieldEntry) → FieldTrace text buffer es → NoneLast es
+    → (others : List Field) × (fieldsOf (text ++ more) ≡ playFields text openedCutting es .given ++ others)
 every-beginning text more buffer es t going =
-    let w = longer text more es fresh buffer opened opened (kept-start text buffer) refl refl going (t .allowed) (t .met) in
+    let w = longer text more es freshHeld buffer openedCutting openedCutting (kept-start text buffer) refl refl going (t .allowed) (t .met) in
     let whole = every-cutting (text ++ more) buffer es (record { allowed = w .0; met = t .met }) .begins in
     (whole .0, whole .1 ∙ ap (λ (l : List Field). l ++ whole .0) (w .1))

@@ -16,13 +16,13 @@ use Rattle.fields.specs.declared.Place.the-variants.{Buffer, Block}
 use Rattle.fields.specs.declared.Refusal.{Refusal}
 use Rattle.fields.specs.declared.Answer.{Answer}
 use Rattle.fields.specs.declared.Answer.the-variants.{Field as FieldFound, Incomplete, Refused}
-use Rattle.fields.specs.Fields.{unitsIn, separatorIn, endIn, fieldLimit, refusal, readWith, overFrom, foundCall, heldCall, refusedCall, acceptedCall, unlessRefused, fieldCall, Bounded}
+use Rattle.fields.specs.Fields.{fieldUnits, separatorIn, endIn, fieldLimit, fieldRefusal, readWith, overFrom, foundCall, heldCall, refusedFieldCall, acceptedFieldCall, unlessFieldRefused, fieldCall, Bounded}
 use Rattle.fields.proofs.FieldLaws.{units-all, split}
 use Rattle.fields.proofs.EveryCutting.{accepted-fits, separator-read, or-cases}
 
 module _ (held : ℕ) (buffer block : List ℕ) (last : Bool) where
-  refused-bounded : (why : Refusal) → Bounded held block (refusedCall held buffer why)
-  unfolding refusedCall
+  refused-bounded : (why : Refusal) → Bounded held block (refusedFieldCall held buffer why)
+  unfolding refusedFieldCall
   refused-bounded why =
       record {
         read-within = omega arith;
@@ -55,49 +55,49 @@ module _ (held : ℕ) (buffer block : List ℕ) (last : Bool) where
       countOf : Answer → ℕ
       countOf (FieldFound found) = found .count
       countOf (Incomplete read) = 0
-      countOf (Refused refusal) = 0
+      countOf (Refused why) = 0
 
-  found-bounded : (end : End) → readWith end (length (unitsIn block)) ≤ length block → (0 < length block → 0 < readWith end (length (unitsIn block)))
-      → held + length (unitsIn block) ≤ fieldLimit → Bounded held block (foundCall held buffer (unitsIn block) end)
+  found-bounded : (end : End) → readWith end (length (fieldUnits block)) ≤ length block → (0 < length block → 0 < readWith end (length (fieldUnits block)))
+      → held + length (fieldUnits block) ≤ fieldLimit → Bounded held block (foundCall held buffer (fieldUnits block) end)
   unfolding foundCall
   found-bounded end a b fits = by (eqb held 0)
     where
       by : (t : Bool) → Bounded held block
-          (pick t (record { answer = FieldFound (record { end = end; place = Block; count = length (unitsIn block); read = readWith end (length (unitsIn block)) }); held = 0; buffer = buffer })
+          (pick t (record { answer = FieldFound (record { end = end; place = Block; count = length (fieldUnits block); read = readWith end (length (fieldUnits block)) }); held = 0; buffer = buffer })
           (record {
-            answer = FieldFound (record { end = end; place = Buffer; count = held + length (unitsIn block); read = readWith end (length (unitsIn block)) });
+            answer = FieldFound (record { end = end; place = Buffer; count = held + length (fieldUnits block); read = readWith end (length (fieldUnits block)) });
             held = 0;
-            buffer = overFrom held buffer (unitsIn block);
+            buffer = overFrom held buffer (fieldUnits block);
           }))
-      by true = one-bounded end Block (length (unitsIn block)) _ buffer a b (omega arith)
-      by false = one-bounded end Buffer (held + length (unitsIn block)) _ (overFrom held buffer (unitsIn block)) a b fits
+      by true = one-bounded end Block (length (fieldUnits block)) _ buffer a b (omega arith)
+      by false = one-bounded end Buffer (held + length (fieldUnits block)) _ (overFrom held buffer (fieldUnits block)) a b fits
 
-  accepted-bounded : (o : Option End) → refusal held buffer block ≡ none → endIn held block last ≡ o → Bounded held block (acceptedCall held buffer block o)
+  accepted-bounded : (o : Option End) → fieldRefusal held buffer block ≡ none → endIn held block last ≡ o → Bounded held block (acceptedFieldCall held buffer block o)
   unfolding endIn
   accepted-bounded o a e = by-end (or-cases (separatorIn block) (last && ltb 0 (held + length block)) o e)
     where
-      fits : held + length (unitsIn block) ≤ fieldLimit
+      fits : held + length (fieldUnits block) ≤ fieldLimit
       fits = accepted-fits held buffer block a .1
 
-      by-test : (t : Bool) → separatorIn block ≡ none → Bounded held block (acceptedCall held buffer block (pick t (some Text) none))
+      by-test : (t : Bool) → separatorIn block ≡ none → Bounded held block (acceptedFieldCall held buffer block (pick t (some Text) none))
       by-test true s =
-          let n : length (unitsIn block) ≡ length block = ap length (units-all block s) in
+          let n : length (fieldUnits block) ≡ length block = ap length (units-all block s) in
           found-bounded Text (omega arith) (λ h. omega arith) fits
-      by-test false s = let n : length (unitsIn block) ≡ length block = ap length (units-all block s) in held-bounded (omega (arith, fits))
+      by-test false s = let n : length (fieldUnits block) ≡ length block = ap length (units-all block s) in held-bounded (omega (arith, fits))
 
       by-end : ((end : End) × (separatorIn block ≡ some end) × (o ≡ some end)) ⊎ ((separatorIn block ≡ none) × (o ≡ pick (last && ltb 0 (held + length block)) (some Text) none))
-          → Bounded held block (acceptedCall held buffer block o)
+          → Bounded held block (acceptedFieldCall held buffer block o)
       by-end (inl (end, s, q)) =
           let w = split block end s in
-          let n : readWith end (length (unitsIn block)) ≡ length (unitsIn block) + 1 = separator-read (w .unit) end (length (unitsIn block)) (w .is-end) in
-          let size : length block ≡ length (unitsIn block) + suc (length (w .behind)) = ap length (w .parts) ∙ length-append (unitsIn block) (w .unit ∷ w .behind) in
-          subst (λ (x : Option End). Bounded held block (acceptedCall held buffer block x)) (sym q) (found-bounded end (omega arith) (λ h. omega arith) fits)
-      by-end (inr (s, q)) = subst (λ (x : Option End). Bounded held block (acceptedCall held buffer block x)) (sym q) (by-test (last && ltb 0 (held + length block)) s)
+          let n : readWith end (length (fieldUnits block)) ≡ length (fieldUnits block) + 1 = separator-read (w .unit) end (length (fieldUnits block)) (w .is-end) in
+          let size : length block ≡ length (fieldUnits block) + suc (length (w .behind)) = ap length (w .parts) ∙ length-append (fieldUnits block) (w .unit ∷ w .behind) in
+          subst (λ (x : Option End). Bounded held block (acceptedFieldCall held buffer block x)) (sym q) (found-bounded end (omega arith) (λ h. omega arith) fits)
+      by-end (inr (s, q)) = subst (λ (x : Option End). Bounded held block (acceptedFieldCall held buffer block x)) (sym q) (by-test (last && ltb 0 (held + length block)) s)
 
   pub every-call-bounded : Bounded held block (fieldCall held buffer block last)
   unfolding fieldCall
-  every-call-bounded = by (refusal held buffer block) refl
+  every-call-bounded = by (fieldRefusal held buffer block) refl
     where
-      by : (o : Option Refusal) → refusal held buffer block ≡ o → Bounded held block (unlessRefused held buffer o (acceptedCall held buffer block (endIn held block last)))
+      by : (o : Option Refusal) → fieldRefusal held buffer block ≡ o → Bounded held block (unlessFieldRefused held buffer o (acceptedFieldCall held buffer block (endIn held block last)))
       by none e = accepted-bounded (endIn held block last) e refl
       by (some why) e = refused-bounded why

@@ -21,8 +21,8 @@ use Rattle.fields.specs.declared.Refusal.the-variants.{BufferTooShort, B
 use Rattle.fields.specs.declared.Answer.the-variants.{Field as FieldFound, Refused}
 use Rattle.fields.specs.declared.Held.{Held}
 use Rattle.fields.specs.declared.Outcome.{Outcome}
-use Rattle.fields.specs.Fields.{fieldLimit, separator, unitsBefore, unitsIn, eitherEnd, separatorIn, endIn, refusal, fresh, readWith, overFrom, foundCall, heldCall, refusedCall, fieldCall, Answered}
-use Rattle.fields.specs.Steps.{isSeparator, endOf, Passed, Scanned}
+use Rattle.fields.specs.Fields.{fieldLimit, separator, unitsBefore, fieldUnits, eitherEnd, separatorIn, endIn, fieldRefusal, freshHeld, readWith, overFrom, foundCall, heldCall, refusedFieldCall, fieldCall, FieldAnswered}
+use Rattle.fields.specs.Steps.{isSeparator, separatorEnd, NoSeparator, Scanned}
 
 -- ---- separators
 pub no-separator : (u : ℕ) → isSeparator u ≡ false → separator u ≡ none
@@ -34,7 +34,7 @@ no-separator u e = by (eqb u 0x7C) (eqb u 0x0A) e
     by false true e = absurd (true≢false e)
     by false false e = refl
 
-pub is-separator : (u : ℕ) → isSeparator u ≡ true → separator u ≡ some (endOf u)
+pub is-separator : (u : ℕ) → isSeparator u ≡ true → separator u ≡ some (separatorEnd u)
 unfolding separator
 is-separator u e = by (eqb u 0x7C) (eqb u 0x0A) e
   where
@@ -44,43 +44,43 @@ is-separator u e = by (eqb u 0x7C) (eqb u 0x0A) e
     by false false e = absurd (false≢true e)
 
 -- ---- the scan: the units passed are no separators
-module _ (block : List ℕ) (i : ℕ) (so-far : length (unitsIn block) ≡ i + length (unitsIn (drop i block))) where
+module _ (block : List ℕ) (i : ℕ) (so-far : length (fieldUnits block) ≡ i + length (fieldUnits (drop i block))) where
   -- a separator at the place: the field's units in the block end there
-  pub scan-stop : i < length block → isSeparator (getD block i 0) ≡ true → i ≡ length (unitsIn block)
-  unfolding unitsIn
+  pub scan-stop : i < length block → isSeparator (getD block i 0) ≡ true → i ≡ length (fieldUnits block)
+  unfolding fieldUnits
   scan-stop h e =
-      let here : length (unitsIn (drop i block)) ≡ 0 =
-      ap (λ (l : List ℕ). length (unitsIn l)) (drop-cons block i 0 h) ∙ ap (λ (o : Option End). length (unitsBefore o (getD block i 0 ∷ unitsIn (drop (suc i) block)))) (is-separator _ e) in
+      let here : length (fieldUnits (drop i block)) ≡ 0 =
+      ap (λ (l : List ℕ). length (fieldUnits l)) (drop-cons block i 0 h) ∙ ap (λ (o : Option End). length (unitsBefore o (getD block i 0 ∷ fieldUnits (drop (suc i) block)))) (is-separator _ e) in
       omega arith
 
   -- no separator at the place: the scan goes one unit on
-  pub scan-turn : i < length block → isSeparator (getD block i 0) ≡ false → length (unitsIn block) ≡ (i + 1) + length (unitsIn (drop (i + 1) block))
-  unfolding unitsIn
+  pub scan-turn : i < length block → isSeparator (getD block i 0) ≡ false → length (fieldUnits block) ≡ (i + 1) + length (fieldUnits (drop (i + 1) block))
+  unfolding fieldUnits
   scan-turn h e =
-      let here : length (unitsIn (drop i block)) ≡ suc (length (unitsIn (drop (suc i) block))) =
-      ap (λ (l : List ℕ). length (unitsIn l)) (drop-cons block i 0 h) ∙ ap (λ (o : Option End). length (unitsBefore o (getD block i 0 ∷ unitsIn (drop (suc i) block)))) (no-separator _ e) in
+      let here : length (fieldUnits (drop i block)) ≡ suc (length (fieldUnits (drop (suc i) block))) =
+      ap (λ (l : List ℕ). length (fieldUnits l)) (drop-cons block i 0 h) ∙ ap (λ (o : Option End). length (unitsBefore o (getD block i 0 ∷ fieldUnits (drop (suc i) block)))) (no-separator _ e) in
       rw (add-one i) (omega arith)
 
   -- the end of the block: all of its units are the field's
-  pub scan-end : length block ≤ i → i ≡ length (unitsIn block)
-  unfolding unitsIn
+  pub scan-end : length block ≤ i → i ≡ length (fieldUnits block)
+  unfolding fieldUnits
   scan-end h =
-      let here : length (unitsIn (drop i block)) ≡ 0 = ap (λ (l : List ℕ). length (unitsIn l)) (drop-of-length-le block h) in
+      let here : length (fieldUnits (drop i block)) ≡ 0 = ap (λ (l : List ℕ). length (fieldUnits l)) (drop-of-length-le block h) in
       omega arith
 
 -- four units at a time
 module _ (block : List ℕ) where
   -- no separator at the place, in a scan of four: the next place is passed too
-  pub scan-next : (i j : ℕ) → Passed block i → i < length block → isSeparator (getD block i 0) ≡ false → j ≡ i + 1 → Passed block j
-  scan-next i j so-far h e q = subst (Passed block) (sym q) (scan-turn block i so-far h e)
+  pub scan-next : (i j : ℕ) → NoSeparator block i → i < length block → isSeparator (getD block i 0) ≡ false → j ≡ i + 1 → NoSeparator block j
+  scan-next i j so-far h e q = subst (NoSeparator block) (sym q) (scan-turn block i so-far h e)
 
   -- a separator among the four units: how many stand before it
-  pub scan-found : (i n j : ℕ) → n < 4 → i + n ≡ j → Passed block j → j < length block → isSeparator (getD block j 0) ≡ true → Scanned block i n
+  pub scan-found : (i n j : ℕ) → n < 4 → i + n ≡ j → NoSeparator block j → j < length block → isSeparator (getD block j 0) ≡ true → Scanned block i n
   scan-found i n j small q so-far h e =
       record { within = omega arith; found = λ l. q ∙ scan-stop block j so-far h e; passed = λ w. absurd (omega arith) }
 
   -- no separator among the four units: all four are passed
-  pub scan-passed : (i : ℕ) → Passed block (i + 4) → Scanned block i 4
+  pub scan-passed : (i : ℕ) → NoSeparator block (i + 4) → Scanned block i 4
   scan-passed i so-far = record { within = omega arith; found = λ l. absurd (omega arith); passed = λ w. so-far }
 
 -- ---- the copy
@@ -93,7 +93,7 @@ laid buffer held block size h =
     (sym (drop-drop size held buffer) ∙ ap (λ (n : ℕ). drop n (drop held buffer)) (sym (length-take-le size block h)))
 
 -- ---- what ends the next field
-separator-end : (u : ℕ) (end : End) → separator u ≡ some end → end ≡ endOf u
+separator-end : (u : ℕ) (end : End) → separator u ≡ some end → end ≡ separatorEnd u
 unfolding separator
 separator-end u end e = by (eqb u 0x7C) (eqb u 0x0A) e
   where
@@ -102,46 +102,46 @@ separator-end u end e = by (eqb u 0x7C) (eqb u 0x0A) e
     by false true e = cc
     by false false e = let z : _≡_ {A = ℕ} 0 1 = cc in absurd (omega arith)
 
-take-with : (u : ℕ) (block : List ℕ) (o : Option End) → take (length (unitsIn block)) block ≡ unitsIn block
-    → take (length (unitsBefore o (u ∷ unitsIn block))) (u ∷ block) ≡ unitsBefore o (u ∷ unitsIn block)
+take-with : (u : ℕ) (block : List ℕ) (o : Option End) → take (length (fieldUnits block)) block ≡ fieldUnits block
+    → take (length (unitsBefore o (u ∷ fieldUnits block))) (u ∷ block) ≡ unitsBefore o (u ∷ fieldUnits block)
 take-with u block none e = ap (λ (l : List ℕ). u ∷ l) e
 take-with u block (some end) e = refl
 
 -- the next field's units are the block's first ones
-pub units-taken : (block : List ℕ) → take (length (unitsIn block)) block ≡ unitsIn block
-unfolding unitsIn
+pub units-taken : (block : List ℕ) → take (length (fieldUnits block)) block ≡ fieldUnits block
+unfolding fieldUnits
 units-taken [] = refl
 units-taken (u ∷ block) = take-with u block (separator u) (units-taken block)
 
-at-with : (u : ℕ) (block : List ℕ) (size : ℕ) (o : Option End) → separator u ≡ o → size ≡ length (unitsBefore o (u ∷ unitsIn block)) → size < suc (length block)
-    → ((n : ℕ) → n ≡ length (unitsIn block) → n < length block → separatorIn block ≡ some (endOf (getD block n 0)))
-    → eitherEnd o (separatorIn block) ≡ some (endOf (getD (u ∷ block) size 0))
+at-with : (u : ℕ) (block : List ℕ) (size : ℕ) (o : Option End) → separator u ≡ o → size ≡ length (unitsBefore o (u ∷ fieldUnits block)) → size < suc (length block)
+    → ((n : ℕ) → n ≡ length (fieldUnits block) → n < length block → separatorIn block ≡ some (separatorEnd (getD block n 0)))
+    → eitherEnd o (separatorIn block) ≡ some (separatorEnd (getD (u ∷ block) size 0))
 at-with u block zero none q e h later = absurd (omega arith)
 at-with u block (suc size) none q e h later = later size (omega arith) (omega arith)
 at-with u block zero (some end) q e h later = ap some (separator-end u end q)
 at-with u block (suc size) (some end) q e h later = absurd (omega arith)
 
-pub separator-at : (block : List ℕ) (size : ℕ) → size ≡ length (unitsIn block) → size < length block → separatorIn block ≡ some (endOf (getD block size 0))
-unfolding unitsIn separatorIn
+pub separator-at : (block : List ℕ) (size : ℕ) → size ≡ length (fieldUnits block) → size < length block → separatorIn block ≡ some (separatorEnd (getD block size 0))
+unfolding fieldUnits separatorIn
 separator-at [] size e h = absurd (omega arith)
 separator-at (u ∷ block) size e h = at-with u block size (separator u) refl e h (separator-at block)
 
-none-with : (u : ℕ) (block : List ℕ) (o : Option End) → suc (length block) ≤ length (unitsBefore o (u ∷ unitsIn block))
-    → (length block ≤ length (unitsIn block) → separatorIn block ≡ none) → eitherEnd o (separatorIn block) ≡ none
+none-with : (u : ℕ) (block : List ℕ) (o : Option End) → suc (length block) ≤ length (unitsBefore o (u ∷ fieldUnits block))
+    → (length block ≤ length (fieldUnits block) → separatorIn block ≡ none) → eitherEnd o (separatorIn block) ≡ none
 none-with u block none h later = later (omega arith)
 none-with u block (some end) h later = absurd (omega arith)
 
-pub separator-none : (block : List ℕ) → length block ≤ length (unitsIn block) → separatorIn block ≡ none
-unfolding unitsIn separatorIn
+pub separator-none : (block : List ℕ) → length block ≤ length (fieldUnits block) → separatorIn block ≡ none
+unfolding fieldUnits separatorIn
 separator-none [] h = refl
 separator-none (u ∷ block) h = none-with u block (separator u) h (separator-none block)
 
 -- ---- the cases of a call
 module _ (held : ℕ) (buffer units : List ℕ) (end : End) (count read : ℕ) (state : Held) (after : List ℕ) (size : count ≡ length units) (reads : read ≡ readWith end count)
-    (new : state ≡ fresh) where
+    (new : state ≡ freshHeld) where
   -- nothing was held: the field is shown from the block, and the buffer is as before
   pub found-here : held ≡ 0 → after ≡ buffer
-      → Answered (foundCall held buffer units end) (record { answer = FieldFound (record { end = end; place = Block; count = count; read = read }); state = state }) after
+      → FieldAnswered (foundCall held buffer units end) (record { answer = FieldFound (record { end = end; place = Block; count = count; read = read }); state = state }) after
   unfolding foundCall
   found-here z e =
       simp (eq-eqb held 0 z)
@@ -155,7 +155,7 @@ module _ (held : ℕ) (buffer units : List ℕ) (end : End) (count read : ℕ) (
 
   -- units were held: the field is completed behind them and shown from the buffer
   pub found-held : (held ≡ 0 → ⊥) → after ≡ overFrom held buffer units
-      → Answered (foundCall held buffer units end) (record { answer = FieldFound (record { end = end; place = Buffer; count = held + count; read = read }); state = state }) after
+      → FieldAnswered (foundCall held buffer units end) (record { answer = FieldFound (record { end = end; place = Buffer; count = held + count; read = read }); state = state }) after
   unfolding foundCall
   found-held z e =
       simp (ne-eqb held 0 z)
@@ -169,56 +169,56 @@ module _ (held : ℕ) (buffer units : List ℕ) (end : End) (count read : ℕ) (
 
 module _ (held : ℕ) (buffer block : List ℕ) (last : Bool) where
   -- a buffer of under 256 units: 20
-  pub short : length buffer < fieldLimit → refusal held buffer block ≡ some BufferTooShort
-  unfolding refusal
+  pub short : length buffer < fieldLimit → fieldRefusal held buffer block ≡ some BufferTooShort
+  unfolding fieldRefusal
   short a = simp (lt-leb _ _ a)
 
   -- the block has over 65,536 units: 11
-  pub too-long : fieldLimit ≤ length buffer → pieceLimit < length block → refusal held buffer block ≡ some BlockTooLong
-  unfolding refusal
+  pub too-long : fieldLimit ≤ length buffer → pieceLimit < length block → fieldRefusal held buffer block ≡ some BlockTooLong
+  unfolding fieldRefusal
   too-long a b = simp (le-leb _ _ a, lt-leb _ _ b)
 
   -- the state claims over 256 held units: 27
-  pub invalid : fieldLimit ≤ length buffer → length block ≤ pieceLimit → fieldLimit < held → refusal held buffer block ≡ some InvalidState
-  unfolding refusal
+  pub invalid : fieldLimit ≤ length buffer → length block ≤ pieceLimit → fieldLimit < held → fieldRefusal held buffer block ≡ some InvalidState
+  unfolding fieldRefusal
   invalid a b d = simp (le-leb _ _ a, le-leb _ _ b, lt-leb _ _ d)
 
   -- the next field has over 256 units: 21
-  pub over-limit : fieldLimit ≤ length buffer → length block ≤ pieceLimit → held ≤ fieldLimit → fieldLimit < held + length (unitsIn block) → refusal held buffer block ≡ some FieldTooLong
-  unfolding refusal
+  pub over-limit : fieldLimit ≤ length buffer → length block ≤ pieceLimit → held ≤ fieldLimit → fieldLimit < held + length (fieldUnits block) → fieldRefusal held buffer block ≡ some FieldTooLong
+  unfolding fieldRefusal
   over-limit a b d f = simp (le-leb _ _ a, le-leb _ _ b, le-leb _ _ d, lt-leb _ _ f)
 
   -- all four checks pass
-  pub accepted : fieldLimit ≤ length buffer → length block ≤ pieceLimit → held ≤ fieldLimit → held + length (unitsIn block) ≤ fieldLimit → refusal held buffer block ≡ none
-  unfolding refusal
+  pub accepted : fieldLimit ≤ length buffer → length block ≤ pieceLimit → held ≤ fieldLimit → held + length (fieldUnits block) ≤ fieldLimit → fieldRefusal held buffer block ≡ none
+  unfolding fieldRefusal
   accepted a b d f = simp (le-leb _ _ a, le-leb _ _ b, le-leb _ _ d, le-leb _ _ f)
 
   -- A refused call, with its refusal, the state it was handed and the buffer untouched, keeps the promise.
-  pub call-refused : (why : Refusal) (r : Outcome) → refusal held buffer block ≡ some why → (r .answer ≡ Refused why) × (r .state .count ≡ held)
-      → Answered (fieldCall held buffer block last) r buffer
-  unfolding fieldCall refusedCall
+  pub call-refused : (why : Refusal) (r : Outcome) → fieldRefusal held buffer block ≡ some why → (r .answer ≡ Refused why) × (r .state .count ≡ held)
+      → FieldAnswered (fieldCall held buffer block last) r buffer
+  unfolding fieldCall refusedFieldCall
   call-refused why r e w = rw e (record { answer = w .0; state = w .1; buffer = refl })
 
   -- An accepted call in which something ends the field keeps the promise if it gave that field.
-  pub call-found : (size : ℕ) (end : End) (r : Outcome) (after : List ℕ) → refusal held buffer block ≡ none → endIn held block last ≡ some end → size ≡ length (unitsIn block)
-      → Answered (foundCall held buffer (take size block) end) r after → Answered (fieldCall held buffer block last) r after
+  pub call-found : (size : ℕ) (end : End) (r : Outcome) (after : List ℕ) → fieldRefusal held buffer block ≡ none → endIn held block last ≡ some end → size ≡ length (fieldUnits block)
+      → FieldAnswered (foundCall held buffer (take size block) end) r after → FieldAnswered (fieldCall held buffer block last) r after
   unfolding fieldCall
   call-found size end r after e q n w =
-      rw (e, q) (subst (λ (l : List ℕ). Answered (foundCall held buffer l end) r after) (ap (λ (k : ℕ). take k block) n ∙ units-taken block) w)
+      rw (e, q) (subst (λ (l : List ℕ). FieldAnswered (foundCall held buffer l end) r after) (ap (λ (k : ℕ). take k block) n ∙ units-taken block) w)
 
   -- An accepted call in which nothing ends the field keeps the promise if it held the block.
-  pub call-held : (r : Outcome) (after : List ℕ) → refusal held buffer block ≡ none → endIn held block last ≡ none
-      → Answered (heldCall held buffer block) r after → Answered (fieldCall held buffer block last) r after
+  pub call-held : (r : Outcome) (after : List ℕ) → fieldRefusal held buffer block ≡ none → endIn held block last ≡ none
+      → FieldAnswered (heldCall held buffer block) r after → FieldAnswered (fieldCall held buffer block last) r after
   unfolding fieldCall
   call-held r after e q w = rw (e, q) w
 
   -- what ends the field: a separator, the text's end, or nothing
-  pub end-separator : (size : ℕ) (end : End) → size ≡ length (unitsIn block) → size < length block → end ≡ endOf (getD block size 0) → endIn held block last ≡ some end
+  pub end-separator : (size : ℕ) (end : End) → size ≡ length (fieldUnits block) → size < length block → end ≡ separatorEnd (getD block size 0) → endIn held block last ≡ some end
   unfolding endIn
   end-separator size end n h e = rw (separator-at block size n h) (ap some (sym e))
 
   -- the block has no separator: the text's end ends the field in a call marked last, if it has units; else nothing does
-  pub end-other : (size : ℕ) (t : Bool) → size ≡ length (unitsIn block) → length block ≤ size → size ≤ length block → t ≡ (last && ltb 0 (held + size))
+  pub end-other : (size : ℕ) (t : Bool) → size ≡ length (fieldUnits block) → length block ≤ size → size ≤ length block → t ≡ (last && ltb 0 (held + size))
       → endIn held block last ≡ pick t (some Text) none
   unfolding endIn
   end-other size t n h k e =
@@ -226,5 +226,5 @@ module _ (held : ℕ) (buffer block : List ℕ) (last : Bool) where
       rw (separator-none block (omega arith)) (ap (λ (m : ℕ). pick (last && ltb 0 (held + m)) (some Text) none) (sym s) ∙ ap (λ (b : Bool). pick b (some Text) none) (sym e))
 
 -- the units before a separator are some of the block's
-pub units-fit : (block : List ℕ) → length (unitsIn block) ≤ length block
-units-fit block = let e : length (unitsIn block) ≡ min (length (unitsIn block)) (length block) = sym (ap length (units-taken block)) ∙ length-take _ block in omega arith
+pub units-fit : (block : List ℕ) → length (fieldUnits block) ≤ length block
+units-fit block = let e : length (fieldUnits block) ≡ min (length (fieldUnits block)) (length block) = sym (ap length (units-taken block)) ∙ length-take _ block in omega arith

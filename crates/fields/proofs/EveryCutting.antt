@@ -12,6 +12,7 @@ use lib.Seq.{drop-drop, drop-append-seam, take-at, length-take-le}
 use borrow.Author.Tests.{ltb-true, leb-true, eqb-true, le-leb, lt-ltb}
 use Rattle.codepage.specs.CodePage.{pick}
 use Rattle.codepage.specs.Lent.{over}
+use Rattle.codepage_walk.specs.Checks.{refuseUnless}
 use Rattle.convert.specs.Runs.{pieceLimit}
 use Rattle.fields.specs.declared.End.{End}
 use Rattle.fields.specs.declared.End.the-variants.{Bar, LineFeed, Text}
@@ -22,8 +23,8 @@ use Rattle.fields.specs.declared.Refusal.the-variants.{BufferTooShort, B
 use Rattle.fields.specs.declared.Answer.{Answer}
 use Rattle.fields.specs.declared.Answer.the-variants.{Field as FieldFound, Incomplete, Refused}
 use Rattle.fields.specs.declared.Held.{Held}
-use Rattle.fields.specs.Fields.{Field, fieldsOf, separator, unitsIn, eitherEnd, separatorIn, endIn, fieldLimit, check, refusal, fresh, Called, readWith, overFrom, foundCall, heldCall, refusedCall, acceptedCall, unlessRefused, fieldCall, partOf, isAccepted, readBy}
-use Rattle.fields.specs.Cuttings.{Entry, Shown, EntryMeets, AllMeet, givenBy, Progress, opened, next, play, Allowed, AllAllowed, Trace, Cut}
+use Rattle.fields.specs.Fields.{Field, fieldsOf, separator, fieldUnits, eitherEnd, separatorIn, endIn, fieldLimit, fieldRefusal, freshHeld, FieldCalled, readWith, overFrom, foundCall, heldCall, refusedFieldCall, acceptedFieldCall, unlessFieldRefused, fieldCall, partOf, isFieldAccepted, readBy}
+use Rattle.fields.specs.Cuttings.{FieldEntry, Shown, EntryMeets, AllFieldsMeet, givenBy, Progress, openedCutting, nextProgress, playFields, FieldAllowed, AllFieldsAllowed, FieldTrace, Cut}
 use Rattle.fields.proofs.FieldLaws.{separator-append, units-plain, units-all, split, field-first, field-last}
 use Rattle.fields.proofs.CallLaws.{units-taken, units-fit}
 
@@ -52,10 +53,10 @@ module _ (held : ℕ) (buffer units : List ℕ) (fits : held + length units ≤ 
 abbrev pub shownOf : Answer → (buffer block : List ℕ) → List ℕ
 shownOf (FieldFound found) buffer block = partOf found buffer block
 shownOf (Incomplete read) buffer block = []
-shownOf (Refused refusal) buffer block = []
+shownOf (Refused why) buffer block = []
 
 -- a call that found a field
-pub record FoundAs (c : Called) (buffer block units : List ℕ) (end : End) (read : ℕ) : Type 0 where
+pub record FoundAs (c : FieldCalled) (buffer block units : List ℕ) (end : End) (read : ℕ) : Type 0 where
   pub found : Found
   pub answer : c .answer ≡ FieldFound found
   pub end-is : found .end ≡ end
@@ -64,53 +65,53 @@ pub record FoundAs (c : Called) (buffer block units : List ℕ) (end : End) (rea
   pub part-is : partOf found (c .buffer) block ≡ units
   pub same-size : length (c .buffer) ≡ length buffer
 
-pub found-as : (held : ℕ) (buffer block : List ℕ) (end : End) → held + length (unitsIn block) ≤ length buffer
-    → FoundAs (foundCall held buffer (unitsIn block) end) buffer block (take held buffer ++ unitsIn block) end (readWith end (length (unitsIn block)))
+pub found-as : (held : ℕ) (buffer block : List ℕ) (end : End) → held + length (fieldUnits block) ≤ length buffer
+    → FoundAs (foundCall held buffer (fieldUnits block) end) buffer block (take held buffer ++ fieldUnits block) end (readWith end (length (fieldUnits block)))
 unfolding foundCall partOf
 found-as held buffer block end fits = by (eqb held 0) refl
   where
-    by : (t : Bool) → eqb held 0 ≡ t → FoundAs (foundCall held buffer (unitsIn block) end) buffer block (take held buffer ++ unitsIn block) end (readWith end (length (unitsIn block)))
+    by : (t : Bool) → eqb held 0 ≡ t → FoundAs (foundCall held buffer (fieldUnits block) end) buffer block (take held buffer ++ fieldUnits block) end (readWith end (length (fieldUnits block)))
     by true q =
         rw q
         (record {
-          found = record { end = end; place = Block; count = length (unitsIn block); read = readWith end (length (unitsIn block)) };
+          found = record { end = end; place = Block; count = length (fieldUnits block); read = readWith end (length (fieldUnits block)) };
           answer = refl;
           end-is = refl;
           read-is = refl;
           held-is = refl;
-          part-is = rw (le-leb (length (unitsIn block)) (length block) (units-fit block), eqb-true held 0 q) (units-taken block);
+          part-is = rw (le-leb (length (fieldUnits block)) (length block) (units-fit block), eqb-true held 0 q) (units-taken block);
           same-size = refl;
         })
     by false q =
         rw q
         (record {
-          found = record { end = end; place = Buffer; count = held + length (unitsIn block); read = readWith end (length (unitsIn block)) };
+          found = record { end = end; place = Buffer; count = held + length (fieldUnits block); read = readWith end (length (fieldUnits block)) };
           answer = refl;
           end-is = refl;
           read-is = refl;
           held-is = refl;
           part-is =
-              let inside : held + length (unitsIn block) ≤ length (overFrom held buffer (unitsIn block)) = rw (laid-length held buffer (unitsIn block) fits) fits in
-              rw (le-leb (held + length (unitsIn block)) (length (overFrom held buffer (unitsIn block))) inside) (laid-front held buffer (unitsIn block) fits);
-          same-size = laid-length held buffer (unitsIn block) fits;
+              let inside : held + length (fieldUnits block) ≤ length (overFrom held buffer (fieldUnits block)) = rw (laid-length held buffer (fieldUnits block) fits) fits in
+              rw (le-leb (held + length (fieldUnits block)) (length (overFrom held buffer (fieldUnits block))) inside) (laid-front held buffer (fieldUnits block) fits);
+          same-size = laid-length held buffer (fieldUnits block) fits;
         })
 
 -- what an accepted call has of its checks
-check-holds : (why : Refusal) (t : Bool) (o : Option Refusal) → check why t o ≡ none → (t ≡ true) × (o ≡ none)
+check-holds : (why : Refusal) (t : Bool) (o : Option Refusal) → refuseUnless why t o ≡ none → (t ≡ true) × (o ≡ none)
 check-holds why true o e = (refl, e)
 check-holds why false o e = let z : _≡_ {A = ℕ} 0 1 = cc in absurd (omega arith)
 
 -- an accepted call: the buffer has at least 256 units; the units held and the field's units in the block are at most 256
-pub accepted-fits : (held : ℕ) (buffer block : List ℕ) → refusal held buffer block ≡ none → (fieldLimit ≤ length buffer) × (held + length (unitsIn block) ≤ fieldLimit)
-unfolding refusal
+pub accepted-fits : (held : ℕ) (buffer block : List ℕ) → fieldRefusal held buffer block ≡ none → (fieldLimit ≤ length buffer) × (held + length (fieldUnits block) ≤ fieldLimit)
+unfolding fieldRefusal
 accepted-fits held buffer block e =
-    let fourth : Option Refusal = check FieldTooLong (leb (held + length (unitsIn block)) fieldLimit) none in
-    let third : Option Refusal = check InvalidState (leb held fieldLimit) fourth in
-    let second : Option Refusal = check BlockTooLong (leb (length block) pieceLimit) third in
+    let fourth : Option Refusal = refuseUnless FieldTooLong (leb (held + length (fieldUnits block)) fieldLimit) none in
+    let third : Option Refusal = refuseUnless InvalidState (leb held fieldLimit) fourth in
+    let second : Option Refusal = refuseUnless BlockTooLong (leb (length block) pieceLimit) third in
     let a = check-holds BufferTooShort (leb fieldLimit (length buffer)) second e in
     let b = check-holds BlockTooLong (leb (length block) pieceLimit) third (a .1) in
     let d = check-holds InvalidState (leb held fieldLimit) fourth (b .1) in
-    let f = check-holds FieldTooLong (leb (held + length (unitsIn block)) fieldLimit) none (d .1) in
+    let f = check-holds FieldTooLong (leb (held + length (fieldUnits block)) fieldLimit) none (d .1) in
     (leb-true _ _ (a .0), leb-true _ _ (f .0))
 
 -- a separator is not the text's end: it is read with its field
@@ -138,7 +139,7 @@ and-true false b e = absurd (false≢true e)
 module _ (text : List ℕ) (held : ℕ) (buffer : List ℕ) (position : ℕ) (block rest : List ℕ) (last : Bool) (inside : held ≤ length buffer) (plain : separatorIn (take held buffer) ≡ none)
     (here : drop position text ≡ block ++ rest) (to-end : last ≡ true → rest ≡ []) where
   -- what a call does to the fields that are left
-  record Goes (c : Called) : Type 0 where
+  record Goes (c : FieldCalled) : Type 0 where
     given : List Field
     read : ℕ
     is-given : givenBy (c .answer) (shownOf (c .answer) (c .buffer) block) ≡ given
@@ -148,10 +149,10 @@ module _ (text : List ℕ) (held : ℕ) (buffer : List ℕ) (position : ℕ) (bl
     now-inside : c .held ≤ length (c .buffer)
     now-plain : separatorIn (take (c .held) (c .buffer)) ≡ none
     left : fieldsOf (take held buffer ++ drop position text) ≡ given ++ fieldsOf (take (c .held) (c .buffer) ++ drop (position + read) text)
-    done : isAccepted (c .answer) ≡ true → last ≡ true → drop (position + read) text ≡ [] → fieldsOf (take (c .held) (c .buffer) ++ drop (position + read) text) ≡ []
+    done : isFieldAccepted (c .answer) ≡ true → last ≡ true → drop (position + read) text ≡ [] → fieldsOf (take (c .held) (c .buffer) ++ drop (position + read) text) ≡ []
 
-  goes-refused : (why : Refusal) → Goes (refusedCall held buffer why)
-  unfolding refusedCall
+  goes-refused : (why : Refusal) → Goes (refusedFieldCall held buffer why)
+  unfolding refusedFieldCall
   goes-refused why =
       let z : position + 0 ≡ position = omega arith in
       record {
@@ -194,31 +195,31 @@ module _ (text : List ℕ) (held : ℕ) (buffer : List ℕ) (position : ℕ) (bl
       }
 
   -- a field was found: what is left is behind it
-  goes-found : (c : Called) (end : End) (n : ℕ) → FoundAs c buffer block (take held buffer ++ unitsIn block) end n → n ≤ length block
-      → fieldsOf (take held buffer ++ drop position text) ≡ record { units = take held buffer ++ unitsIn block; end = end } ∷ fieldsOf (drop (position + n) text) → Goes c
+  goes-found : (c : FieldCalled) (end : End) (n : ℕ) → FoundAs c buffer block (take held buffer ++ fieldUnits block) end n → n ≤ length block
+      → fieldsOf (take held buffer ++ drop position text) ≡ record { units = take held buffer ++ fieldUnits block; end = end } ∷ fieldsOf (drop (position + n) text) → Goes c
   unfolding fieldsOf separatorIn
   goes-found c end n f fits e =
       let nothing : take (c .held) (c .buffer) ≡ [] = ap (λ (k : ℕ). take k (c .buffer)) (f .held-is) in
       record {
-        given = record { units = take held buffer ++ unitsIn block; end = end } ∷ [];
+        given = record { units = take held buffer ++ fieldUnits block; end = end } ∷ [];
         read = n;
         is-given =
             ap (λ (a : Answer). givenBy a (shownOf a (c .buffer) block)) (f .answer)
             ∙ ap (λ (l : List ℕ). record { units = l; end = f .found .end } ∷ []) (f .part-is)
-            ∙ ap (λ (x : End). record { units = take held buffer ++ unitsIn block; end = x } ∷ []) (f .end-is);
+            ∙ ap (λ (x : End). record { units = take held buffer ++ fieldUnits block; end = x } ∷ []) (f .end-is);
         is-read = ap readBy (f .answer) ∙ f .read-is;
         read-fits = fits;
         same-size = f .same-size;
         now-inside = omega (arith, f .held-is);
         now-plain = ap separatorIn nothing;
-        left = e ∙ ap (λ (l : List ℕ). record { units = take held buffer ++ unitsIn block; end = end } ∷ fieldsOf (l ++ drop (position + n) text)) (sym nothing);
+        left = e ∙ ap (λ (l : List ℕ). record { units = take held buffer ++ fieldUnits block; end = end } ∷ fieldsOf (l ++ drop (position + n) text)) (sym nothing);
         done = λ a b q. ap (λ (l : List ℕ). fieldsOf (l ++ drop (position + n) text)) nothing ∙ ap fieldsOf q;
       }
 
-  goes-separator : (end : End) → held + length (unitsIn block) ≤ length buffer → separatorIn block ≡ some end → Goes (foundCall held buffer (unitsIn block) end)
+  goes-separator : (end : End) → held + length (fieldUnits block) ≤ length buffer → separatorIn block ≡ some end → Goes (foundCall held buffer (fieldUnits block) end)
   goes-separator end fits e =
       let s = split block end e in
-      let units = unitsIn block in
+      let units = fieldUnits block in
       let n : readWith end (length units) ≡ length units + 1 = separator-read (s .unit) end (length units) (s .is-end) in
       let there : drop position text ≡ (units ++ (s .unit ∷ [])) ++ (s .behind ++ rest) = here ∙ ap (λ (l : List ℕ). l ++ rest) (s .parts) ∙ simp append-assoc in
       let past : drop (position + readWith end (length units)) text ≡ s .behind ++ rest =
@@ -230,42 +231,42 @@ module _ (text : List ℕ) (held : ℕ) (buffer : List ℕ) (position : ℕ) (bl
       ∙ field-first (take held buffer ++ units) (s .unit) end (s .behind ++ rest) (separator-append (take held buffer) units plain ∙ units-plain block) (s .is-end)
       ∙ ap (λ (l : List ℕ). record { units = take held buffer ++ units; end = end } ∷ fieldsOf l) (sym past))
 
-  goes-text : held + length (unitsIn block) ≤ length buffer → separatorIn block ≡ none → last ≡ true → 0 < held + length block → Goes (foundCall held buffer (unitsIn block) Text)
+  goes-text : held + length (fieldUnits block) ≤ length buffer → separatorIn block ≡ none → last ≡ true → 0 < held + length block → Goes (foundCall held buffer (fieldUnits block) Text)
   unfolding fieldsOf
   goes-text fits e l some-units =
-      let all : unitsIn block ≡ block = units-all block e in
+      let all : fieldUnits block ≡ block = units-all block e in
       let size : 0 < length (take held buffer ++ block) = rw (length-append, length-take-le held buffer inside) some-units in
-      let past : drop (position + length (unitsIn block)) text ≡ [] =
+      let past : drop (position + length (fieldUnits block)) text ≡ [] =
       ap (λ (k : List ℕ). drop (position + length k) text) all ∙ drop-past position text block rest here ∙ to-end l in
-      goes-found _ Text (length (unitsIn block)) (found-as held buffer block Text fits) (units-fit block)
+      goes-found _ Text (length (fieldUnits block)) (found-as held buffer block Text fits) (units-fit block)
       (ap (λ (k : List ℕ). fieldsOf (take held buffer ++ k)) (here ∙ ap (λ (r : List ℕ). block ++ r) (to-end l) ∙ append-nil block)
       ∙ field-last (take held buffer ++ block) (both-plain e) size
       ∙ ap (λ (k : List ℕ). record { units = take held buffer ++ k; end = Text } ∷ []) (sym all)
-      ∙ ap (λ (k : List ℕ). record { units = take held buffer ++ unitsIn block; end = Text } ∷ fieldsOf k) (sym past))
+      ∙ ap (λ (k : List ℕ). record { units = take held buffer ++ fieldUnits block; end = Text } ∷ fieldsOf k) (sym past))
 
-  goes-accepted : (o : Option End) → refusal held buffer block ≡ none → endIn held block last ≡ o → Goes (acceptedCall held buffer block o)
+  goes-accepted : (o : Option End) → fieldRefusal held buffer block ≡ none → endIn held block last ≡ o → Goes (acceptedFieldCall held buffer block o)
   unfolding endIn
   goes-accepted o a e = by-end (or-cases (separatorIn block) (last && ltb 0 (held + length block)) o e)
     where
-      fits : held + length (unitsIn block) ≤ length buffer
+      fits : held + length (fieldUnits block) ≤ length buffer
       fits = omega (arith, accepted-fits held buffer block a .0, accepted-fits held buffer block a .1)
 
-      by-test : (t : Bool) → (last && ltb 0 (held + length block)) ≡ t → separatorIn block ≡ none → Goes (acceptedCall held buffer block (pick t (some Text) none))
+      by-test : (t : Bool) → (last && ltb 0 (held + length block)) ≡ t → separatorIn block ≡ none → Goes (acceptedFieldCall held buffer block (pick t (some Text) none))
       by-test true q s = let w = and-true last (ltb 0 (held + length block)) q in goes-text fits s (w .0) (ltb-true _ _ (w .1))
       by-test false q s =
           goes-held (subst (λ (l : List ℕ). held + length l ≤ length buffer) (units-all block s) fits) s
           (λ l. let z : 0 < held + length block → ⊥ = λ h. false≢true (sym q ∙ rw (l, lt-ltb 0 (held + length block) h)) in omega arith)
 
       by-end : ((end : End) × (separatorIn block ≡ some end) × (o ≡ some end)) ⊎ ((separatorIn block ≡ none) × (o ≡ pick (last && ltb 0 (held + length block)) (some Text) none))
-          → Goes (acceptedCall held buffer block o)
-      by-end (inl (end, s, q)) = subst (λ (x : Option End). Goes (acceptedCall held buffer block x)) (sym q) (goes-separator end fits s)
-      by-end (inr (s, q)) = subst (λ (x : Option End). Goes (acceptedCall held buffer block x)) (sym q) (by-test (last && ltb 0 (held + length block)) refl s)
+          → Goes (acceptedFieldCall held buffer block o)
+      by-end (inl (end, s, q)) = subst (λ (x : Option End). Goes (acceptedFieldCall held buffer block x)) (sym q) (goes-separator end fits s)
+      by-end (inr (s, q)) = subst (λ (x : Option End). Goes (acceptedFieldCall held buffer block x)) (sym q) (by-test (last && ltb 0 (held + length block)) refl s)
 
   goes : Goes (fieldCall held buffer block last)
   unfolding fieldCall
-  goes = by (refusal held buffer block) refl
+  goes = by (fieldRefusal held buffer block) refl
     where
-      by : (o : Option Refusal) → refusal held buffer block ≡ o → Goes (unlessRefused held buffer o (acceptedCall held buffer block (endIn held block last)))
+      by : (o : Option Refusal) → fieldRefusal held buffer block ≡ o → Goes (unlessFieldRefused held buffer o (acceptedFieldCall held buffer block (endIn held block last)))
       by none e = goes-accepted (endIn held block last) e refl
       by (some why) e = goes-refused why
 
@@ -279,14 +280,14 @@ pub record Kept (text : List ℕ) (state : Held) (buffer : List ℕ) (p : Progre
   pub all : p .finished ≡ true → fieldsOf text ≡ p .given
 
 -- before the first call nothing is held, and all of the text is left
-pub kept-start : (text buffer : List ℕ) → Kept text fresh buffer opened
+pub kept-start : (text buffer : List ℕ) → Kept text freshHeld buffer openedCutting
 unfolding separatorIn
 kept-start text buffer = record { inside = omega arith; plain = refl; within = omega arith; left = refl; all = λ e. absurd (false≢true e) }
 
 shown-given : (a : Answer) (buffer block part : List ℕ) → Shown a buffer block part → givenBy a part ≡ givenBy a (shownOf a buffer block)
 shown-given (FieldFound found) buffer block part e = ap (λ (l : List ℕ). record { units = l; end = found .end } ∷ []) e
 shown-given (Incomplete read) buffer block part e = refl
-shown-given (Refused refusal) buffer block part e = refl
+shown-given (Refused why) buffer block part e = refl
 
 -- nothing is given behind all of them
 no-more : (fields given more others : List Field) → fields ≡ given → fields ≡ (given ++ more) ++ others → fields ≡ given ++ more
@@ -300,9 +301,9 @@ or-true : (a b : Bool) → (a || b) ≡ true → (a ≡ true) ⊎ (b ≡ true)
 or-true true b e = inl refl
 or-true false b e = inr e
 
-module _ (text : List ℕ) (state : Held) (buffer : List ℕ) (p : Progress) (e : Entry) (rest : List ℕ) (k : Kept text state buffer p) (here : drop (p .position) text ≡ e .block ++ rest)
+module _ (text : List ℕ) (state : Held) (buffer : List ℕ) (p : Progress) (e : FieldEntry) (rest : List ℕ) (k : Kept text state buffer p) (here : drop (p .position) text ≡ e .block ++ rest)
     (to-end : e .last ≡ true → rest ≡ []) (w : EntryMeets state buffer e) where
-  abbrev call : Called
+  abbrev call : FieldCalled
   call = fieldCall (state .count) buffer (e .block) (e .last)
 
   went : Goes text (state .count) buffer (p .position) (e .block) rest (e .last) (k .inside) (k .plain) here to-end call
@@ -339,18 +340,18 @@ module _ (text : List ℕ) (state : Held) (buffer : List ℕ) (p : Progress) (e 
       ∙ ap (λ (l : List Field). (p .given ++ l) ++ fieldsOf (take (call .held) (call .buffer) ++ drop (p .position + went .read) text)) (sym given-now)
       ∙ ap (λ (l : List Field). (p .given ++ givenBy (e .outcome .answer) (e .part)) ++ l) (sym later-is)
 
-  all-now : isAccepted (e .outcome .answer) ≡ true → e .last ≡ true → p .position + readBy (e .outcome .answer) ≡ length text → later ≡ []
+  all-now : isFieldAccepted (e .outcome .answer) ≡ true → e .last ≡ true → p .position + readBy (e .outcome .answer) ≡ length text → later ≡ []
   all-now a l n =
       later-is
-      ∙ went .done (ap isAccepted (sym (w .call .answer)) ∙ a) l (drop-of-length-le text {i = p .position + went .read} (omega (arith, read-now)))
+      ∙ went .done (ap isFieldAccepted (sym (w .call .answer)) ∙ a) l (drop-of-length-le text {i = p .position + went .read} (omega (arith, read-now)))
 
   -- a call keeps the buffer's length
   pub kept-size : length (e .buffer) ≡ length buffer
   kept-size = ap length (w .call .buffer) ∙ went .same-size
 
   -- An allowed call that meets the contracts keeps it: the fields are those given, and those of what is held and left.
-  pub kept-call : Kept text (e .outcome .state) (e .buffer) (next text p e)
-  unfolding next
+  pub kept-call : Kept text (e .outcome .state) (e .buffer) (nextProgress text p e)
+  unfolding nextProgress
   kept-call =
       record {
         inside = omega (arith, went .now-inside, w .call .state, ap length (w .call .buffer));
@@ -360,7 +361,7 @@ module _ (text : List ℕ) (state : Held) (buffer : List ℕ) (p : Progress) (e 
         all = λ f. by (or-true (p .finished) _ f);
       }
     where
-      by : (p .finished ≡ true) ⊎ ((isAccepted (e .outcome .answer) && (e .last && eqb (p .position + readBy (e .outcome .answer)) (length text))) ≡ true)
+      by : (p .finished ≡ true) ⊎ ((isFieldAccepted (e .outcome .answer) && (e .last && eqb (p .position + readBy (e .outcome .answer)) (length text))) ≡ true)
           → fieldsOf text ≡ p .given ++ givenBy (e .outcome .answer) (e .part)
       by (inl f) = no-more (fieldsOf text) (p .given) _ later (k .all f) left-now
       by (inr f) =
@@ -368,16 +369,16 @@ module _ (text : List ℕ) (state : Held) (buffer : List ℕ) (p : Progress) (e 
           let l = and-true _ _ (a .1) in
           left-now ∙ ap (λ (x : List Field). (p .given ++ givenBy (e .outcome .answer) (e .part)) ++ x) (all-now (a .0) (l .0) (eqb-true _ _ (l .1))) ∙ append-nil _
 
-kept-list : (text : List ℕ) (es : List Entry) (state : Held) (buffer : List ℕ) (p : Progress) → Kept text state buffer p → AllAllowed text p es → AllMeet state buffer es
-    → (state′ : Held) × (buffer′ : List ℕ) × Kept text state′ buffer′ (play text p es)
-unfolding AllAllowed Allowed AllMeet play
+kept-list : (text : List ℕ) (es : List FieldEntry) (state : Held) (buffer : List ℕ) (p : Progress) → Kept text state buffer p → AllFieldsAllowed text p es → AllFieldsMeet state buffer es
+    → (state′ : Held) × (buffer′ : List ℕ) × Kept text state′ buffer′ (playFields text p es)
+unfolding AllFieldsAllowed FieldAllowed AllFieldsMeet playFields
 kept-list text [] state buffer p k ok w = (state, buffer, k)
 kept-list text (e ∷ es) state buffer p k ok w =
-    kept-list text es (e .outcome .state) (e .buffer) (next text p e) (kept-call text state buffer p e (ok .0 .0) k (ok .0 .1) (ok .0 .2) (w .0)) (ok .1) (w .1)
+    kept-list text es (e .outcome .state) (e .buffer) (nextProgress text p e) (kept-call text state buffer p e (ok .0 .0) k (ok .0 .1) (ok .0 .2) (w .0)) (ok .1) (w .1)
 
 -- THE THEOREM: for every text, every buffer, every list of calls that the document allows, refused ones included, and every result
 -- that meets the contracts of the program's calls.
-pub every-cutting : (text buffer : List ℕ) (es : List Entry) → Trace text buffer es → Cut text es
+pub every-cutting : (text buffer : List ℕ) (es : List FieldEntry) → FieldTrace text buffer es → Cut text es
 every-cutting text buffer es t =
-    let k = kept-list text es fresh buffer opened (kept-start text buffer) (t .allowed) (t .met) in
+    let k = kept-list text es freshHeld buffer openedCutting (kept-start text buffer) (t .allowed) (t .met) in
     record { begins = (_, k .2 .left); all-of-them = λ f. sym (k .2 .all f) }

@@ -7,7 +7,7 @@ use native.Mathlib.Omega.{arith}
 use lib.ListN.{length}
 use Rattle.fields.specs.declared.End.{End}
 use Rattle.fields.specs.declared.End.the-variants.{Text}
-use Rattle.fields.specs.Fields.{Field, separator, prepend, before, fieldsOf, unitsBefore, unitsIn, eitherEnd, separatorIn}
+use Rattle.fields.specs.Fields.{Field, separator, prepend, before, fieldsOf, unitsBefore, fieldUnits, eitherEnd, separatorIn}
 
 -- ---- a block: the units before its first separator
 or-none : (o p : Option End) → eitherEnd o p ≡ none → (o ≡ none) × (p ≡ none)
@@ -28,39 +28,39 @@ stop-none none u l e q = ap (λ (o : Option End). eitherEnd o (separatorIn l)) q
 stop-none (some end) u l e q = refl
 
 -- the units before the first separator are no separators
-pub units-plain : (block : List ℕ) → separatorIn (unitsIn block) ≡ none
-unfolding unitsIn separatorIn
+pub units-plain : (block : List ℕ) → separatorIn (fieldUnits block) ≡ none
+unfolding fieldUnits separatorIn
 units-plain [] = refl
-units-plain (u ∷ block) = stop-none (separator u) u (unitsIn block) (units-plain block) refl
+units-plain (u ∷ block) = stop-none (separator u) u (fieldUnits block) (units-plain block) refl
 
 -- no separator: all units are before it
-pub units-all : (block : List ℕ) → separatorIn block ≡ none → unitsIn block ≡ block
-unfolding unitsIn separatorIn
+pub units-all : (block : List ℕ) → separatorIn block ≡ none → fieldUnits block ≡ block
+unfolding fieldUnits separatorIn
 units-all [] e = refl
 units-all (u ∷ block) e =
     let w = or-none (separator u) (separatorIn block) e in
-    ap (λ (o : Option End). unitsBefore o (u ∷ unitsIn block)) (w .0) ∙ ap (λ (l : List ℕ). u ∷ l) (units-all block (w .1))
+    ap (λ (o : Option End). unitsBefore o (u ∷ fieldUnits block)) (w .0) ∙ ap (λ (l : List ℕ). u ∷ l) (units-all block (w .1))
 
 -- a separator: the units before it, itself, and what is behind it
 pub record Split (block : List ℕ) (end : End) : Type 0 where
   pub unit : ℕ
   pub behind : List ℕ
   pub is-end : separator unit ≡ some end
-  pub parts : block ≡ unitsIn block ++ (unit ∷ behind)
+  pub parts : block ≡ fieldUnits block ++ (unit ∷ behind)
 
 split-with : (u : ℕ) (block : List ℕ) (end : End) (o : Option End) → separator u ≡ o → eitherEnd o (separatorIn block) ≡ some end
     → (separatorIn block ≡ some end → Split block end) → Split (u ∷ block) end
-unfolding unitsIn
+unfolding fieldUnits
 split-with u block end none q e later =
     let w = later e in
     record {
       unit = w .unit;
       behind = w .behind;
       is-end = w .is-end;
-      parts = ap (λ (l : List ℕ). u ∷ l) (w .parts) ∙ ap (λ (o : Option End). unitsBefore o (u ∷ unitsIn block) ++ (w .unit ∷ w .behind)) (sym q);
+      parts = ap (λ (l : List ℕ). u ∷ l) (w .parts) ∙ ap (λ (o : Option End). unitsBefore o (u ∷ fieldUnits block) ++ (w .unit ∷ w .behind)) (sym q);
     }
 split-with u block end (some end′) q e later =
-    record { unit = u; behind = block; is-end = q ∙ e; parts = ap (λ (o : Option End). unitsBefore o (u ∷ unitsIn block) ++ (u ∷ block)) (sym q) }
+    record { unit = u; behind = block; is-end = q ∙ e; parts = ap (λ (o : Option End). unitsBefore o (u ∷ fieldUnits block) ++ (u ∷ block)) (sym q) }
 
 -- a block that has a separator is the units before it, the separator, and what is behind it
 pub split : (block : List ℕ) (end : End) → separatorIn block ≡ some end → Split block end

@@ -18,7 +18,7 @@ use Rattle.fields.specs.declared.Refusal.{Refusal}
 use Rattle.fields.specs.declared.Refusal.the-variants.{BufferTooShort, BlockTooLong, InvalidState, FieldTooLong}
 use Rattle.fields.specs.declared.Answer.{Answer}
 use Rattle.fields.specs.declared.Answer.the-variants.{Field as FieldFound, Incomplete, Refused}
-use Rattle.fields.specs.Fields.{unitsIn, endIn, fieldLimit, refusal, Called, readWith, foundCall, heldCall, refusedCall, acceptedCall, unlessRefused, fieldCall}
+use Rattle.fields.specs.Fields.{fieldUnits, endIn, fieldLimit, fieldRefusal, FieldCalled, readWith, foundCall, heldCall, refusedFieldCall, acceptedFieldCall, unlessFieldRefused, fieldCall}
 use Rattle.fields.proofs.CallLaws.{short, too-long, invalid, over-limit, accepted}
 
 -- What the checks that pass say: 20, 11, 27, 21.
@@ -32,24 +32,24 @@ abbrev pub StatePasses : (held : ℕ) → (buffer block : List ℕ) → Type 0
 StatePasses held buffer block = BlockPasses buffer block × (held ≤ fieldLimit)
 
 abbrev pub AllPass : (held : ℕ) → (buffer block : List ℕ) → Type 0
-AllPass held buffer block = StatePasses held buffer block × (held + length (unitsIn block) ≤ fieldLimit)
+AllPass held buffer block = StatePasses held buffer block × (held + length (fieldUnits block) ≤ fieldLimit)
 
 -- What each refusal says: all before it passes, and this does not.
 abbrev pub Says : (held : ℕ) → (buffer block : List ℕ) → Refusal → Type 0
 Says held buffer block BufferTooShort = length buffer < fieldLimit
 Says held buffer block BlockTooLong = BufferPasses buffer × (pieceLimit < length block)
 Says held buffer block InvalidState = BlockPasses buffer block × (fieldLimit < held)
-Says held buffer block FieldTooLong = StatePasses held buffer block × (fieldLimit < held + length (unitsIn block))
+Says held buffer block FieldTooLong = StatePasses held buffer block × (fieldLimit < held + length (fieldUnits block))
 
 -- Each answer exactly in its case: a refusal is the first check that fails; no field is complete; the next field.
-pub record Answers (held : ℕ) (buffer block : List ℕ) (last : Bool) (c : Called) : Type 0 where
+pub record Answers (held : ℕ) (buffer block : List ℕ) (last : Bool) (c : FieldCalled) : Type 0 where
   pub refused : (why : Refusal) → (c .answer ≡ Refused why) ↔ Says held buffer block why
   pub incomplete : ((read : ℕ) × (c .answer ≡ Incomplete read)) ↔ (AllPass held buffer block × (endIn held block last ≡ none))
   pub found : ((found : Found) × (c .answer ≡ FieldFound found)) ↔ (AllPass held buffer block × ((end : End) × (endIn held block last ≡ some end)))
 
 module _ (held : ℕ) (buffer block : List ℕ) where
   -- what holds is refused so
-  is-refused : (why : Refusal) → Says held buffer block why → refusal held buffer block ≡ some why
+  is-refused : (why : Refusal) → Says held buffer block why → fieldRefusal held buffer block ≡ some why
   is-refused BufferTooShort h = short held buffer block false h
   is-refused BlockTooLong h = too-long held buffer block false (h .0) (h .1)
   is-refused InvalidState h = invalid held buffer block false (h .0 .0) (h .0 .1) (h .1)
@@ -57,9 +57,9 @@ module _ (held : ℕ) (buffer block : List ℕ) where
 
   -- one of the cases holds
   cases : ((why : Refusal) × Says held buffer block why) ⊎ AllPass held buffer block
-  cases = by (leb fieldLimit (length buffer)) (leb (length block) pieceLimit) (leb held fieldLimit) (leb (held + length (unitsIn block)) fieldLimit) refl refl refl refl
+  cases = by (leb fieldLimit (length buffer)) (leb (length block) pieceLimit) (leb held fieldLimit) (leb (held + length (fieldUnits block)) fieldLimit) refl refl refl refl
     where
-      by : (a b c d : Bool) → leb fieldLimit (length buffer) ≡ a → leb (length block) pieceLimit ≡ b → leb held fieldLimit ≡ c → leb (held + length (unitsIn block)) fieldLimit ≡ d
+      by : (a b c d : Bool) → leb fieldLimit (length buffer) ≡ a → leb (length block) pieceLimit ≡ b → leb held fieldLimit ≡ c → leb (held + length (fieldUnits block)) fieldLimit ≡ d
           → ((why : Refusal) × Says held buffer block why) ⊎ AllPass held buffer block
       by false b c d ea eb ec ed = inl (BufferTooShort, leb-false _ _ ea)
       by true false c d ea eb ec ed = inl (BlockTooLong, (leb-true _ _ ea, leb-false _ _ eb))
@@ -67,28 +67,28 @@ module _ (held : ℕ) (buffer block : List ℕ) where
       by true true true false ea eb ec ed = inl (FieldTooLong, (((leb-true _ _ ea, leb-true _ _ eb), leb-true _ _ ec), leb-false _ _ ed))
       by true true true true ea eb ec ed = inr (((leb-true _ _ ea, leb-true _ _ eb), leb-true _ _ ec), leb-true _ _ ed)
 
-  passes : AllPass held buffer block → refusal held buffer block ≡ none
+  passes : AllPass held buffer block → fieldRefusal held buffer block ≡ none
   passes h = accepted held buffer block false (h .0 .0 .0) (h .0 .0 .1) (h .0 .1) (h .1)
 
   module _ (last : Bool) where
-    abbrev given : Called
+    abbrev given : FieldCalled
     given = fieldCall held buffer block last
 
     given-refused : (why : Refusal) → Says held buffer block why → given .answer ≡ Refused why
-    unfolding fieldCall refusedCall
+    unfolding fieldCall refusedFieldCall
     given-refused why h = rw (is-refused why h)
 
     given-held : AllPass held buffer block → endIn held block last ≡ none → given .answer ≡ Incomplete (length block)
     unfolding fieldCall heldCall
     given-held h e = rw (passes h, e)
 
-    found-answer : (end : End) → (found : Found) × (foundCall held buffer (unitsIn block) end .answer ≡ FieldFound found)
+    found-answer : (end : End) → (found : Found) × (foundCall held buffer (fieldUnits block) end .answer ≡ FieldFound found)
     unfolding foundCall
     found-answer end = by (eqb held 0) refl
       where
-        by : (t : Bool) → eqb held 0 ≡ t → (found : Found) × (foundCall held buffer (unitsIn block) end .answer ≡ FieldFound found)
-        by true q = (record { end = end; place = Block; count = length (unitsIn block); read = readWith end (length (unitsIn block)) }, rw q)
-        by false q = (record { end = end; place = Buffer; count = held + length (unitsIn block); read = readWith end (length (unitsIn block)) }, rw q)
+        by : (t : Bool) → eqb held 0 ≡ t → (found : Found) × (foundCall held buffer (fieldUnits block) end .answer ≡ FieldFound found)
+        by true q = (record { end = end; place = Block; count = length (fieldUnits block); read = readWith end (length (fieldUnits block)) }, rw q)
+        by false q = (record { end = end; place = Buffer; count = held + length (fieldUnits block); read = readWith end (length (fieldUnits block)) }, rw q)
 
     given-found : AllPass held buffer block → (end : End) → endIn held block last ≡ some end → (found : Found) × (given .answer ≡ FieldFound found)
     unfolding fieldCall

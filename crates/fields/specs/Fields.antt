@@ -9,6 +9,7 @@ use lib.ListN.{length, take, drop}
 use denote.Ref.{RefT, ptr, now}
 use Rattle.codepage.specs.CodePage.{pick}
 use Rattle.codepage.specs.Lent.{over}
+use Rattle.codepage_walk.specs.Checks.{refuseUnless}
 use Rattle.convert.specs.Runs.{pieceLimit}
 use Rattle.fields.specs.declared.End.{End}
 use Rattle.fields.specs.declared.End.the-variants.{Bar, LineFeed, Text}
@@ -64,9 +65,9 @@ unitsBefore none units = units
 unitsBefore (some end) units = []
 
 -- The next field's units in a block: those before its first separator, or all of them.
-unfoldable pub unitsIn : (block : List ℕ) → List ℕ
-unitsIn [] = []
-unitsIn (unit ∷ block) = unitsBefore (separator unit) (unit ∷ unitsIn block)
+unfoldable pub fieldUnits : (block : List ℕ) → List ℕ
+fieldUnits [] = []
+fieldUnits (unit ∷ block) = unitsBefore (separator unit) (unit ∷ fieldUnits block)
 
 -- the first of two ends that is there
 abbrev pub eitherEnd : Option End → Option End → Option End
@@ -92,8 +93,8 @@ AllWithin [] = Unit {0}
 AllWithin (f ∷ fields) = (length (f .units) ≤ fieldLimit) × AllWithin fields
 
 -- The state before the first call.
-abbrev pub fresh : Held
-fresh = record { count = 0 }
+abbrev pub freshHeld : Held
+freshHeld = record { count = 0 }
 
 -- The numbers of the refusals.
 abbrev pub refusalNumber : Refusal → ℕ
@@ -102,21 +103,17 @@ refusalNumber BlockTooLong = 11
 refusalNumber InvalidState = 27
 refusalNumber FieldTooLong = 21
 
--- a check that holds, and the next one, or the refusal
-abbrev pub check : Refusal → Bool → Option Refusal → Option Refusal
-check refusal holds next = pick holds next (some refusal)
-
 -- A call checks 20, 11, 27 and 21 in that order.
-unfoldable pub refusal : (held : ℕ) → (buffer block : List ℕ) → Option Refusal
-refusal held buffer block =
-    check BufferTooShort (leb fieldLimit (length buffer))
-    (check BlockTooLong (leb (length block) pieceLimit)
-    (check InvalidState (leb held fieldLimit)
-    (check FieldTooLong (leb (held + length (unitsIn block)) fieldLimit)
+unfoldable pub fieldRefusal : (held : ℕ) → (buffer block : List ℕ) → Option Refusal
+fieldRefusal held buffer block =
+    refuseUnless BufferTooShort (leb fieldLimit (length buffer))
+    (refuseUnless BlockTooLong (leb (length block) pieceLimit)
+    (refuseUnless InvalidState (leb held fieldLimit)
+    (refuseUnless FieldTooLong (leb (held + length (fieldUnits block)) fieldLimit)
     none)))
 
 -- What a call gives: its answer, the units held after it, and the buffer after it.
-pub record Called : Type 0 where
+pub record FieldCalled : Type 0 where
   pub answer : Answer
   pub held : ℕ
   pub buffer : List ℕ
@@ -132,7 +129,7 @@ readWith LineFeed count = count + 1
 readWith Text count = count
 
 -- A field that was begun before the block is completed in the buffer; one wholly inside the block is shown from there.
-unfoldable pub foundCall : (held : ℕ) → (buffer units : List ℕ) → End → Called
+unfoldable pub foundCall : (held : ℕ) → (buffer units : List ℕ) → End → FieldCalled
 foundCall held buffer units end =
     pick (eqb held 0)
     (record { answer = FieldFound (record { end = end; place = Block; count = length units; read = readWith end (length units) }); held = 0; buffer = buffer })
@@ -143,57 +140,57 @@ foundCall held buffer units end =
     })
 
 -- No field is complete: the whole block is read and held.
-unfoldable pub heldCall : (held : ℕ) → (buffer block : List ℕ) → Called
+unfoldable pub heldCall : (held : ℕ) → (buffer block : List ℕ) → FieldCalled
 heldCall held buffer block = record { answer = Incomplete (length block); held = held + length block; buffer = overFrom held buffer block }
 
 -- A refused call changes neither the units held nor the buffer.
-unfoldable pub refusedCall : (held : ℕ) → (buffer : List ℕ) → Refusal → Called
-refusedCall held buffer refusal = record { answer = Refused refusal; held = held; buffer = buffer }
+unfoldable pub refusedFieldCall : (held : ℕ) → (buffer : List ℕ) → Refusal → FieldCalled
+refusedFieldCall held buffer why = record { answer = Refused why; held = held; buffer = buffer }
 
 -- an accepted call: the field, if something ends it, or the block held
-abbrev pub acceptedCall : (held : ℕ) → (buffer block : List ℕ) → Option End → Called
-acceptedCall held buffer block none = heldCall held buffer block
-acceptedCall held buffer block (some end) = foundCall held buffer (unitsIn block) end
+abbrev pub acceptedFieldCall : (held : ℕ) → (buffer block : List ℕ) → Option End → FieldCalled
+acceptedFieldCall held buffer block none = heldCall held buffer block
+acceptedFieldCall held buffer block (some end) = foundCall held buffer (fieldUnits block) end
 
 -- a call that was refused, or the accepted one
-abbrev pub unlessRefused : (held : ℕ) → (buffer : List ℕ) → Option Refusal → Called → Called
-unlessRefused held buffer none call = call
-unlessRefused held buffer (some refusal) call = refusedCall held buffer refusal
+abbrev pub unlessFieldRefused : (held : ℕ) → (buffer : List ℕ) → Option Refusal → FieldCalled → FieldCalled
+unlessFieldRefused held buffer none call = call
+unlessFieldRefused held buffer (some why) call = refusedFieldCall held buffer why
 
 -- THE CALL.
-unfoldable pub fieldCall : (held : ℕ) → (buffer block : List ℕ) → (last : Bool) → Called
-fieldCall held buffer block last = unlessRefused held buffer (refusal held buffer block) (acceptedCall held buffer block (endIn held block last))
+unfoldable pub fieldCall : (held : ℕ) → (buffer block : List ℕ) → (last : Bool) → FieldCalled
+fieldCall held buffer block last = unlessFieldRefused held buffer (fieldRefusal held buffer block) (acceptedFieldCall held buffer block (endIn held block last))
 
 -- The promise of a call: c is what the rules give, r what it returns, and the buffer after it.
-pub record Answered (c : Called) (r : Outcome) (after : List ℕ) : Type 0 where
+pub record FieldAnswered (c : FieldCalled) (r : Outcome) (after : List ℕ) : Type 0 where
   pub answer : r .answer ≡ c .answer
   pub state : r .state .count ≡ c .held
   pub buffer : after ≡ c .buffer
 
 -- whether a call was accepted
-abbrev pub isAccepted : Answer → Bool
-isAccepted (FieldFound found) = true
-isAccepted (Incomplete read) = true
-isAccepted (Refused refusal) = false
+abbrev pub isFieldAccepted : Answer → Bool
+isFieldAccepted (FieldFound found) = true
+isFieldAccepted (Incomplete read) = true
+isFieldAccepted (Refused why) = false
 
 -- the units of the block that a call read
 abbrev pub readBy : Answer → ℕ
 readBy (FieldFound found) = found .read
 readBy (Incomplete read) = read
-readBy (Refused refusal) = 0
+readBy (Refused why) = 0
 
 -- What holds of every call: it reads units of the block, and, if it is accepted, at least one of a block that has any; a field and
 -- the units held are within the limit.
-pub record Bounded (held : ℕ) (block : List ℕ) (c : Called) : Type 0 where
+pub record Bounded (held : ℕ) (block : List ℕ) (c : FieldCalled) : Type 0 where
   pub read-within : readBy (c .answer) ≤ length block
-  pub reads-some : isAccepted (c .answer) ≡ true → 0 < length block → 0 < readBy (c .answer)
+  pub reads-some : isFieldAccepted (c .answer) ≡ true → 0 < length block → 0 < readBy (c .answer)
   pub count-within : (found : Found) → c .answer ≡ FieldFound found → found .count ≤ fieldLimit
   pub held-within : held ≤ fieldLimit → c .held ≤ fieldLimit
 
 -- ---- the field that was found
-abbrev pub placeOf : Place → (buffer block : List ℕ) → List ℕ
-placeOf Buffer buffer block = buffer
-placeOf Block buffer block = block
+abbrev pub lentSlice : Place → (buffer block : List ℕ) → List ℕ
+lentSlice Buffer buffer block = buffer
+lentSlice Block buffer block = block
 
 -- a beginning of a list, or nothing if the list is too short
 abbrev pub front : (count : ℕ) → List ℕ → List ℕ
@@ -201,7 +198,7 @@ front count units = pick (leb count (length units)) (take count units) []
 
 -- The part of the buffer or of the block that a found field is.
 unfoldable pub partOf : Found → (buffer block : List ℕ) → List ℕ
-partOf found buffer block = front (found .count) (placeOf (found .place) buffer block)
+partOf found buffer block = front (found .count) (lentSlice (found .place) buffer block)
 
 abbrev pub lentAt : Place → (buffer block : RefT (List ℕ)) → RefT (List ℕ)
 lentAt Buffer buffer block = buffer

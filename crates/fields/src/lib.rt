@@ -12,8 +12,8 @@ ghost use Prim.Native.Nat.{_+_, _≤_};
 ghost use lib.Dec.{ltb};
 ghost use lib.ListN.{length, take};
 ghost use denote.Ref.{ptr};
-ghost use Rattle.fields.specs.Fields.{unitsIn, refusalNumber, fresh, overFrom, readWith, foundCall, heldCall, fieldCall, Answered, front, ShownAs};
-ghost use Rattle.fields.specs.Steps.{isSeparator, endOf, Passed, Scanned};
+ghost use Rattle.fields.specs.Fields.{fieldUnits, refusalNumber, freshHeld, overFrom, readWith, foundCall, heldCall, fieldCall, FieldAnswered, front, ShownAs};
+ghost use Rattle.fields.specs.Steps.{isSeparator, separatorEnd, NoSeparator, Scanned};
 ghost use Rattle.convert.specs.Runs.{pieceLimit};
 use convert::Run;
 
@@ -93,7 +93,7 @@ impl Held {
 
     // The state before the first call: nothing is held.
     pub fn fresh() -> Self
-        ensures { λ r. ⌜ r ≡ fresh ⌝ }
+        ensures { λ r. ⌜ r ≡ freshHeld ⌝ }
     {
         Held { count: 0 }
     }
@@ -112,7 +112,7 @@ fn is_separator(unit: u16) -> bool
 
 // What a separator ends.
 fn end_of(unit: u16) -> End
-    ensures { λ r. ⌜ r ≡ endOf unit ⌝ }
+    ensures { λ r. ⌜ r ≡ separatorEnd unit ⌝ }
 {
     if unit == BAR {
         return End::Bar;
@@ -122,7 +122,7 @@ fn end_of(unit: u16) -> End
 
 // Looks at four units: how many stand before the first separator among them, or 4.
 fn scan_four(block: &[u16], i: usize) -> usize
-    requires { ⌜ (i + 4 ≤ length (now block)) × Passed (now block) i ⌝ }
+    requires { ⌜ (i + 4 ≤ length (now block)) × NoSeparator (now block) i ⌝ }
     ensures { λ r. ⌜ Scanned (now (block .entry)) i r ⌝ }
 {
     if is_separator(block[i]) {
@@ -142,8 +142,8 @@ fn scan_four(block: &[u16], i: usize) -> usize
 
 // How many units stand before the first separator, if none stands before `start`.
 fn scan_rest(block: &[u16], start: usize) -> usize
-    requires { ⌜ (start ≤ length (now block)) × Passed (now block) start ⌝ }
-    ensures { λ r. ⌜ r ≡ length (unitsIn (now (block .entry))) ⌝ }
+    requires { ⌜ (start ≤ length (now block)) × NoSeparator (now block) start ⌝ }
+    ensures { λ r. ⌜ r ≡ length (fieldUnits (now (block .entry))) ⌝ }
 {
     let mut i = start;
     while i < block.len() {
@@ -157,7 +157,7 @@ fn scan_rest(block: &[u16], start: usize) -> usize
 
 // How many units stand before the first separator of a block. Four are looked at in a turn, since a turn costs as much as a unit.
 fn field_size(block: &[u16]) -> usize
-    ensures { λ r. ⌜ r ≡ length (unitsIn (now (block .entry))) ⌝ }
+    ensures { λ r. ⌜ r ≡ length (fieldUnits (now (block .entry))) ⌝ }
 {
     let mut i = 0;
     while 4 <= block.len() - i {
@@ -217,7 +217,7 @@ fn refused(refusal: Refusal, state: Held) -> Outcome
 // The next field: the units held and the first `size` units of the block.
 fn complete(held: usize, buffer: &mut [u16], block: &[u16], size: usize, end: End) -> Outcome
     requires { ⌜ (held + size ≤ length (now buffer)) × (size ≤ length (now block)) × (size ≤ pieceLimit) ⌝ }
-    ensures { λ r. ⌜ Answered (foundCall held (now (buffer .entry)) (take size (now (block .entry))) end) r (now (buffer .exit)) ⌝ }
+    ensures { λ r. ⌜ FieldAnswered (foundCall held (now (buffer .entry)) (take size (now (block .entry))) end) r (now (buffer .exit)) ⌝ }
 {
     let read = read_with(end, size);
     let state = Held::fresh();
@@ -249,7 +249,7 @@ fn complete(held: usize, buffer: &mut [u16], block: &[u16], size: usize, end: En
 // Holds the whole block.
 fn hold(held: usize, buffer: &mut [u16], block: &[u16]) -> Outcome
     requires { ⌜ held + length (now block) ≤ length (now buffer) ⌝ }
-    ensures { λ r. ⌜ Answered (heldCall held (now (buffer .entry)) (now (block .entry))) r (now (buffer .exit)) ⌝ }
+    ensures { λ r. ⌜ FieldAnswered (heldCall held (now (buffer .entry)) (now (block .entry))) r (now (buffer .exit)) ⌝ }
 {
     let size = block.len();
     lay(buffer, held, block, size);
@@ -262,7 +262,7 @@ fn hold(held: usize, buffer: &mut [u16], block: &[u16]) -> Outcome
 // Gives the next field of a text, or holds the block. Each block begins at the first unread unit; a call marked last has the
 // text's end. State and buffer are as the call before left them, at first a fresh state and any buffer of 256 units or more.
 pub fn next_field(state: Held, buffer: &mut [u16], block: &[u16], last: bool) -> Outcome
-    ensures { λ r. ⌜ Answered (fieldCall (state .count) (now (buffer .entry)) (now (block .entry)) last) r (now (buffer .exit)) ⌝ }
+    ensures { λ r. ⌜ FieldAnswered (fieldCall (state .count) (now (buffer .entry)) (now (block .entry)) last) r (now (buffer .exit)) ⌝ }
 {
     let held = state.count;
     if buffer.len() < Held::LIMIT {

@@ -14,7 +14,7 @@ use borrow.Author.Tests.{eqb-true, eqb-false, eq-eqb, leb-true, leb-false}
 use Rattle.codepage.specs.CodePage.{pick}
 use Rattle.codepage.specs.Lent.{over}
 use Rattle.codepage.specs.Reading.{encoder}
-use Rattle.utf16.specs.Utf16.{utf16Units, Laid}
+use Rattle.utf16.specs.Utf16.{utf16Units, LaidOver}
 use Rattle.utf16.proofs.Utf16Laws.{units-length, units-drop}
 use Rattle.engine.specs.declared.progress.Progress.{Progress}
 use Rattle.engine.specs.declared.Direction.the-variants.{Encoding}
@@ -280,7 +280,7 @@ encodes-small index blocks policy default =
     bounded-of Encoding (record { page = 0; defaultByte = default; defaultUnit = 0; classes = []; singles = []; pairs = []; index = index; blocks = blocks }) policy
 
 module _ (s : Progress) (buffer chunk units : List ℕ) (count : ℕ)
-    (copied : Laid (take (length chunk) (utf16Units (take (length buffer - 2 * s .used) (drop (2 * s .used) buffer)))) chunk units count) where
+    (copied : LaidOver (take (length chunk) (utf16Units (take (length buffer - 2 * s .used) (drop (2 * s .used) buffer)))) chunk units count) where
   copied-is : take (length chunk) (utf16Units (take (length buffer - 2 * s .used) (drop (2 * s .used) buffer))) ≡ take (length chunk) (utf16Units (drop (2 * s .used) buffer))
   copied-is = ap (λ (l : List ℕ). take (length chunk) (utf16Units l)) (part-rest (2 * s .used) buffer)
 

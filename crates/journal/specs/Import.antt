@@ -6,26 +6,26 @@ use mathlib.Core.Logic.{_⊎_}
 use mathlib.Core.Path.{_≡_}
 use Prim.Native.Nat.{ℕ}
 use Rattle.traces.specs.Model.{Setting, byValue, Call, feeding, saving, loading, opened, play, wholeOf}
-use Rattle.traces.specs.Traces.{Entry as RunEntry, callsOf}
+use Rattle.traces.specs.Traces.{Entry, callsOf}
 use Rattle.convert.specs.Sample.{room}
 use Rattle.fields.specs.Fields.{Field, fieldsOf}
-use Rattle.fields.specs.Cuttings.{Entry, Progress, opened as begun, play as cut, NoneLast}
+use Rattle.fields.specs.Cuttings.{FieldEntry, Progress, openedCutting, playFields, NoneLast}
 
 -- what the run calls wrote, joined
-unfoldable pub written : Setting → List RunEntry → List ℕ
-written s es = play s (opened s) (callsOf es) .joined
+unfoldable pub joinedOutput : Setting → List Entry → List ℕ
+joinedOutput s es = play s (opened s) (callsOf es) .joined
 
 -- whether the run calls have ended the run
-unfoldable pub isEnded : Setting → List RunEntry → Bool
+unfoldable pub isEnded : Setting → List Entry → Bool
 isEnded s es = play s (opened s) (callsOf es) .ended
 
 -- how far the field calls are on what was written
-unfoldable pub progress : Setting → List RunEntry → List Entry → Progress
-progress s es cs = cut (written s es) begun cs
+unfoldable pub progress : Setting → List Entry → List FieldEntry → Progress
+progress s es cs = playFields (joinedOutput s es) openedCutting cs
 
 -- THE CLAIM. A field call is marked last only if the run has ended. The fields given are the first of the whole reading's, and all
 -- of them once the run has ended and an accepted field call marked last has left nothing unread.
-pub record Imported (s : Setting) (es : List RunEntry) (cs : List Entry) : Type 0 where
+pub record Imported (s : Setting) (es : List Entry) (cs : List FieldEntry) : Type 0 where
   pub begins : (isEnded s es ≡ true) ⊎ NoneLast cs → (others : List Field) × (fieldsOf (wholeOf s .output) ≡ progress s es cs .given ++ others)
   pub all-of-them : isEnded s es ≡ true → progress s es cs .finished ≡ true → progress s es cs .given ≡ fieldsOf (wholeOf s .output)
 

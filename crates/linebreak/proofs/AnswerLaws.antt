@@ -19,7 +19,7 @@ use Rattle.linebreak.specs.declared.Refusal.the-variants.{BadShape, TooL
 use Rattle.linebreak.specs.declared.Checked.the-variants as checked
 use Rattle.linebreak.specs.declared.Proposed.the-variants as proposed
 use Rattle.linebreak.specs.Breaks.{acceptable, ours, breakable}
-use Rattle.linebreak.specs.Calls.{checkRefusal, unlessRefused, checkOf, proposeRefusal, proposalUnless, proposalOf}
+use Rattle.linebreak.specs.Calls.{checkRefusal, checkAnswer, checkOf, proposeRefusal, proposalUnless, proposalOf}
 use Rattle.linebreak.specs.Claims.{CheckSays, CheckPasses, OursExist, ProposeSays, ProposePasses}
 use Rattle.linebreak.proofs.CallLaws.{check-bad, check-long, check-refused, check-accepted, propose-bad, propose-long, propose-none, propose-short, propose-accepted}
 use Rattle.linebreak.proofs.Theorems.{ours-acceptable, exist-breakable, none-exists}
@@ -37,11 +37,11 @@ module _ (p : CodePage) (text : List ℕ) (width : ℕ) (breaks : List ℕ) wher
   check-passes ((g, h), a) = check-accepted p text width breaks (shape-exact p .1 g) h a
 
   -- the answer, and the first check that fails
-  answer-refused : (o : Option Refusal) (why : Refusal) → unlessRefused o ≡ checked.Refused why → o ≡ some why
+  answer-refused : (o : Option Refusal) (why : Refusal) → checkAnswer o ≡ checked.Refused why → o ≡ some why
   answer-refused none why e = absurd (let z : _≡_ {A = ℕ} 0 1 = cc in omega arith)
   answer-refused (some other) why e = let same : other ≡ why = cc in ap (λ (w : Refusal). some w) same
 
-  answer-accepted : (o : Option Refusal) → unlessRefused o ≡ checked.Acceptable → o ≡ none
+  answer-accepted : (o : Option Refusal) → checkAnswer o ≡ checked.Acceptable → o ≡ none
   answer-accepted none e = refl
   answer-accepted (some other) e = absurd (let z : _≡_ {A = ℕ} 0 1 = cc in omega arith)
 

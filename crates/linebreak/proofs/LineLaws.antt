@@ -15,8 +15,8 @@ use Rattle.codepage.specs.Reading.{Reader, codes}
 use Rattle.codepage.proofs.ShapeLaws.{and-left, and-right}
 use Rattle.codepage_walk.specs.Walk.{placed}
 use Rattle.codepage_walk.proofs.WalkLaws.{Uncut, uncut-start}
-use Rattle.linebreak.specs.Breaks.{every, belowNext, rising, lineSizes, oneTo, isPlace, isInner, acceptable}
-use Rattle.linebreak.specs.Steps.{lastPlace, lineGood, linesGood}
+use Rattle.linebreak.specs.Breaks.{allPass, belowNext, rising, lineSizes, oneTo, isPlace, isInner, acceptable}
+use Rattle.linebreak.specs.Steps.{lastCodePlace, lineGood, linesGood}
 use Rattle.linebreak.proofs.PlaceLaws.{place-last, places-from, sizes-left, last-uncut}
 
 pub both : (a b : Bool) → a ≡ true → b ≡ true → (a && b) ≡ true
@@ -46,7 +46,7 @@ module _ (r : Reader) (text : List ℕ) (width start b : ℕ) where
   too-wide h i w = rw (lt-ltb start b h, lt-ltb b (length text) i, lt-leb (b - start) width w)
 
   -- any other line is good exactly if the last place not behind the break is the break
-  pub line-cut : start < b → b < length text → b - start ≤ width → lineGood r text width start b ≡ eqb (lastPlace b start (codes r (drop start text))) b
+  pub line-cut : start < b → b < length text → b - start ≤ width → lineGood r text width start b ≡ eqb (lastCodePlace b start (codes r (drop start text))) b
   unfolding lineGood
   line-cut h i w = rw (lt-ltb start b h, lt-ltb b (length text) i, le-leb (b - start) width w)
 
@@ -137,10 +137,10 @@ module _ (r : Reader) (text : List ℕ) (width : ℕ) where
   -- ---- the four sentences of document 02
   abbrev Sentences : (start : ℕ) → (breaks : List ℕ) → Type 0
   Sentences start breaks =
-      (every (oneTo width) (lineSizes start breaks (length text)) ≡ true) × (every (isPlace (placed r text)) breaks ≡ true) × (every (isInner (length text)) breaks ≡ true)
+      (allPass (oneTo width) (lineSizes start breaks (length text)) ≡ true) × (allPass (isPlace (placed r text)) breaks ≡ true) × (allPass (isInner (length text)) breaks ≡ true)
 
   sentences-lines : (breaks : List ℕ) (start : ℕ) → Sentences start breaks → Lines r text width start breaks
-  unfolding every lineSizes Lines
+  unfolding allPass lineSizes Lines
   sentences-lines [] start (sizes, places, inners) =
       omega (arith, leb-true _ width (and-right (leb 1 (length text - start)) _ (and-left (oneTo width (length text - start)) _ sizes)))
   sentences-lines (b ∷ breaks) start (sizes, places, inners) =
@@ -159,7 +159,7 @@ module _ (r : Reader) (text : List ℕ) (width : ℕ) where
       )
 
   lines-sentences : (breaks : List ℕ) (start : ℕ) → start < length text → Lines r text width start breaks → (rising breaks ≡ true) × (belowNext start breaks ≡ true) × Sentences start breaks
-  unfolding every lineSizes Lines rising
+  unfolding allPass lineSizes Lines rising
   lines-sentences [] start h l =
       (refl, refl, (both _ true (both _ _ (le-leb 1 (length text - start) (omega arith)) (le-leb (length text - start) width (omega arith))) refl, refl, refl))
   lines-sentences (b ∷ breaks) start h (first, others) =
@@ -183,9 +183,9 @@ acceptable-lines r [] width [] = (λ e. omega arith, λ l. refl)
 acceptable-lines r [] width (b ∷ breaks) = (λ e. absurd (false≢true e), λ l. absurd (omega (arith, l .0 .inner)))
 acceptable-lines r (a ∷ text) width breaks = (
   λ e. let e1 = and-right (rising breaks) _ e in
-      let e2 = and-right (every (oneTo width) (lineSizes 0 breaks (length (a ∷ text)))) _ e1 in
+      let e2 = and-right (allPass (oneTo width) (lineSizes 0 breaks (length (a ∷ text)))) _ e1 in
       sentences-lines r (a ∷ text) width breaks 0
-      (and-left (every (oneTo width) (lineSizes 0 breaks (length (a ∷ text)))) _ e1, and-left (every (isPlace (placed r (a ∷ text))) breaks) _ e2, and-right (every (isPlace (placed r (a ∷ text))) breaks) _ e2),
+      (and-left (allPass (oneTo width) (lineSizes 0 breaks (length (a ∷ text)))) _ e1, and-left (allPass (isPlace (placed r (a ∷ text))) breaks) _ e2, and-right (allPass (isPlace (placed r (a ∷ text))) breaks) _ e2),
   λ l. let (rise, next, (sizes, places, inners)) = lines-sentences r (a ∷ text) width breaks 0 (omega arith) l in
       both _ _ rise (both _ _ sizes (both _ _ places inners)),
 )

@@ -13,27 +13,27 @@ use Rattle.codepage.proofs.ShapeLaws.{and-left, and-right}
 use Rattle.codepage_walk.specs.Walk.{placedFrom, placed}
 use Rattle.codepage_walk.proofs.WalkLaws.{codes-next}
 use Rattle.linebreak.specs.Breaks.{breaksFrom, ours, allFit, breakable}
-use Rattle.linebreak.specs.Steps.{lastPlace}
+use Rattle.linebreak.specs.Steps.{lastCodePlace}
 use Rattle.linebreak.proofs.PlaceLaws.{last-stops, last-goes, sizes-left}
 
 -- ---- the last place lies between
 -- the last place is not before the place that the codes follow from
-pub last-from : (to place : ℕ) (ks : List Code) → place ≤ lastPlace to place ks
-unfolding lastPlace
+pub last-from : (to place : ℕ) (ks : List Code) → place ≤ lastCodePlace to place ks
+unfolding lastCodePlace
 last-from to place [] = omega arith
 last-from to place (k ∷ ks) = by (leb (place + sizeOf k) to) refl (last-from to (place + sizeOf k) ks)
   where
-    by : (t : Bool) → leb (place + sizeOf k) to ≡ t → place + sizeOf k ≤ lastPlace to (place + sizeOf k) ks → place ≤ lastPlace to place (k ∷ ks)
+    by : (t : Bool) → leb (place + sizeOf k) to ≡ t → place + sizeOf k ≤ lastCodePlace to (place + sizeOf k) ks → place ≤ lastCodePlace to place (k ∷ ks)
     by true e later = omega (arith, last-goes to place k ks (leb-true _ _ e))
     by false e later = omega (arith, last-stops to place k ks (leb-false _ _ e))
 
 -- the last place is not behind `to`, if the codes follow from `to` or before it
-pub last-within : (to place : ℕ) (ks : List Code) → place ≤ to → lastPlace to place ks ≤ to
-unfolding lastPlace
+pub last-within : (to place : ℕ) (ks : List Code) → place ≤ to → lastCodePlace to place ks ≤ to
+unfolding lastCodePlace
 last-within to place [] h = h
 last-within to place (k ∷ ks) h = by (leb (place + sizeOf k) to) refl (last-within to (place + sizeOf k) ks)
   where
-    by : (t : Bool) → leb (place + sizeOf k) to ≡ t → (place + sizeOf k ≤ to → lastPlace to (place + sizeOf k) ks ≤ to) → lastPlace to place (k ∷ ks) ≤ to
+    by : (t : Bool) → leb (place + sizeOf k) to ≡ t → (place + sizeOf k ≤ to → lastCodePlace to (place + sizeOf k) ks ≤ to) → lastCodePlace to place (k ∷ ks) ≤ to
     by true e later = omega (arith, last-goes to place k ks (leb-true _ _ e), later (leb-true _ _ e))
     by false e later = omega (arith, last-stops to place k ks (leb-false _ _ e))
 
@@ -86,14 +86,14 @@ breakAt r text width place = place ∷ breaksFrom width (placedFrom place (codes
 module _ (r : Reader) (text : List ℕ) (width start : ℕ) where
   -- its codes fit
   line-fits : (ks : List Code) (place : ℕ) → codes r (drop place text) ≡ ks → start ≤ place
-      → allFit width ks ≡ allFit width (codes r (drop (lastPlace (start + width) place ks) text))
-  unfolding lastPlace
+      → allFit width ks ≡ allFit width (codes r (drop (lastCodePlace (start + width) place ks) text))
+  unfolding lastCodePlace
   line-fits [] place e h = ap (allFit width) (sym e)
   line-fits (k ∷ ks) place e h = by (leb (place + sizeOf k) (start + width)) refl (line-fits ks (place + sizeOf k))
     where
       by : (t : Bool) → leb (place + sizeOf k) (start + width) ≡ t
-          → (codes r (drop (place + sizeOf k) text) ≡ ks → start ≤ place + sizeOf k → allFit width ks ≡ allFit width (codes r (drop (lastPlace (start + width) (place + sizeOf k) ks) text)))
-          → allFit width (k ∷ ks) ≡ allFit width (codes r (drop (lastPlace (start + width) place (k ∷ ks)) text))
+          → (codes r (drop (place + sizeOf k) text) ≡ ks → start ≤ place + sizeOf k → allFit width ks ≡ allFit width (codes r (drop (lastCodePlace (start + width) (place + sizeOf k) ks) text)))
+          → allFit width (k ∷ ks) ≡ allFit width (codes r (drop (lastCodePlace (start + width) place (k ∷ ks)) text))
       by true q later =
           let fits = leb-true _ _ q in
           fit-rest width place k ks start (omega arith) ∙ later (codes-next r text place k ks e .others) (omega arith)
@@ -103,15 +103,15 @@ module _ (r : Reader) (text : List ℕ) (width start : ℕ) where
   -- our breaks: its end, and those of the rest
   line-breaks : (ks : List Code) (place : ℕ) → codes r (drop place text) ≡ ks → place ≤ start + width → start + width < place + sizesOf ks → allFit width ks ≡ true
       → breaksFrom width (placedFrom place ks) start
-      ≡ breakAt r text width (lastPlace (start + width) place ks)
-  unfolding lastPlace
+      ≡ breakAt r text width (lastCodePlace (start + width) place ks)
+  unfolding lastCodePlace
   line-breaks [] place e h l f = absurd (omega arith)
   line-breaks (k ∷ ks) place e h l f = by (leb (place + sizeOf k) (start + width)) refl (line-breaks ks (place + sizeOf k))
     where
       by : (t : Bool) → leb (place + sizeOf k) (start + width) ≡ t
           → (codes r (drop (place + sizeOf k) text) ≡ ks → place + sizeOf k ≤ start + width → start + width < place + sizeOf k + sizesOf ks → allFit width ks ≡ true
-          → breaksFrom width (placedFrom (place + sizeOf k) ks) start ≡ breakAt r text width (lastPlace (start + width) (place + sizeOf k) ks))
-          → breaksFrom width (placedFrom place (k ∷ ks)) start ≡ breakAt r text width (lastPlace (start + width) place (k ∷ ks))
+          → breaksFrom width (placedFrom (place + sizeOf k) ks) start ≡ breakAt r text width (lastCodePlace (start + width) (place + sizeOf k) ks))
+          → breaksFrom width (placedFrom place (k ∷ ks)) start ≡ breakAt r text width (lastCodePlace (start + width) place (k ∷ ks))
       by true q later =
           let fits = leb-true _ _ q in
           goes-on width place k ks start fits ∙ later (codes-next r text place k ks e .others) fits (omega arith) (fit-others width place k ks start f)
@@ -124,7 +124,7 @@ module _ (r : Reader) (text : List ℕ) (width start : ℕ) where
           ∙ ap (breakAt r text width) (sym (last-stops (start + width) place k ks over))
 
   -- a first code that does not fit
-  line-stuck : (ks : List Code) → start + width < start + sizesOf ks → lastPlace (start + width) start ks ≡ start → allFit width ks ≡ false
+  line-stuck : (ks : List Code) → start + width < start + sizesOf ks → lastCodePlace (start + width) start ks ≡ start → allFit width ks ≡ false
   line-stuck [] l e = absurd (omega arith)
   line-stuck (k ∷ ks) l e = by (leb (start + sizeOf k) (start + width)) refl
     where
@@ -139,7 +139,7 @@ pub record Going (r : Reader) (text : List ℕ) (width start : ℕ) (done : List
 
 -- where our line from `start` ends: the last place that is at most the width behind it
 abbrev pub lineEnd : Reader → (text : List ℕ) → (width start : ℕ) → ℕ
-lineEnd r text width start = lastPlace (start + width) start (codes r (drop start text))
+lineEnd r text width start = lastCodePlace (start + width) start (codes r (drop start text))
 
 -- at the text's beginning none is done
 pub going-start : (r : Reader) (text : List ℕ) (width : ℕ) → Going r text width 0 []

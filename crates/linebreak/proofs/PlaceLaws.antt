@@ -13,35 +13,35 @@ use Rattle.codepage.proofs.ShapeLaws.{or-left-false, or-right-false}
 use Rattle.codepage_walk.specs.Walk.{Placed, placedFrom, placed, SizedAs}
 use Rattle.codepage_walk.proofs.WalkLaws.{Uncut, Next, codes-next, codes-cover, uncut-next, placed-from}
 use Rattle.linebreak.specs.Breaks.{isPlace}
-use Rattle.linebreak.specs.Steps.{lastPlace}
+use Rattle.linebreak.specs.Steps.{lastCodePlace}
 
 -- ---- the last place
 module _ (to place : ℕ) (k : Code) (ks : List Code) where
   -- the first code ends behind `to`: the last place is where it begins
-  pub last-stops : to < place + sizeOf k → lastPlace to place (k ∷ ks) ≡ place
-  unfolding lastPlace
-  last-stops h = rw (lt-leb (place + sizeOf k) to h, lastPlace)
+  pub last-stops : to < place + sizeOf k → lastCodePlace to place (k ∷ ks) ≡ place
+  unfolding lastCodePlace
+  last-stops h = rw (lt-leb (place + sizeOf k) to h, lastCodePlace)
 
   -- the first code ends at `to` or before it: the last place is that of the codes behind it
-  pub last-goes : place + sizeOf k ≤ to → lastPlace to place (k ∷ ks) ≡ lastPlace to (place + sizeOf k) ks
-  unfolding lastPlace
-  last-goes h = rw (le-leb (place + sizeOf k) to h, lastPlace)
+  pub last-goes : place + sizeOf k ≤ to → lastCodePlace to place (k ∷ ks) ≡ lastCodePlace to (place + sizeOf k) ks
+  unfolding lastCodePlace
+  last-goes h = rw (le-leb (place + sizeOf k) to h, lastCodePlace)
 
 -- one turn of the walk
 module _ (r : Reader) (text : List ℕ) (to place size : ℕ) (s : SizedAs r text place size) where
   -- the code at the place ends behind `to`: the last place is where it begins
-  pub last-stop : to < place + size → lastPlace to place (codes r (drop place text)) ≡ place
-  last-stop h = ap (lastPlace to place) (s .at .here) ∙ last-stops to place (s .code) _ (omega (arith, s .sized))
+  pub last-stop : to < place + size → lastCodePlace to place (codes r (drop place text)) ≡ place
+  last-stop h = ap (lastCodePlace to place) (s .at .here) ∙ last-stops to place (s .code) _ (omega (arith, s .sized))
 
   -- the code at the place ends at `to` or before it: the last place is that of the codes from its end on
-  pub last-next : place + size ≤ to → lastPlace to place (codes r (drop place text)) ≡ lastPlace to (place + size) (codes r (drop (place + size) text))
+  pub last-next : place + size ≤ to → lastCodePlace to place (codes r (drop place text)) ≡ lastCodePlace to (place + size) (codes r (drop (place + size) text))
   last-next h =
-      ap (lastPlace to place) (s .at .here) ∙ last-goes to place (s .code) _ (omega (arith, s .sized))
-      ∙ ap (λ (n : ℕ). lastPlace to (place + n) (codes r (drop (place + n) text))) (sym (s .sized))
+      ap (lastCodePlace to place) (s .at .here) ∙ last-goes to place (s .code) _ (omega (arith, s .sized))
+      ∙ ap (λ (n : ℕ). lastCodePlace to (place + n) (codes r (drop (place + n) text))) (sym (s .sized))
 
 -- the codes begin at `to` or behind it: the last place is where they begin
-pub last-here : (to place : ℕ) (ks : List Code) → to ≤ place → lastPlace to place ks ≡ place
-unfolding lastPlace
+pub last-here : (to place : ℕ) (ks : List Code) → to ≤ place → lastCodePlace to place ks ≡ place
+unfolding lastCodePlace
 last-here to place [] h = refl
 last-here to place (k ∷ ks) h = last-stops to place k ks (omega arith)
 
@@ -76,13 +76,13 @@ unfolding isPlace placedFrom
 place-only place k ks b h = rw (place-below (place + sizeOf k) ks b h) (or-false (eqb place b))
 
 -- A code begins at a place exactly if it is the last place not behind itself.
-pub place-last : (to place : ℕ) (ks : List Code) → place ≤ to → to < place + sizesOf ks → isPlace (placedFrom place ks) to ≡ eqb (lastPlace to place ks) to
+pub place-last : (to place : ℕ) (ks : List Code) → place ≤ to → to < place + sizesOf ks → isPlace (placedFrom place ks) to ≡ eqb (lastCodePlace to place ks) to
 place-last to place [] h l = absurd (omega arith)
 place-last to place (k ∷ ks) h l = by (leb (place + sizeOf k) to) refl (place-last to (place + sizeOf k) ks)
   where
     by : (t : Bool) → leb (place + sizeOf k) to ≡ t
-        → (place + sizeOf k ≤ to → to < place + sizeOf k + sizesOf ks → isPlace (placedFrom (place + sizeOf k) ks) to ≡ eqb (lastPlace to (place + sizeOf k) ks) to)
-        → isPlace (placedFrom place (k ∷ ks)) to ≡ eqb (lastPlace to place (k ∷ ks)) to
+        → (place + sizeOf k ≤ to → to < place + sizeOf k + sizesOf ks → isPlace (placedFrom (place + sizeOf k) ks) to ≡ eqb (lastCodePlace to (place + sizeOf k) ks) to)
+        → isPlace (placedFrom place (k ∷ ks)) to ≡ eqb (lastCodePlace to place (k ∷ ks)) to
     by true e later =
         let fits = leb-true _ _ e in
         place-next place k ks to (omega arith) ∙ later fits (omega arith) ∙ ap (λ (n : ℕ). eqb n to) (sym (last-goes to place k ks fits))
@@ -107,8 +107,8 @@ module _ (r : Reader) (text : List ℕ) where
   sizes-left place h = omega (arith, codes-cover r (drop place text), length-drop place text)
 
   -- the last place cuts no code either
-  uncut-last : (to place : ℕ) (ks : List Code) → codes r (drop place text) ≡ ks → Uncut r text place → Uncut r text (lastPlace to place ks)
-  unfolding lastPlace
+  uncut-last : (to place : ℕ) (ks : List Code) → codes r (drop place text) ≡ ks → Uncut r text place → Uncut r text (lastCodePlace to place ks)
+  unfolding lastCodePlace
   uncut-last to place [] e u = u
   uncut-last to place (k ∷ ks) e u = by (leb (place + sizeOf k) to) refl (uncut-last to (place + sizeOf k) ks)
     where
@@ -116,11 +116,11 @@ module _ (r : Reader) (text : List ℕ) where
       next = codes-next r text place k ks e
 
       by : (t : Bool) → leb (place + sizeOf k) to ≡ t
-          → (codes r (drop (place + sizeOf k) text) ≡ ks → Uncut r text (place + sizeOf k) → Uncut r text (lastPlace to (place + sizeOf k) ks))
-          → Uncut r text (lastPlace to place (k ∷ ks))
+          → (codes r (drop (place + sizeOf k) text) ≡ ks → Uncut r text (place + sizeOf k) → Uncut r text (lastCodePlace to (place + sizeOf k) ks))
+          → Uncut r text (lastCodePlace to place (k ∷ ks))
       by true q later = subst (Uncut r text) (sym (last-goes to place k ks (leb-true _ _ q))) (later (next .others) (uncut-next r text place k u (next .at)))
       by false q later = subst (Uncut r text) (sym (last-stops to place k ks (leb-false _ _ q))) u
 
   -- from a place that cuts no code, the last place of the text's codes cuts none either
-  pub last-uncut : (to place : ℕ) → Uncut r text place → Uncut r text (lastPlace to place (codes r (drop place text)))
+  pub last-uncut : (to place : ℕ) → Uncut r text place → Uncut r text (lastCodePlace to place (codes r (drop place text)))
   last-uncut to place u = uncut-last to place (codes r (drop place text)) refl u

@@ -9,9 +9,9 @@ use Rattle.codepage.specs.Reading.{Reader, Code, sizeOf, codes}
 use Rattle.codepage_walk.specs.Walk.{Placed, placed}
 
 -- whether all numbers of a list pass a test
-unfoldable pub every : (ℕ → Bool) → List ℕ → Bool
-every holds [] = true
-every holds (n ∷ ns) = holds n && every holds ns
+unfoldable pub allPass : (ℕ → Bool) → List ℕ → Bool
+allPass holds [] = true
+allPass holds (n ∷ ns) = holds n && allPass holds ns
 
 -- "the breaks rise strictly"
 abbrev pub belowNext : ℕ → List ℕ → Bool
@@ -50,9 +50,9 @@ unfoldable pub acceptable : Reader → (text : List ℕ) → (width : ℕ) → (
 acceptable r text width breaks =
     pick (isEmpty text) (isEmpty breaks)
     (rising breaks
-    && (every (oneTo width) (lineSizes 0 breaks (length text))
-    && (every (isPlace (placed r text)) breaks
-    && every (isInner (length text)) breaks)))
+    && (allPass (oneTo width) (lineSizes 0 breaks (length text))
+    && (allPass (isPlace (placed r text)) breaks
+    && allPass (isInner (length text)) breaks)))
 
 -- OUR BREAKS, "each line from the first on as long as it can be": a code that ends more than the width behind the line's start
 -- begins the next line.

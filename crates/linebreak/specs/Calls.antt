@@ -30,13 +30,13 @@ unfoldable pub checkRefusal : CodePage → (text : List ℕ) → (width : ℕ) �
 checkRefusal p text width breaks = textChecks BadShape TooLong p pieceLimit (length text) (refuseUnless NotAcceptable (acceptable (bytesReader p) text width breaks) none)
 
 -- the answer of a check: the refusal, or acceptable if there is none
-abbrev pub unlessRefused : Option Refusal → Checked
-unlessRefused none = checked.Acceptable
-unlessRefused (some refusal) = checked.Refused refusal
+abbrev pub checkAnswer : Option Refusal → Checked
+checkAnswer none = checked.Acceptable
+checkAnswer (some refusal) = checked.Refused refusal
 
 -- THE CHECK.
 unfoldable pub checkOf : CodePage → (text : List ℕ) → (width : ℕ) → (breaks : List ℕ) → Checked
-checkOf p text width breaks = unlessRefused (checkRefusal p text width breaks)
+checkOf p text width breaks = checkAnswer (checkRefusal p text width breaks)
 
 -- ---- proposing, 10 and 11 first: 31 exactly if no acceptable breaks exist, 32 exactly if ours do not fit the lent list
 unfoldable pub proposeRefusal : CodePage → (text : List ℕ) → (width : ℕ) → (room : ℕ) → Option Refusal

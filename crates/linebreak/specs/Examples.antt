@@ -20,8 +20,8 @@ pub record ProposeRow : Type 0 where
   pub answer : Proposed
   pub after : List ℕ
 
-abbrev row : List ℕ → ℕ → List ℕ → Proposed → List ℕ → ProposeRow
-row text width lent answer after = record { text = text; width = width; lent = lent; answer = answer; after = after }
+abbrev breakRow : List ℕ → ℕ → List ℕ → Proposed → List ℕ → ProposeRow
+breakRow text width lent answer after = record { text = text; width = width; lent = lent; answer = answer; after = after }
 
 -- 81 40 41: a code of two bytes and one of one
 abbrev pub pairAndByte : List ℕ
@@ -31,23 +31,23 @@ pairAndByte = 0x81 ∷ 0x40 ∷ 0x41 ∷ []
 abbrev pub proposeRows : List ProposeRow
 proposeRows =
     -- width 2: one break, at 2; the rest of the list as before
-    row pairAndByte 2 (9 ∷ 9 ∷ []) (proposed.Breaks 1) (2 ∷ 9 ∷ [])
+    breakRow pairAndByte 2 (9 ∷ 9 ∷ []) (proposed.Breaks 1) (2 ∷ 9 ∷ [])
     -- width 3 and over: none
-    ∷ row pairAndByte 3 (9 ∷ []) (proposed.Breaks 0) (9 ∷ [])
-    ∷ row pairAndByte 0xFFFFFFFFFFFFFFFF [] (proposed.Breaks 0) []
+    ∷ breakRow pairAndByte 3 (9 ∷ []) (proposed.Breaks 0) (9 ∷ [])
+    ∷ breakRow pairAndByte 0xFFFFFFFFFFFFFFFF [] (proposed.Breaks 0) []
     -- width 1 and 0: no acceptable breaks exist, also where the list is too short
-    ∷ row pairAndByte 1 (9 ∷ 9 ∷ []) (proposed.Refused NoneExists) (9 ∷ 9 ∷ [])
-    ∷ row pairAndByte 0 [] (proposed.Refused NoneExists) []
+    ∷ breakRow pairAndByte 1 (9 ∷ 9 ∷ []) (proposed.Refused NoneExists) (9 ∷ 9 ∷ [])
+    ∷ breakRow pairAndByte 0 [] (proposed.Refused NoneExists) []
     -- ours do not fit the list
-    ∷ row pairAndByte 2 [] (proposed.Refused ListTooShort) []
-    ∷ row (0x41 ∷ 0x42 ∷ 0x43 ∷ []) 1 (9 ∷ []) (proposed.Refused ListTooShort) (9 ∷ [])
-    ∷ row (0x41 ∷ 0x42 ∷ 0x43 ∷ []) 1 (9 ∷ 9 ∷ 9 ∷ []) (proposed.Breaks 2) (1 ∷ 2 ∷ 9 ∷ [])
+    ∷ breakRow pairAndByte 2 [] (proposed.Refused ListTooShort) []
+    ∷ breakRow (0x41 ∷ 0x42 ∷ 0x43 ∷ []) 1 (9 ∷ []) (proposed.Refused ListTooShort) (9 ∷ [])
+    ∷ breakRow (0x41 ∷ 0x42 ∷ 0x43 ∷ []) 1 (9 ∷ 9 ∷ 9 ∷ []) (proposed.Breaks 2) (1 ∷ 2 ∷ 9 ∷ [])
     -- the empty text, any width
-    ∷ row [] 0 (9 ∷ []) (proposed.Breaks 0) (9 ∷ [])
+    ∷ breakRow [] 0 (9 ∷ []) (proposed.Breaks 0) (9 ∷ [])
     -- 81 0A: the lead alone (CR 2), so a line may end behind it; 81 at the text's end is one byte
-    ∷ row (0x81 ∷ 0x0A ∷ 0x81 ∷ []) 1 (9 ∷ 9 ∷ []) (proposed.Breaks 2) (1 ∷ 2 ∷ [])
+    ∷ breakRow (0x81 ∷ 0x0A ∷ 0x81 ∷ []) 1 (9 ∷ 9 ∷ []) (proposed.Breaks 2) (1 ∷ 2 ∷ [])
     -- 41 81 40 at width 2: the pair begins the next line
-    ∷ row (0x41 ∷ 0x81 ∷ 0x40 ∷ []) 2 (9 ∷ []) (proposed.Breaks 1) (1 ∷ [])
+    ∷ breakRow (0x41 ∷ 0x81 ∷ 0x40 ∷ []) 2 (9 ∷ []) (proposed.Breaks 1) (1 ∷ [])
     ∷ []
 
 abbrev pub ProposeHolds : ProposeRow → Type 0

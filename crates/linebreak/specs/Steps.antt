@@ -17,9 +17,9 @@ pub record GoodClasses (classes : List ℕ) : Type 0 where
   pub no-low-lead : NoLowLead classes
 
 -- The last place, not behind `to`, where a code begins or the text ends: codes follow one another from a place.
-unfoldable pub lastPlace : (to place : ℕ) → List Code → ℕ
-lastPlace to place [] = place
-lastPlace to place (k ∷ ks) = elim (leb (place + sizeOf k) to) [ true ↦ lastPlace to (place + sizeOf k) ks | false ↦ place ]
+unfoldable pub lastCodePlace : (to place : ℕ) → List Code → ℕ
+lastCodePlace to place [] = place
+lastCodePlace to place (k ∷ ks) = elim (leb (place + sizeOf k) to) [ true ↦ lastCodePlace to (place + sizeOf k) ks | false ↦ place ]
 
 -- The lead bytes side by side before a place, back to another: they begin there, and before them is no lead byte or that place.
 pub record LeadsBefore (classes text : List ℕ) (from to place : ℕ) : Type 0 where
@@ -31,7 +31,7 @@ pub record LeadsBefore (classes text : List ℕ) (from to place : ℕ) : Type 0 
 -- A line that is not the last, from a place that cuts no code to a break: it rises, the break is inner, it is within the width, and
 -- no code is cut.
 unfoldable pub lineGood : Reader → (text : List ℕ) → (width start b : ℕ) → Bool
-lineGood r text width start b = ltb start b && (ltb b (length text) && (leb (b - start) width && eqb (lastPlace b start (codes r (drop start text))) b))
+lineGood r text width start b = ltb start b && (ltb b (length text) && (leb (b - start) width && eqb (lastCodePlace b start (codes r (drop start text))) b))
 
 -- the lines from there on
 unfoldable pub linesGood : Reader → (text : List ℕ) → (width start : ℕ) → (breaks : List ℕ) → Bool

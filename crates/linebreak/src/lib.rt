@@ -17,7 +17,7 @@ ghost use Rattle.convert.specs.Runs.{pieceLimit};
 ghost use Rattle.codepage_walk.specs.Checks.{ForClasses};
 ghost use Rattle.linebreak.specs.Breaks.{ours, breakable};
 ghost use Rattle.linebreak.specs.Calls.{breakNumber, checkOf, proposalOf, ProposedAs};
-ghost use Rattle.linebreak.specs.Steps.{lastPlace, GoodClasses, LeadsBefore, lineGood, linesGood, CountedAs, sureToFit};
+ghost use Rattle.linebreak.specs.Steps.{lastCodePlace, GoodClasses, LeadsBefore, lineGood, linesGood, CountedAs, sureToFit};
 use codepage::Numbers;
 use convert::Run;
 
@@ -82,7 +82,7 @@ fn leads_before(classes: &[u8], text: &[u8], from: usize, to: usize) -> usize
 // byte that is no lead byte a code ends, and lead bytes side by side are codes of two; so only those before `to` are looked at.
 fn last_place(classes: &[u8], text: &[u8], from: usize, to: usize) -> usize
     requires { ⌜ GoodClasses (now classes) × (from ≤ to) × (to ≤ length (now text)) ⌝ }
-    ensures { λ r. ⌜ ForClasses (now (classes .entry)) (λ (reader : Reader). r ≡ lastPlace to from (codes reader (drop from (now (text .entry))))) ⌝ }
+    ensures { λ r. ⌜ ForClasses (now (classes .entry)) (λ (reader : Reader). r ≡ lastCodePlace to from (codes reader (drop from (now (text .entry))))) ⌝ }
 {
     let begin = leads_before(classes, text, from, to);
     if (to - begin) % 2 == 0 {

@@ -16,17 +16,17 @@ use Rattle.spelling.specs.declared.Refusal.the-variants.{AtFault}
 use Rattle.spelling.specs.declared.Spelled.the-variants as spelled
 use Rattle.spelling.specs.declared.SpelledCode.{SpelledCode}
 use Rattle.spelling.specs.Spelling.{codeSpelling, faultOr, firstAtFault, bytesIf, spellingBytes, faultOf, bytesFor}
-use Rattle.spelling.specs.Steps.{SpelledRead, countedUnless, countedOf, Passed, Begun}
+use Rattle.spelling.specs.Steps.{SpelledRead, countedUnless, countedOf, SpanSpelled, Begun}
 use Rattle.spelling.proofs.SpellLaws.{none-spells, code-spells, bytes-few}
 
 -- ---- codes passed
 module _ (r : Reader) (spell : Lookup → Option ℕ) (text : List ℕ) where
   -- nothing is passed
-  pub passed-none : (from : ℕ) → Passed r spell text from from []
+  pub passed-none : (from : ℕ) → SpanSpelled r spell text from from []
   passed-none from = record { fault = refl; spelled = refl }
 
   -- one stretch behind another
-  pub passed-join : (from mid to : ℕ) (xs ys : List ℕ) → Passed r spell text from mid xs → Passed r spell text mid to ys → Passed r spell text from to (xs ++ ys)
+  pub passed-join : (from mid to : ℕ) (xs ys : List ℕ) → SpanSpelled r spell text from mid xs → SpanSpelled r spell text mid to ys → SpanSpelled r spell text from to (xs ++ ys)
   passed-join from mid to xs ys a b =
       record {
         fault = a .fault ∙ b .fault;
@@ -35,7 +35,7 @@ module _ (r : Reader) (spell : Lookup → Option ℕ) (text : List ℕ) where
 
   module _ (place : ℕ) (k : Code) (at : CodeAt r text place k) where
     -- the code at a place, spelled by a code
-    pub passed-code : (code : ℕ) → spell (k .means) ≡ some code → Passed r spell text place (place + sizeOf k) (bytesOf code)
+    pub passed-code : (code : ℕ) → spell (k .means) ≡ some code → SpanSpelled r spell text place (place + sizeOf k) (bytesOf code)
     unfolding firstAtFault spellingBytes
     passed-code code e =
         let next = place + sizeOf k in
@@ -78,16 +78,16 @@ module _ (r : Reader) (index blocks text : List ℕ) (place : ℕ) (c : SpelledC
   read-fault e = fault-here r (codeSpelling r index blocks) text place (w .code) (w .at) (none-spells r index blocks (w .code .means) (c .code) (w .spelling) e)
 
   -- it is passed
-  pub read-passed : (c .code ≡ 0xFFFF → ⊥) → Passed r (codeSpelling r index blocks) text place (place + c .size) (bytesOf (c .code))
+  pub read-passed : (c .code ≡ 0xFFFF → ⊥) → SpanSpelled r (codeSpelling r index blocks) text place (place + c .size) (bytesOf (c .code))
   read-passed e =
-      subst (λ (n : ℕ). Passed r (codeSpelling r index blocks) text place (place + n) (bytesOf (c .code))) (sym (w .size))
+      subst (λ (n : ℕ). SpanSpelled r (codeSpelling r index blocks) text place (place + n) (bytesOf (c .code))) (sym (w .size))
       (passed-code r (codeSpelling r index blocks) text place (w .code) (w .at) (c .code) (code-spells r index blocks (w .code .means) (c .code) (w .spelling) e))
 
 -- ---- counting
 -- up to a place no code is at fault, and the codes are spelled by so many bytes
 pub record Counting (r : Reader) (index blocks text : List ℕ) (place count : ℕ) : Type 0 where
   pub bytes : List ℕ
-  pub passed : Passed r (codeSpelling r index blocks) text 0 place bytes
+  pub passed : SpanSpelled r (codeSpelling r index blocks) text 0 place bytes
   pub size : length bytes ≡ count
 
 module _ (r : Reader) (index blocks text : List ℕ) where
@@ -97,7 +97,7 @@ module _ (r : Reader) (index blocks text : List ℕ) where
 
   module _ (place count : ℕ) (w : Counting r index blocks text place count) where
     -- one stretch more
-    pub counting-more : (to : ℕ) (bytes : List ℕ) (n : ℕ) → Passed r (codeSpelling r index blocks) text place to bytes → n ≡ length bytes → Counting r index blocks text to (count + n)
+    pub counting-more : (to : ℕ) (bytes : List ℕ) (n : ℕ) → SpanSpelled r (codeSpelling r index blocks) text place to bytes → n ≡ length bytes → Counting r index blocks text to (count + n)
     counting-more to bytes n h e =
         record {
           bytes = w .bytes ++ bytes;
@@ -122,7 +122,7 @@ module _ (r : Reader) (index blocks text : List ℕ) where
 -- ---- writing
 -- up to a place the spelling is written, and behind it the output is as before
 pub record Writing (r : Reader) (index blocks text before : List ℕ) (place written : ℕ) (out : List ℕ) : Type 0 where
-  pub passed : Passed r (codeSpelling r index blocks) text 0 place (take written out)
+  pub passed : SpanSpelled r (codeSpelling r index blocks) text 0 place (take written out)
   pub within : written ≤ length out
   pub same : length out ≡ length before
   pub kept : drop written out ≡ drop written before
@@ -153,7 +153,7 @@ module _ (r : Reader) (index blocks text before : List ℕ) where
 
   module _ (place written : ℕ) (out : List ℕ) (w : Writing r index blocks text before place written out) where
     -- what comes next fits the room
-    pub writing-room : Writable r index blocks text before → (to : ℕ) (bytes : List ℕ) → Passed r (codeSpelling r index blocks) text place to bytes → written + length bytes ≤ length out
+    pub writing-room : Writable r index blocks text before → (to : ℕ) (bytes : List ℕ) → SpanSpelled r (codeSpelling r index blocks) text place to bytes → written + length bytes ≤ length out
     writing-room able to bytes h =
         let rest = spellingBytes (codeSpelling r index blocks) (codes r (drop to text)) in
         let total : bytesFor r index blocks text ≡ take written out ++ (bytes ++ rest) = w .passed .spelled ∙ ap (λ (l : List ℕ). take written out ++ l) (h .spelled) in
@@ -168,13 +168,13 @@ module _ (r : Reader) (index blocks text before : List ℕ) where
         omega arith
 
     -- one stretch more
-    pub writing-more : (to : ℕ) (bytes after : List ℕ) → Passed r (codeSpelling r index blocks) text place to bytes → written + length bytes ≤ length out → length after ≡ length out → after ≡ laid out written bytes
+    pub writing-more : (to : ℕ) (bytes after : List ℕ) → SpanSpelled r (codeSpelling r index blocks) text place to bytes → written + length bytes ≤ length out → length after ≡ length out → after ≡ laid out written bytes
         → Writing r index blocks text before to (written + length bytes) after
     writing-more to bytes after h room size e =
         let n = length bytes in
         record {
           passed =
-              subst (Passed r (codeSpelling r index blocks) text 0 to) (sym (ap (take (written + n)) e ∙ laid-front out written bytes room))
+              subst (SpanSpelled r (codeSpelling r index blocks) text 0 to) (sym (ap (take (written + n)) e ∙ laid-front out written bytes room))
               (passed-join r (codeSpelling r index blocks) text 0 place to (take written out) bytes (w .passed) h);
           within = omega arith;
           same = size ∙ w .same;

@@ -20,7 +20,7 @@ use Rattle.convert.specs.Runs.{pieceLimit}
 use Rattle.codepage_walk.proofs.WalkLaws.{at-one, at-two}
 use Rattle.engine_fastpath.specs.Runs.{EachBelow}
 use Rattle.spelling.specs.Spelling.{isCharacter, isOneCode, readsBack, unitSpelling, codeSpelling}
-use Rattle.spelling.specs.Steps.{Passed, PassedSame, Begun, SameSingle, SamePair, SameSize}
+use Rattle.spelling.specs.Steps.{SpanSpelled, SpanSame, Begun, SameSingle, SamePair, SameSize}
 use Rattle.spelling.proofs.SpellLaws.{one-byte, two-bytes, read-two, back-single, own-back}
 use Rattle.spelling.proofs.LoopLaws.{passed-none, passed-join, passed-code, Counting, counting-more, Writing, Writable, writing-start, writing-room, writing-more}
 
@@ -53,13 +53,13 @@ module _ (classes singles pairs index blocks text : List ℕ) (place : ℕ) wher
   character-back : (unit : ℕ) (means : Lookup) → means ≡ Found unit → isCharacter unit means ≡ true
   character-back unit means e = ap (isCharacter unit) e ∙ eq-eqb unit unit refl
 
-  single-passed : place < length text → entryAt text place ≤ 0xFF → SameSingle classes singles index blocks (entryAt text place) → Passed (decoder classes singles pairs) spell text place (place + 1) (take 1 (drop place text))
+  single-passed : place < length text → entryAt text place ≤ 0xFF → SameSingle classes singles index blocks (entryAt text place) → SpanSpelled (decoder classes singles pairs) spell text place (place + 1) (take 1 (drop place text))
   unfolding decoder
   single-passed h b s =
       let byte = entryAt text place in
       let back = back-single classes singles pairs (s .unit) byte b ∙ character-back (s .unit) (byteAlone classes singles byte) (s .character) in
       let spelled : spell (alone r byte .means) ≡ some byte = ap spell (s .character) ∙ own-back r index blocks (s .unit) byte (s .own) back in
-      subst (Passed r spell text place (place + 1)) (one-byte byte b ∙ sym (ap (take 1) (drop-cons text place 0 h)))
+      subst (SpanSpelled r spell text place (place + 1)) (one-byte byte b ∙ sym (ap (take 1) (drop-cons text place 0 h)))
       (passed-code r spell text place (alone r byte) (at-one r text place h (s .single)) byte spelled)
 
   pair-code : (first second : ℕ) → 0x80 ≤ first → second ≤ 0xFF → bytesOf (256 * first + second) ≡ first ∷ second ∷ []
@@ -74,7 +74,7 @@ module _ (classes singles pairs index blocks text : List ℕ) (place : ℕ) wher
       ap (take 2) (drop-cons text place 0 (omega arith)) ∙ ap (λ (l : List ℕ). entryAt text place ∷ take 1 l) next
 
   pair-passed : place + 1 < length text → NoLowLead classes → entryAt text (place + 1) ≤ 0xFF → SamePair classes pairs index blocks (entryAt text place) (entryAt text (place + 1))
-      → Passed (decoder classes singles pairs) spell text place (place + 2) (take 2 (drop place text))
+      → SpanSpelled (decoder classes singles pairs) spell text place (place + 2) (take 2 (drop place text))
   unfolding decoder readsBack
   pair-passed h low b s =
       let first = entryAt text place in
@@ -85,12 +85,12 @@ module _ (classes singles pairs index blocks text : List ℕ) (place : ℕ) wher
       let back : readsBack r (s .unit) code ≡ true =
       ap (λ (l : List ℕ). isOneCode (s .unit) (codes r l)) bytes ∙ ap (isOneCode (s .unit)) (read-two r first second (s .lead) joins) ∙ character-back (s .unit) (bytePair classes pairs first second) (s .character) in
       let spelled : spell (together r first second .means) ≡ some code = ap spell (s .character) ∙ own-back r index blocks (s .unit) code (s .own) back in
-      subst (Passed r spell text place (place + 2)) (bytes ∙ sym (two-there h)) (passed-code r spell text place (together r first second) (at-two r text place h (s .lead) joins) code spelled)
+      subst (SpanSpelled r spell text place (place + 2)) (bytes ∙ sym (two-there h)) (passed-code r spell text place (together r first second) (at-two r text place h (s .lead) joins) code spelled)
 
   -- by the size that was found
   size-passed : place + 1 < length text → NoLowLead classes → entryAt text place ≤ 0xFF → entryAt text (place + 1) ≤ 0xFF → (size : ℕ)
       → SameSize classes singles pairs index blocks (entryAt text place) (entryAt text (place + 1)) size → (size ≡ 0 → ⊥)
-      → Passed (decoder classes singles pairs) spell text place (place + size) (take size (drop place text))
+      → SpanSpelled (decoder classes singles pairs) spell text place (place + size) (take size (drop place text))
   size-passed h low a b zero s n = absurd (n refl)
   size-passed h low a b (suc zero) s n = single-passed (omega arith) a (s .one refl)
   size-passed h low a b (suc (suc zero)) s n = pair-passed h low b (s .two refl)
@@ -102,8 +102,8 @@ module _ (r : Reader) (index blocks text : List ℕ) where
   none-taken from = let none : from - from ≡ 0 = omega arith in ap (λ (n : ℕ). take n (drop from text)) none
 
   -- from the first place on
-  pub same-start : (from : ℕ) → from ≤ length text → PassedSame r index blocks text from from
-  same-start from h = record { from-on = omega arith; inside = h; passed = subst (Passed r (codeSpelling r index blocks) text from from) (sym (none-taken from)) (passed-none r (codeSpelling r index blocks) text from) }
+  pub same-start : (from : ℕ) → from ≤ length text → SpanSame r index blocks text from from
+  same-start from h = record { from-on = omega arith; inside = h; passed = subst (SpanSpelled r (codeSpelling r index blocks) text from from) (sym (none-taken from)) (passed-none r (codeSpelling r index blocks) text from) }
 
   more-taken : (from place size : ℕ) → from ≤ place → take (place - from) (drop from text) ++ take size (drop place text) ≡ take (place + size - from) (drop from text)
   more-taken from place size h =
@@ -115,23 +115,23 @@ module _ (r : Reader) (index blocks text : List ℕ) where
       ∙ ap (λ (n : ℕ). take n (drop from text)) all
 
   -- one code more
-  pub same-more : (from place size : ℕ) → PassedSame r index blocks text from place → place + size ≤ length text
-      → Passed r (codeSpelling r index blocks) text place (place + size) (take size (drop place text)) → PassedSame r index blocks text from (place + size)
+  pub same-more : (from place size : ℕ) → SpanSame r index blocks text from place → place + size ≤ length text
+      → SpanSpelled r (codeSpelling r index blocks) text place (place + size) (take size (drop place text)) → SpanSame r index blocks text from (place + size)
   same-more from place size w h s =
       record {
         from-on = omega (arith, w .from-on);
         inside = h;
         passed =
-            subst (Passed r (codeSpelling r index blocks) text from (place + size)) (more-taken from place size (w .from-on))
+            subst (SpanSpelled r (codeSpelling r index blocks) text from (place + size)) (more-taken from place size (w .from-on))
             (passed-join r (codeSpelling r index blocks) text from place (place + size) _ _ (w .passed) s);
       }
 
   -- how many bytes that are
-  pub same-count : (from to : ℕ) → PassedSame r index blocks text from to → to - from ≡ length (take (to - from) (drop from text))
+  pub same-count : (from to : ℕ) → SpanSame r index blocks text from to → to - from ≡ length (take (to - from) (drop from text))
   same-count from to w = sym (length-take-le (to - from) (drop from text) (omega (arith, length-drop from text, w .inside)))
 
   -- counting begins behind the first of them
-  pub counting-same : (from : ℕ) → PassedSame r index blocks text 0 from → Counting r index blocks text from from
+  pub counting-same : (from : ℕ) → SpanSame r index blocks text 0 from → Counting r index blocks text from from
   counting-same from w = record { bytes = take (from - 0) (drop 0 text); passed = w .passed; size = sym (same-count 0 from w) ∙ none-less from }
     where
       none-less : (n : ℕ) → n - 0 ≡ n
@@ -146,23 +146,23 @@ module _ (classes singles pairs index blocks text : List ℕ) (below : EachBelow
       let low = below place h in
       record { single = bytes (entryAt text place) low .0; unit = entryAt text place; character = bytes (entryAt text place) low .1; own = units (entryAt text place) low }
 
-  plain-front : (n : ℕ) → n ≤ length text → PassedSame (decoder classes singles pairs) index blocks text 0 n
+  plain-front : (n : ℕ) → n ≤ length text → SpanSame (decoder classes singles pairs) index blocks text 0 n
   plain-front zero h = same-start (decoder classes singles pairs) index blocks text 0 (omega arith)
   plain-front (suc n) h =
       let one : n + 1 ≡ suc n = add-one n in
       let low = below n (omega arith) in
-      subst (λ (to : ℕ). PassedSame (decoder classes singles pairs) index blocks text 0 to) one
+      subst (λ (to : ℕ). SpanSame (decoder classes singles pairs) index blocks text 0 to) one
       (same-more (decoder classes singles pairs) index blocks text 0 n 1 (plain-front n (omega arith)) (omega arith)
       (single-passed classes singles pairs index blocks text n (omega arith) (omega arith) (plain-byte-same n (omega arith))))
 
   -- it is its own spelling
-  pub plain-passed : PassedSame (decoder classes singles pairs) index blocks text 0 (length text)
+  pub plain-passed : SpanSame (decoder classes singles pairs) index blocks text 0 (length text)
   plain-passed = plain-front (length text) (omega arith)
 
 -- one code more that two bytes were looked at for
-pub same-turn : (classes singles pairs index blocks text : List ℕ) (from place size : ℕ) → PassedSame (decoder classes singles pairs) index blocks text from place → NoLowLead classes → place + 1 < length text
+pub same-turn : (classes singles pairs index blocks text : List ℕ) (from place size : ℕ) → SpanSame (decoder classes singles pairs) index blocks text from place → NoLowLead classes → place + 1 < length text
     → entryAt text place ≤ 0xFF → entryAt text (place + 1) ≤ 0xFF → SameSize classes singles pairs index blocks (entryAt text place) (entryAt text (place + 1)) size → (size ≡ 0 → ⊥)
-    → PassedSame (decoder classes singles pairs) index blocks text from (place + size)
+    → SpanSame (decoder classes singles pairs) index blocks text from (place + size)
 same-turn classes singles pairs index blocks text from place size w low h a b s n =
     same-more (decoder classes singles pairs) index blocks text from place size w (omega (arith, s .few)) (size-passed classes singles pairs index blocks text place h low a b size s n)
 
@@ -182,7 +182,7 @@ module _ (text before : List ℕ) (from at : ℕ) where
   copy-end count i out e k = e ∙ ap (paste before at (drop from text)) k
 
 module _ (r : Reader) (index blocks text before : List ℕ) (place written : ℕ) (out : List ℕ) (w : Writing r index blocks text before place written out) (able : Writable r index blocks text before) (to : ℕ)
-    (s : PassedSame r index blocks text place to) where
+    (s : SpanSame r index blocks text place to) where
   -- a stretch that is spelled as it stands fits the room
   pub same-room : written + (to - place) ≤ length out
   same-room = omega (arith, writing-room r index blocks text before place written out w able to (take (to - place) (drop place text)) (s .passed), same-count r index blocks text place to s)
@@ -200,7 +200,7 @@ module _ (r : Reader) (index blocks text before : List ℕ) (place written : ℕ
       (writing-more r index blocks text before place written out w to bytes after (s .passed) room kept laid)
 
 -- the first stretch, copied: the spelling is begun
-pub same-begun : (r : Reader) (index blocks text before : List ℕ) (from : ℕ) (s : PassedSame r index blocks text 0 from) → length text ≤ pieceLimit → Writable r index blocks text before
+pub same-begun : (r : Reader) (index blocks text before : List ℕ) (from : ℕ) (s : SpanSame r index blocks text 0 from) → length text ≤ pieceLimit → Writable r index blocks text before
     → (next : ℕ) (out : List ℕ) → (next ≡ 0 + (from - 0)) × (out ≡ paste before 0 (drop 0 text) (from - 0))
     → Writing r index blocks text before from from out × Begun r index blocks text from out
 same-begun r index blocks text before from s short able next out (e, put) =

@@ -26,27 +26,27 @@ twicePage =
     }
 
 -- a call: the page, the text, the room, the answer, and what is written
-pub record Row : Type 0 where
+pub record SpellingRow : Type 0 where
   pub page : CodePage
   pub text : List ℕ
   pub room : ℕ
   pub answer : Spelled
   pub bytes : List ℕ
 
-abbrev accepted : CodePage → List ℕ → ℕ → ℕ → List ℕ → Row
+abbrev accepted : CodePage → List ℕ → ℕ → ℕ → List ℕ → SpellingRow
 accepted page text room count bytes = record { page = page; text = text; room = room; answer = spelled.Bytes count; bytes = bytes }
 
 -- 24: the place of the first code at fault
-abbrev faulty : CodePage → List ℕ → ℕ → ℕ → Row
+abbrev faulty : CodePage → List ℕ → ℕ → ℕ → SpellingRow
 faulty page text room place = record { page = page; text = text; room = room; answer = spelled.Refused (AtFault place); bytes = [] }
 
 -- 25
-abbrev tooLong : CodePage → List ℕ → ℕ → Row
+abbrev tooLong : CodePage → List ℕ → ℕ → SpellingRow
 tooLong page text room = record { page = page; text = text; room = room; answer = spelled.Refused SpellingTooLong; bytes = [] }
 
 -- the rows
-abbrev pub rows : List Row
-rows =
+abbrev pub spellingRows : List SpellingRow
+spellingRows =
     accepted samplePage [] 0 0 []
     ∷ accepted samplePage (0x41 ∷ []) 1 1 (0x41 ∷ [])
     ∷ accepted samplePage (0x82 ∷ 0x7C ∷ []) 2 2 (0x82 ∷ 0x7C ∷ [])
@@ -77,10 +77,10 @@ rows =
     ∷ []
 
 -- what a row says
-abbrev pub RowHolds : Row → Type 0
-RowHolds r = (spellingOf (r .page) (r .text) (r .room) .answer ≡ r .answer) × (spellingOf (r .page) (r .text) (r .room) .bytes ≡ r .bytes)
+abbrev pub SpellingRowHolds : SpellingRow → Type 0
+SpellingRowHolds r = (spellingOf (r .page) (r .text) (r .room) .answer ≡ r .answer) × (spellingOf (r .page) (r .text) (r .room) .bytes ≡ r .bytes)
 
 -- each row
-abbrev pub AllHold : List Row → Type 0
-AllHold [] = Unit {0}
-AllHold (r ∷ rs) = RowHolds r × AllHold rs
+abbrev pub AllSpellingHold : List SpellingRow → Type 0
+AllSpellingHold [] = Unit {0}
+AllSpellingHold (r ∷ rs) = SpellingRowHolds r × AllSpellingHold rs

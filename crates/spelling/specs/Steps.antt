@@ -53,22 +53,22 @@ unfoldable pub countedOf : Reader → (index blocks text : List ℕ) → Spelled
 countedOf r index blocks text = countedUnless (faultOf r index blocks text) (length (bytesFor r index blocks text))
 
 -- From one place to another no code is at fault, and the codes are spelled by these bytes.
-pub record Passed (r : Reader) (spell : Lookup → Option ℕ) (text : List ℕ) (from to : ℕ) (bytes : List ℕ) : Type 0 where
+pub record SpanSpelled (r : Reader) (spell : Lookup → Option ℕ) (text : List ℕ) (from to : ℕ) (bytes : List ℕ) : Type 0 where
   pub fault : firstAtFault spell (placedFrom from (codes r (drop from text))) ≡ firstAtFault spell (placedFrom to (codes r (drop to text)))
   pub spelled : spellingBytes spell (codes r (drop from text)) ≡ bytes ++ spellingBytes spell (codes r (drop to text))
 
 -- Codes are spelled as they stand, from one place to another.
-pub record PassedSame (r : Reader) (index blocks text : List ℕ) (from to : ℕ) : Type 0 where
+pub record SpanSame (r : Reader) (index blocks text : List ℕ) (from to : ℕ) : Type 0 where
   pub from-on : from ≤ to
   pub inside : to ≤ length text
-  pub passed : Passed r (codeSpelling r index blocks) text from to (take (to - from) (drop from text))
+  pub passed : SpanSpelled r (codeSpelling r index blocks) text from to (take (to - from) (drop from text))
 
 -- A spelling that is begun: up to `from` its bytes are written, and the rest fits the output.
 pub record Begun (r : Reader) (index blocks text : List ℕ) (from : ℕ) (out : List ℕ) : Type 0 where
   pub short : length text ≤ pieceLimit
   pub inside : from ≤ length text
   pub within : from ≤ length out
-  pub passed : Passed r (codeSpelling r index blocks) text 0 from (take from out)
+  pub passed : SpanSpelled r (codeSpelling r index blocks) text 0 from (take from out)
   pub no-fault : faultOf r index blocks text ≡ none
   pub fits : length (bytesFor r index blocks text) ≤ length out
 

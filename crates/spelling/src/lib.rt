@@ -18,7 +18,7 @@ ghost use Rattle.codepage.specs.Reading.{isSurrogate, unitAlone, bytesOf, decod
 ghost use Rattle.convert.specs.Runs.{pieceLimit};
 ghost use Rattle.spelling.specs.Spelling.{isCharacter, readsBack, unitSpelling, faultOf, bytesFor};
 ghost use Rattle.spelling.specs.Calls.{spellingNumber, spellingOf, SpelledAs};
-ghost use Rattle.spelling.specs.Steps.{BytesTables, UnitsTables, orNone, SpelledRead, countedOf, SameSize, PassedSame, Begun};
+ghost use Rattle.spelling.specs.Steps.{BytesTables, UnitsTables, orNone, SpelledRead, countedOf, SameSize, SpanSame, Begun};
 use codepage::Lookup;
 use codepage::Numbers;
 use codepage_lookup::profile;
@@ -241,7 +241,7 @@ fn pass_same(
     from: usize,
 ) -> usize
     requires { ⌜ BytesTables (now classes) (now singles) (now pairs) leads × UnitsTables (now index) (now blocks) × (from ≤ length (now text)) ⌝ }
-    ensures { λ r. ⌜ PassedSame (decoder (now (classes .entry)) (now (singles .entry)) (now (pairs .entry))) (now (index .entry)) (now (blocks .entry)) (now (text .entry)) from r ⌝ }
+    ensures { λ r. ⌜ SpanSame (decoder (now (classes .entry)) (now (singles .entry)) (now (pairs .entry))) (now (index .entry)) (now (blocks .entry)) (now (text .entry)) from r ⌝ }
 {
     let mut place = from;
     while 2 <= text.len() - place {
@@ -274,7 +274,7 @@ fn is_plain(
     text: &[u8],
 ) -> bool
     requires { ⌜ BytesTables (now classes) (now singles) (now pairs) leads × UnitsTables (now index) (now blocks) ⌝ }
-    ensures { λ r. ⌜ (r ≡ true → PassedSame (decoder (now (classes .entry)) (now (singles .entry)) (now (pairs .entry))) (now (index .entry)) (now (blocks .entry)) (now (text .entry)) 0 (length (now (text .entry)))) ⌝ }
+    ensures { λ r. ⌜ (r ≡ true → SpanSame (decoder (now (classes .entry)) (now (singles .entry)) (now (pairs .entry))) (now (index .entry)) (now (blocks .entry)) (now (text .entry)) 0 (length (now (text .entry)))) ⌝ }
 {
     if !plain::bytes_below_80(text) {
         return false;
@@ -296,7 +296,7 @@ fn same_front(
     text: &[u8],
 ) -> usize
     requires { ⌜ BytesTables (now classes) (now singles) (now pairs) leads × UnitsTables (now index) (now blocks) ⌝ }
-    ensures { λ r. ⌜ PassedSame (decoder (now (classes .entry)) (now (singles .entry)) (now (pairs .entry))) (now (index .entry)) (now (blocks .entry)) (now (text .entry)) 0 r ⌝ }
+    ensures { λ r. ⌜ SpanSame (decoder (now (classes .entry)) (now (singles .entry)) (now (pairs .entry))) (now (index .entry)) (now (blocks .entry)) (now (text .entry)) 0 r ⌝ }
 {
     if is_plain(classes, singles, pairs, index, blocks, leads, text) {
         return text.len();
@@ -316,7 +316,7 @@ fn count_spelling(
     from: usize,
 ) -> Spelled
     requires { ⌜ BytesTables (now classes) (now singles) (now pairs) leads × UnitsTables (now index) (now blocks) × (length (now text) ≤ pieceLimit) ⌝ }
-    requires { ⌜ PassedSame (decoder (now classes) (now singles) (now pairs)) (now index) (now blocks) (now text) 0 from ⌝ }
+    requires { ⌜ SpanSame (decoder (now classes) (now singles) (now pairs)) (now index) (now blocks) (now text) 0 from ⌝ }
     ensures { λ r. ⌜ r ≡ countedOf (decoder (now (classes .entry)) (now (singles .entry)) (now (pairs .entry))) (now (index .entry)) (now (blocks .entry)) (now (text .entry)) ⌝ }
 {
     let mut place = from;
@@ -401,7 +401,7 @@ fn write_spelling(
     out: &mut [u8],
 )
     requires { ⌜ BytesTables (now classes) (now singles) (now pairs) leads × UnitsTables (now index) (now blocks) ⌝ }
-    requires { ⌜ PassedSame (decoder (now classes) (now singles) (now pairs)) (now index) (now blocks) (now text) 0 from × (length (now text) ≤ pieceLimit) ⌝ }
+    requires { ⌜ SpanSame (decoder (now classes) (now singles) (now pairs)) (now index) (now blocks) (now text) 0 from × (length (now text) ≤ pieceLimit) ⌝ }
     requires { ⌜ (faultOf (decoder (now classes) (now singles) (now pairs)) (now index) (now blocks) (now text) ≡ none) × (length (bytesFor (decoder (now classes) (now singles) (now pairs)) (now index) (now blocks) (now text)) ≤ length (now out)) ⌝ }
     ensures { λ _. ⌜ now (out .exit) ≡ over (now (out .entry)) (bytesFor (decoder (now (classes .entry)) (now (singles .entry)) (now (pairs .entry))) (now (index .entry)) (now (blocks .entry)) (now (text .entry))) ⌝ }
 {

@@ -23,7 +23,7 @@ use Rattle.checkpoint.specs.declared.Restored.{Restored}
 use Rattle.checkpoint.specs.Line.{Saving, writeOf, Loading, readOf, writtenAs, Saved, restoredAs, loaded, runOf}
 use Rattle.runrecord.specs.Records.{outcomeOf}
 use Rattle.traces.specs.Model.{Setting, byValue, inRecord, Call, feeding, saving, loading, Said, saidOfCall, saidOfSaving, saidOfLoading, says, isAccepted, inHand, Model, opened, joinedBy, notedBy, setBackTo, acceptedBy, next, play, notedBeside, Note, Allowed, AllAllowed, wholeOf}
-use Rattle.traces.specs.Traces.{Result, fed, fedHere, saved, loaded as restored, Entry, Meets, seenOf, observed, handAfter, handAtEnd, AllMeet, callsOf, lentBefore, lentAfter, AllAgree, Alike, AlikeFor, SameFor, ReadAt, Demand3, Proper, Trace}
+use Rattle.traces.specs.Traces.{Result, fed, fedHere, saved, loaded as restored, Entry, Meets, saidOf, observed, handAfter, handAtEnd, AllMeet, callsOf, lentBefore, lentAfter, AllAgree, Alike, AlikeFor, SameFor, ReadAt, Demand3, Proper, Trace}
 use Rattle.traces.proofs.ModelLaws.{Kept, kept-start, kept-next, fair-begins, fair-whole}
 
 -- ---- a result that meets its contract is what the rules say
@@ -35,7 +35,7 @@ said-path : (a b : Said) → a .number ≡ b .number → a .read ≡ b .read →
 said-path a b p q r t = λ i. record { number = p i; read = q i; output = r i; run = t i }
 
 -- what is seen of a run call that meets its promise, in either form
-answered-seen : (c : Called) (r : Outcome) (before after : List ℕ) → Answered c r before after → seenOf r after ≡ saidOfCall c
+answered-seen : (c : Called) (r : Outcome) (before after : List ℕ) → Answered c r before after → saidOf r after ≡ saidOfCall c
 answered-seen c r before after w = said-path _ _ (w .number) (w .read) (front-is before (c .output) after (r .written) (w .lent) (w .written)) (ap some (w .run))
 
 -- a result that meets its contract is seen as what the model says, with the same run in hand

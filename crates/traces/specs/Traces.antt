@@ -56,13 +56,13 @@ Meets s hand (loading line) (saved r after) = ⊥
 Meets s hand (loading line) (loaded r) = restoredAs r ≡ readOf line
 
 -- what is seen of a run call: number, units read, what was written, and the run
-abbrev pub seenOf : Outcome → (lent : List ℕ) → Said
-seenOf r after = record { number = numberOf (r .answer); read = r .read; output = take (r .written) after; run = some (r .run) }
+abbrev pub saidOf : Outcome → (lent : List ℕ) → Said
+saidOf r after = record { number = numberOf (r .answer); read = r .read; output = take (r .written) after; run = some (r .run) }
 
 -- What is seen of a result: number, units read, what was written, and the run returned, or held by the record.
 unfoldable pub observed : Result → Said
-observed (fed r after) = seenOf r after
-observed (fedHere r held after) = seenOf (outcomeOf r held) after
+observed (fed r after) = saidOf r after
+observed (fedHere r held after) = saidOf (outcomeOf r held) after
 observed (saved r after) = record { number = writtenAs r .number; read = 0; output = take (writtenAs r .size) after; run = none }
 observed (loaded r) = saidOfLoading (restoredAs r)
 

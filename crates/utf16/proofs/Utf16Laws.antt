@@ -7,7 +7,7 @@ use native.Mathlib.Omega.{arith}
 use lib.ListN.{length, getD, take, drop, set, length-take}
 use lib.Seq.{drop-nil, drop-cons, set-at, append-snoc, take-suc, take-length, length-take-le, getD-take}
 use Rattle.codepage.specs.Lent.{over}
-use Rattle.utf16.specs.Utf16.{utf16Bytes, utf16Units, Laid}
+use Rattle.utf16.specs.Utf16.{utf16Bytes, utf16Units, LaidOver}
 
 -- ---- a loop that lays elements over a buffer
 module _ (elements before : List ℕ) where
@@ -24,7 +24,7 @@ module _ (elements before : List ℕ) where
       ∙ ap (λ (n : ℕ). take n elements ++ drop n before) (sym (add-one i))
 
   -- the end: all elements are laid over the buffer, and their number is the answer
-  pub lay-end : (table : List ℕ) (i r : ℕ) → table ≡ take i elements ++ drop i before → i ≡ length elements → r ≡ length elements → Laid elements before table r
+  pub lay-end : (table : List ℕ) (i r : ℕ) → table ≡ take i elements ++ drop i before → i ≡ length elements → r ≡ length elements → LaidOver elements before table r
   unfolding over
   lay-end table i r so-far e size =
       record {

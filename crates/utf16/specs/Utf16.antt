@@ -17,6 +17,6 @@ utf16Units (low ∷ []) = []
 utf16Units (low ∷ high ∷ bytes) = (low + 256 * high) ∷ utf16Units bytes
 
 -- The promise: what was laid over a lent buffer, and how much of it.
-pub record Laid (elements before after : List ℕ) (r : ℕ) : Type 0 where
+pub record LaidOver (elements before after : List ℕ) (r : ℕ) : Type 0 where
   pub lent : after ≡ over before elements
   pub size : r ≡ length elements

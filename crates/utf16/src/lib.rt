@@ -2,7 +2,7 @@
 ghost use mathlib.Core.Path.{_≡_};
 ghost use Prim.Native.Nat.{_+_, _*_, _/_, _%_, _≤_, min};
 ghost use lib.ListN.{length, take};
-ghost use Rattle.utf16.specs.Utf16.{utf16Bytes, utf16Units, Laid};
+ghost use Rattle.utf16.specs.Utf16.{utf16Bytes, utf16Units, LaidOver};
 
 // The smaller of two numbers.
 fn least(a: usize, b: usize) -> usize
@@ -34,7 +34,7 @@ fn joined(low: u8, high: u8) -> u16
 
 // Lays the bytes of units over the front of a buffer, as many units as fit, and answers how many bytes these are.
 pub fn to_bytes(units: &[u16], bytes: &mut [u8]) -> usize
-    ensures { λ r. ⌜ Laid (utf16Bytes (take (length (now (bytes .entry)) / 2) (now (units .entry)))) (now (bytes .entry)) (now (bytes .exit)) r ⌝ }
+    ensures { λ r. ⌜ LaidOver (utf16Bytes (take (length (now (bytes .entry)) / 2) (now (units .entry)))) (now (bytes .entry)) (now (bytes .exit)) r ⌝ }
     ensures { λ r. ⌜ (r ≤ length (now (bytes .exit))) × (r ≡ length (take r (now (bytes .exit)))) ⌝ }
 {
     let count = least(units.len(), bytes.len() / 2);
@@ -49,7 +49,7 @@ pub fn to_bytes(units: &[u16], bytes: &mut [u8]) -> usize
 
 // Lays the units of bytes over the front of a buffer, as many as fit, and answers how many these are.
 pub fn to_units(bytes: &[u8], units: &mut [u16]) -> usize
-    ensures { λ r. ⌜ Laid (take (length (now (units .entry))) (utf16Units (now (bytes .entry)))) (now (units .entry)) (now (units .exit)) r ⌝ }
+    ensures { λ r. ⌜ LaidOver (take (length (now (units .entry))) (utf16Units (now (bytes .entry)))) (now (units .entry)) (now (units .exit)) r ⌝ }
     ensures { λ r. ⌜ (r ≤ length (now (units .exit))) × (r ≡ length (take r (now (units .exit)))) ⌝ }
 {
     let count = least(bytes.len() / 2, units.len());

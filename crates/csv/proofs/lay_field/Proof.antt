@@ -3,13 +3,13 @@ use Prim.Native.Nat.{_+_, _-_, _≤_}
 use native.Mathlib.Omega.{arith}
 use lib.ListN.{length, take}
 use Rattle.csv.specs.Csv.{escapedField}
-use Rattle.csv.specs.Steps.{Laid}
+use Rattle.csv.specs.Steps.{LaidAt}
 use Rattle.csv.proofs.CsvLaws.{laid-start, escaped-rest, laid-turn, laid-whole}
 use Rattle.csv.proofs.lay_field.Statement.{statement}
 use Rattle.csv.proofs.lay_field.Tie as tie
 
 abbrev Inv-loop : tie.InvT-loop
-Inv-loop field out₀ place at₀ i₀ out at i = (i ≤ length field) × (length out ≡ length out₀) × (place + length (escapedField field) ≤ length out₀) × Laid out₀ out place (escapedField (take i field)) at
+Inv-loop field out₀ place at₀ i₀ out at i = (i ≤ length field) × (length out ≡ length out₀) × (place + length (escapedField field) ≤ length out₀) × LaidAt out₀ out place (escapedField (take i field)) at
 
 abbrev μ-loop : tie.MeasureT-loop
 μ-loop field out₀ place at₀ i₀ out at i = length field - i

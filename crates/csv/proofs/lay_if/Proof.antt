@@ -1,6 +1,6 @@
 use native.Mathlib.Omega.{arith}
 use mathlib.Core.Path.{ap}
-use Rattle.csv.specs.Steps.{oneIf}
+use Rattle.csv.specs.Steps.{countIf}
 use Rattle.csv.proofs.CsvLaws.{when-length, laid-wanted, laid-unwanted}
 use borrow.Author.Needs.{needs}
 use Rattle.csv.proofs.lay_if.Statement.{statement}
@@ -10,7 +10,7 @@ mul-out : tie.Need-mul-out
 mul-out c = search needs
 
 slice-write-out : tie.Need-slice-write-out
-slice-write-out c = omega (arith, when-length (c .before .args .wanted) (c .before .args .unit), ap oneIf (c .if1 .taken))
+slice-write-out c = omega (arith, when-length (c .before .args .wanted) (c .before .args .unit), ap countIf (c .if1 .taken))
 
 add-result : tie.Need-add-result
 add-result c = search needs
@@ -19,7 +19,7 @@ same-length : tie.Need-same-length
 same-length c = search needs
 
 returns : tie.Need-returns
-returns c = laid-wanted _ _ _ _ (c .if1 .taken) (omega (arith, when-length (c .before .args .wanted) (c .before .args .unit), ap oneIf (c .if1 .taken)))
+returns c = laid-wanted _ _ _ _ (c .if1 .taken) (omega (arith, when-length (c .before .args .wanted) (c .before .args .unit), ap countIf (c .if1 .taken)))
 
 returns-2 : tie.Need-returns-2
 returns-2 c = laid-unwanted _ _ _ _ (c .if1 .left)

@@ -1,12 +1,12 @@
 use Prim.Native.Nat.{_-_, _≤_}
 use native.Mathlib.Omega.{arith}
 use lib.ListN.{length}
-use Rattle.fields.specs.Steps.{Passed}
+use Rattle.fields.specs.Steps.{NoSeparator}
 use Rattle.fields.proofs.field_size.Statement.{statement}
 use Rattle.fields.proofs.field_size.Tie as tie
 
 abbrev Inv-loop : tie.InvT-loop
-Inv-loop block i₀ i = (i ≤ length block) × Passed block i
+Inv-loop block i₀ i = (i ≤ length block) × NoSeparator block i
 
 abbrev μ-loop : tie.MeasureT-loop
 μ-loop block i₀ i = length block - i

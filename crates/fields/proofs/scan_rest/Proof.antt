@@ -2,13 +2,13 @@ use mathlib.Core.Path.{sym, _∙_}
 use Prim.Native.Nat.{_-_, _≤_}
 use native.Mathlib.Omega.{arith}
 use lib.ListN.{length}
-use Rattle.fields.specs.Steps.{Passed}
+use Rattle.fields.specs.Steps.{NoSeparator}
 use Rattle.fields.proofs.CallLaws.{scan-stop, scan-turn, scan-end}
 use Rattle.fields.proofs.scan_rest.Statement.{statement}
 use Rattle.fields.proofs.scan_rest.Tie as tie
 
 abbrev Inv-loop : tie.InvT-loop
-Inv-loop block start i₀ i = (i ≤ length block) × Passed block i
+Inv-loop block start i₀ i = (i ≤ length block) × NoSeparator block i
 
 abbrev μ-loop : tie.MeasureT-loop
 μ-loop block start i₀ i = length block - i

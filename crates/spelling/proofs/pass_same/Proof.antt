@@ -2,13 +2,13 @@ use Prim.Native.Nat.{_-_, _+_}
 use native.Mathlib.Omega.{arith}
 use lib.ListN.{length}
 use Rattle.codepage.specs.Reading.{decoder}
-use Rattle.spelling.specs.Steps.{PassedSame}
+use Rattle.spelling.specs.Steps.{SpanSame}
 use Rattle.spelling.proofs.SameLaws.{same-start, same-turn}
 use Rattle.spelling.proofs.pass_same.Statement.{statement}
 use Rattle.spelling.proofs.pass_same.Tie as tie
 
 abbrev Inv-loop : tie.InvT-loop
-Inv-loop classes singles pairs index blocks leads text from place₀ place = PassedSame (decoder classes singles pairs) index blocks text from place
+Inv-loop classes singles pairs index blocks leads text from place₀ place = SpanSame (decoder classes singles pairs) index blocks text from place
 
 abbrev μ-loop : tie.MeasureT-loop
 μ-loop classes singles pairs index blocks leads text from place₀ place = length text - place

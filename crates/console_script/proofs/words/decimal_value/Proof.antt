@@ -4,13 +4,13 @@ use native.Mathlib.Omega.{arith}
 use lib.ListN.{length, drop, getD}
 use borrow.Author.Needs.{needs}
 use Rattle.checkpoint.proofs.PlaceLaws.{value-some, digit-none}
-use Rattle.console_script.specs.Words.{atMost, spelled}
+use Rattle.console_script.specs.Words.{limited, spelled}
 use Rattle.console_script.proofs.WordLaws.{none-turn, over-turn, end-turn, spelled-turn}
 use Rattle.console_script.proofs.words.decimal_value.Statement.{statement}
 use Rattle.console_script.proofs.words.decimal_value.Tie as tie
 
 abbrev Inv-loop : tie.InvT-loop
-Inv-loop word limit value₀ i₀ value i = (i ≤ length word) × (value ≤ limit) × (atMost limit (spelled 0 word) ≡ atMost limit (spelled value (drop i word)))
+Inv-loop word limit value₀ i₀ value i = (i ≤ length word) × (value ≤ limit) × (limited limit (spelled 0 word) ≡ limited limit (spelled value (drop i word)))
 
 abbrev μ-loop : tie.MeasureT-loop
 μ-loop word limit value₀ i₀ value i = length word - i
@@ -73,7 +73,7 @@ loop-again c =
     let at-loop-test = at-digit-value .before .before in
     let at-loop = at-loop-test .before in
     let entry = at-loop .before .before in
-    (omega arith, omega arith, at-loop .loop .inv .2 ∙ ap (atMost _) (spelled-turn (entry .args .word .now) (at-loop .loop .value) (at-loop .loop .i) _ (at-loop-test .loop-test .taken) (value-some _ _ (at-digit-value .digit-value .ensures .1) (omega arith))))
+    (omega arith, omega arith, at-loop .loop .inv .2 ∙ ap (limited _) (spelled-turn (entry .args .word .now) (at-loop .loop .value) (at-loop .loop .i) _ (at-loop-test .loop-test .taken) (value-some _ _ (at-digit-value .digit-value .ensures .1) (omega arith))))
 
 returns-4 : tie.Need-returns-4 Inv-loop μ-loop
 returns-4 c = (omega arith, sym (c .before .loop .inv .2 ∙ end-turn _ (c .before .before .before .args .word .now) (c .before .loop .value) (c .before .loop .i) (c .loop-test .left) (omega arith)))
