@@ -171,12 +171,13 @@ static size_t pass(state *s, int peer, const uint8_t *text, size_t units, size_t
     return written;
 }
 
-#define TEXTS 5
+#define TEXTS 7
 
 static const struct {
     const char *name;
     int page, damaged, encode_only;
-} texts[TEXTS] = {{"ascii", 0, 0, 0}, {"japanese", 0, 0, 0}, {"latin", 1, 0, 0}, {"damaged", 0, 1, 0}, {"emoji", 0, 0, 1}};
+} texts[TEXTS] = {{"ascii", 0, 0, 0}, {"japanese", 0, 0, 0}, {"latin", 1, 0, 0}, {"damaged", 0, 1, 0}, {"journal", 0, 0, 0},
+    {"kana", 0, 0, 0}, {"emoji", 0, 0, 1}};
 
 /* How many codes (decoding: single bytes and pairs) or units (encoding) a peer converts as the till converter does. */
 static void agreement(const table_set *t, int direction, int peer)
@@ -241,8 +242,18 @@ typedef struct {
     double best[PEERS];
 } cell;
 
-#define CELLS 18
+#define CELLS 26
 #define ROUNDS 4
+
+/* What is asked for of till's speed over a peer's. Short ASCII is encoded at memory's speed by encoding_rs, which tests no tables. */
+static double bound(const cell *c, int peer)
+{
+    if (peer == 1)
+        return 2.0;
+    if (!strcmp(c->name, "journal"))
+        return 1.5;
+    return !strcmp(c->name, "ascii") && c->s.direction == ENCODE && c->block == 512 && peer == 3 ? 1.0 : 1.3;
+}
 
 static size_t cell_pass(cell *c, int peer, int step)
 {
@@ -294,7 +305,7 @@ int main(int argc, char **argv)
             for (int peer = 1; peer < PEERS; peer++)
                 agreement(&pages[page], direction, peer);
 
-    printf("\nMB/s of input; in parentheses till's speed over the peer's (`!`: below 1.0, for iconv below 2.0):\n\n");
+    printf("\nMB/s of input; in parentheses till's speed over the peer's (`!`: below its bound):\n\n");
     printf("| Text | Direction | Block | till | iconv | ICU | encoding_rs |\n|---|---|---|---|---|---|---|\n");
     static cell cells[CELLS];
     int n = 0, low = 0, differing = 0;
@@ -318,7 +329,7 @@ int main(int argc, char **argv)
         printf("| %s | %s | %zu | %.0f |", c->name, c->s.direction == ENCODE ? "encode" : "decode", c->block, (double)c->size / c->best[0] / 1e6);
         for (int p = 1; p < PEERS; p++) {
             double ratio = c->best[p] / c->best[0];
-            int mark = ratio < (p == 1 ? 2.0 : 1.0);
+            int mark = ratio < bound(c, p);
             low += mark;
             printf(" %.0f (%.2f%s) |", (double)c->size / c->best[p] / 1e6, ratio, mark ? " !" : "");
         }

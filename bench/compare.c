@@ -21,7 +21,8 @@ static run_call *const calls[2][2] = {{old_till_decode, old_till_encode}, {new_t
 static const struct {
     const char *name;
     int page, directions; /* directions: 1 decoding, 2 encoding */
-} texts[] = {{"ascii", 0, 3}, {"japanese", 0, 3}, {"latin", 1, 3}, {"damaged", 0, 3}, {"journal", 0, 3}, {"figures", 0, 3}, {"emoji", 0, 2}};
+} texts[] = {{"ascii", 0, 3}, {"japanese", 0, 3}, {"latin", 1, 3}, {"damaged", 0, 3}, {"journal", 0, 3}, {"kana", 0, 3},
+    {"figures", 0, 3}, {"emoji", 0, 2}};
 
 static void pass(run_call *call, till_run run, const table_set *t, const uint8_t *text, size_t units, size_t unit, size_t block, uint8_t *out)
 {

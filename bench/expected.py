@@ -59,7 +59,8 @@ def main():
     for name in ("journal", "figures", "notes"):
         with open("%s/%s.cut" % (folder, name), "w") as f:
             f.write("%d %d %d\n" % cut(units_of(name)))
-    for name, page in (("ascii", "cp932"), ("japanese", "cp932"), ("latin", "cp1252"), ("damaged", "cp932"), ("emoji", "cp932")):
+    for name, page in (("ascii", "cp932"), ("japanese", "cp932"), ("latin", "cp1252"), ("damaged", "cp932"), ("journal", "cp932"),
+                       ("kana", "cp932"), ("emoji", "cp932")):
         table = second.read_image_file(page + ".tbl", [os.path.join(HERE, "..", "tables")])
         if name != "emoji":
             with open("%s/%s.bytes" % (folder, name), "rb") as f:

@@ -53,13 +53,26 @@ SHOPS = '港町支店 駅前店 本店 空港売店 中央市場店'.split()
 CLERKS = '佐藤 鈴木 高橋 田中 伊藤 渡辺 山本 中村 小林 加藤'.split()
 
 
+# Names as tills print them, in half-width kana; a voiced sound is two characters.
+KANA_CLERKS = 'ｻﾄｳ ｽｽﾞｷ ﾀｶﾊｼ ﾀﾅｶ ｲﾄｳ ﾜﾀﾅﾍﾞ ﾔﾏﾓﾄ ﾅｶﾑﾗ ｺﾊﾞﾔｼ ｶﾄｳ'.split()
+
+KANA_ARTICLES = """ｷﾞｭｳﾆｭｳ ｼｮｸﾊﾟﾝ ﾘｮｸﾁｬ ｵﾆｷﾞﾘ ｺｰﾋｰ ﾁｮｺﾚｰﾄ ﾋﾞｰﾙ ﾀﾏｺﾞ ﾄｳﾌ ﾅｯﾄｳ ﾊﾞﾅﾅ ﾘﾝｺﾞ ﾆﾝｼﾞﾝ ｷｬﾍﾞﾂ ﾀﾏﾈｷﾞ ｼｮｳﾕ ﾐｿ ｻﾄｳ ｼｵ ﾊﾞﾀｰ ﾖｰｸﾞﾙﾄ
+ｱｲｽｸﾘｰﾑ ｶｯﾌﾟﾒﾝ ﾃｨｯｼｭ ｾﾝｻﾞｲ ｼｬﾝﾌﾟｰ ﾃﾞﾝﾁ ﾎﾞｰﾙﾍﾟﾝ ﾉｰﾄ ｷｯﾃ ｼﾝﾌﾞﾝ ﾚｼﾞﾌﾞｸﾛ""".split()
+
+
 def journal_line(r):
-    """A till's journal, a sold article a record: time, shop, receipt, clerk, article, number, price, and a remark that is mostly empty."""
-    article = ''.join(r.choice(JAPANESE) for _ in range(r.randrange(1, 4)))
+    """A till's journal, a sold article a record: time, shop, receipt, clerk, article, number, price, and a remark that is mostly empty.
+    Clerks and articles are half-width kana; shops and remarks have kanji."""
+    article = ' '.join(r.choice(KANA_ARTICLES) for _ in range(r.randrange(1, 3)))
     remark = ''.join(r.choice(JAPANESE) for _ in range(3)) if r.randrange(8) == 0 else ''
     return '2026-11-%02d %02d:%02d:%02d|%s|No.%06d|%s|%s|%d点|%d円|%s\n' % (
-        r.randrange(1, 31), r.randrange(24), r.randrange(60), r.randrange(60), r.choice(SHOPS), r.randrange(1000000), r.choice(CLERKS), article,
+        r.randrange(1, 31), r.randrange(24), r.randrange(60), r.randrange(60), r.choice(SHOPS), r.randrange(1000000), r.choice(KANA_CLERKS), article,
         r.randrange(1, 20), r.randrange(10, 20000), remark)
+
+
+def kana_line(r):
+    """Half-width kana alone: names of articles with spaces between them."""
+    return ' '.join(r.choice(KANA_ARTICLES) for _ in range(r.randrange(3, 9))) + '\n'
 
 
 EMOJI = '\U0001f375 \U0001f363 \U0001f338 \U0001f600 \U0001f389 \U0001f370 \U0001f41f \U0001f96c'.split()
@@ -121,7 +134,8 @@ def main():
             f.write(content)
 
     for name, line, page in (('ascii', ascii_line, 'cp932'), ('japanese', japanese_line, 'cp932'), ('latin', latin_line, 'cp1252'),
-                             ('journal', journal_line, 'cp932'), ('figures', figures_line, 'cp932'), ('notes', notes_line, 'cp932')):
+                             ('journal', journal_line, 'cp932'), ('kana', kana_line, 'cp932'), ('figures', figures_line, 'cp932'),
+                             ('notes', notes_line, 'cp932')):
         text = text_of(line, random.Random('till ' + name), page)
         write(name + '.bytes', text.encode(page))
         write(name + '.units', text.encode('utf-16-le'))
