@@ -8,7 +8,7 @@ use native.Mathlib.Numerals.{add-one}
 use native.Mathlib.Omega.{arith}
 use lib.Dec.{leb, eqb}
 use lib.ListN.{length, getD, take, drop, set, length-set}
-use lib.Seq.{sets, length-sets, set-comm, set-getD}
+use lib.Seq.{sets, length-sets, set-set}
 use lib.Bits.{bitOr, or-zero-r}
 use borrow.Author.Tests.{le-leb, lt-leb, leb-true, leb-false, eqb-true, eqb-false, eq-eqb, ne-eqb}
 use Rattle.codepage.specs.CodePage.{pick, entryAt, isSingle, isLead}
@@ -139,14 +139,20 @@ module _ {R : Reader} {piece out : List ℕ} {i w : ℕ} where
         → w₁ + length (R .writes value) ≤ length out₁ → Ran R piece out i w (sets out₁ w₁ (R .writes value)) (i₁ + 2) (w₁ + length (R .writes value))
     ran-two value h e j q f = ran-more 2 (R .writes value) r (two-found R piece i₁ value h e j q) (omega arith) f
 
--- ---- a code's bytes, laid over two places
-pub code-laid : (out : List ℕ) (w code : ℕ) → sets out w (bytesOf code) ≡ set (set out w (pick (leb code 0xFF) code (code / 256))) (w + 1) (pick (leb code 0xFF) (getD out (w + 1) 0) (code % 256))
+-- ---- a code's bytes: the high half is laid, and the low half behind it, or over it where the code is one byte
+pub code-laid : (out : List ℕ) (w code count : ℕ) → count ≡ length (bytesOf code) → set (set out w (code / 256)) (w + count - 1) (code % 256) ≡ sets out w (bytesOf code)
 unfolding bytesOf
-code-laid out w code = by-size (leb code 0xFF)
+code-laid out w code count = by-size (leb code 0xFF) refl
   where
-    by-size : (t : Bool) → sets out w (pick t (code ∷ []) (code / 256 ∷ code % 256 ∷ [])) ≡ set (set out w (pick t code (code / 256))) (w + 1) (pick t (getD out (w + 1) 0) (code % 256))
-    by-size true = sym (set-comm out w (w + 1) code (getD out (w + 1) 0) (λ q. omega (arith, q)) ∙ ap (λ (l : List ℕ). set l w code) (set-getD out (w + 1) 0))
-    by-size false = rw (add-one w)
+    by-size : (t : Bool) → leb code 0xFF ≡ t → count ≡ length (pick t (code ∷ []) (code / 256 ∷ code % 256 ∷ []))
+        → set (set out w (code / 256)) (w + count - 1) (code % 256) ≡ sets out w (pick t (code ∷ []) (code / 256 ∷ code % 256 ∷ []))
+    by-size true h e =
+        let place : w + count - 1 ≡ w = omega (arith, e) in
+        let low : code % 256 ≡ code = omega (arith, leb-true code 0xFF h) in
+        ap (λ (k : ℕ). set (set out w (code / 256)) k (code % 256)) place ∙ ap (λ (x : ℕ). set (set out w (code / 256)) w x) low ∙ set-set out w (code / 256) code
+    by-size false h e =
+        let place : w + count - 1 ≡ suc w = omega (arith, e) in
+        ap (λ (k : ℕ). set (set out w (code / 256)) k (code % 256)) place
 
 -- a code up to 00FF is one byte
 pub one-byte : (code : ℕ) → code ≤ 0xFF → bytesOf code ≡ code ∷ []
@@ -159,6 +165,15 @@ unfolding bytesOf
 two-bytes code = by-size (leb code 0xFF)
   where
     by-size : (t : Bool) → length (pick t (code ∷ []) (code / 256 ∷ code % 256 ∷ [])) ≤ 2
+    by-size true = omega arith
+    by-size false = omega arith
+
+-- every code is one byte at least
+pub some-bytes : (code : ℕ) → 1 ≤ length (bytesOf code)
+unfolding bytesOf
+some-bytes code = by-size (leb code 0xFF)
+  where
+    by-size : (t : Bool) → 1 ≤ length (pick t (code ∷ []) (code / 256 ∷ code % 256 ∷ []))
     by-size true = omega arith
     by-size false = omega arith
 
@@ -186,14 +201,12 @@ module _ (index blocks : List ℕ) {piece out : List ℕ} {i w : ℕ} {out₁ : 
       subst (λ (ys : List ℕ). Ran (encoder index blocks) piece out i w (sets out₁ w₁ ys) (i₁ + 1) (w₁ + length ys)) one
       (ran-one r code h (found-no-wait index blocks (getD piece i₁ 0) code q) q (omega (arith, ap length one)))
 
-  -- one more unit of any code: two places are written, the second as it was where the code is one byte
-  pub ran-unit : (one two count : ℕ) → one ≡ pick (leb code 0xFF) code (code / 256) → two ≡ pick (leb code 0xFF) (getD out₁ (w₁ + 1) 0) (code % 256) → count ≡ length (bytesOf code) → w₁ + 2 ≤ length out₁
-      → Ran (encoder index blocks) piece out i w (set (set out₁ w₁ one) (w₁ + 1) two) (i₁ + 1) (w₁ + count)
+  -- one more unit of any code, whose bytes are laid
+  pub ran-unit : (out₂ : List ℕ) (count : ℕ) → out₂ ≡ sets out₁ w₁ (bytesOf code) → count ≡ length (bytesOf code) → w₁ + 2 ≤ length out₁
+      → Ran (encoder index blocks) piece out i w out₂ (i₁ + 1) (w₁ + count)
   unfolding encoder
-  ran-unit one two count e₁ e₂ e₃ f =
-      rw (e₁, e₂, e₃)
-      (subst (λ (l : List ℕ). Ran (encoder index blocks) piece out i w l (i₁ + 1) (w₁ + length (bytesOf code))) (code-laid out₁ w₁ code)
-      (ran-one r code h (found-no-wait index blocks (getD piece i₁ 0) code q) q (omega (arith, two-bytes code))))
+  ran-unit out₂ count laid many f =
+      rw (laid, many) (ran-one r code h (found-no-wait index blocks (getD piece i₁ 0) code q) q (omega (arith, two-bytes code)))
 
 -- ---- singles
 pub single-found : (classes singles : List ℕ) (byte : ℕ) → isSingle (entryAt classes byte) ≡ true → (entryAt singles byte ≡ 0xFFFF → ⊥) → byteAlone classes singles byte ≡ Found (entryAt singles byte)

@@ -1,10 +1,10 @@
 // Runs of codes that have characters: as many as come one after the other and fit, in loops that ask little of each.
 ghost use mathlib.Core.Path.{_≡_};
 ghost use mathlib.Core.Bool.{true};
-ghost use Prim.Native.Nat.{ℕ, _+_, _*_, _/_, _%_, _≤_, _<_};
-ghost use lib.Dec.{leb};
+ghost use Prim.Native.Nat.{ℕ, _+_, _*_, _≤_, _<_};
 ghost use lib.ListN.{length};
-ghost use Rattle.codepage.specs.CodePage.{pick, entryAt};
+ghost use lib.Seq.{sets};
+ghost use Rattle.codepage.specs.CodePage.{entryAt};
 ghost use Rattle.codepage_lookup.specs.Profile.{LeadsAt, NoCodes};
 ghost use Rattle.codepage.specs.Reading.{bytesOf, decoder, encoder};
 ghost use Rattle.engine.specs.Steps.{DecodeSizes};
@@ -167,26 +167,6 @@ fn run_of_bytes(
     k
 }
 
-// The first byte of a code.
-fn first_byte(code: u16) -> u8
-    ensures { λ r. ⌜ r ≡ pick (leb code 0xFF) code (code / 256) ⌝ }
-{
-    if code <= 0xFF {
-        return code as u8;
-    }
-    (code / 256) as u8
-}
-
-// The second byte of a code, or what stands in its place where it has none.
-fn second_byte(code: u16, there: u8) -> u8
-    ensures { λ r. ⌜ r ≡ pick (leb code 0xFF) there (code % 256) ⌝ }
-{
-    if code <= 0xFF {
-        return there;
-    }
-    (code % 256) as u8
-}
-
 // How many bytes a code has.
 pub fn byte_count(code: u16) -> usize
     ensures { λ r. ⌜ r ≡ length (bytesOf code) ⌝ }
@@ -197,8 +177,19 @@ pub fn byte_count(code: u16) -> usize
     2
 }
 
-// Units that have codes. Both places of a code are always written, without asking how many bytes it has: what stood in the second
-// one is put back where the code is one byte.
+// Writes a code's bytes: how many. Its high half is written first, and where the code is one byte the low half over it: so nothing is
+// asked, and the place behind the code stays as it is.
+fn lay_code(code: u16, out: &mut [u8], w: usize) -> usize
+    requires { ⌜ w + 2 ≤ length (now out) ⌝ }
+    ensures { λ r. ⌜ (r ≡ length (bytesOf code)) × (now (out .exit) ≡ sets (now (out .entry)) w (bytesOf code)) ⌝ }
+{
+    let count = byte_count(code);
+    out[w] = (code / 256) as u8;
+    out[w + count - 1] = (code % 256) as u8;
+    count
+}
+
+// Units that have codes.
 fn run_of_units(
     index: &[u8],
     blocks: &[u16],
@@ -224,10 +215,7 @@ fn run_of_units(
                 written: w,
             };
         }
-        let there = out[w + 1];
-        out[w] = first_byte(code);
-        out[w + 1] = second_byte(code, there);
-        w += byte_count(code);
+        w += lay_code(code, out, w);
         k += 1;
     }
     Place {
