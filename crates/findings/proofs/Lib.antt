@@ -1,0 +1,5 @@
+pub mod FindingLaws
+pub mod TurnLaws
+pub mod CallLaws
+pub mod FillLaws
+pub mod Shared
