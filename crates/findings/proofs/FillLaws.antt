@@ -1,5 +1,5 @@
 -- Laws of the lent list as it is filled: so many findings stand at its front, one more is stored, and all are.
-use mathlib.Core.List.{List, [], _∷_}
+use mathlib.Core.List.{List, [], _∷_, _++_}
 use mathlib.Core.Logic.{_⊎_, inl, inr}
 use mathlib.Core.Path.{_≡_, refl, sym, ap, _∙_}
 use Prim.Native.Nat.{ℕ, zero, suc, _+_, _≤_, _<_}
@@ -13,7 +13,7 @@ use Rattle.findings.specs.Findings.{filled}
 abbrev Fs : Type 0
 Fs = List Finding
 
-filled-none : (ys : Fs) → filled ys [] ≡ ys
+pub filled-none : (ys : Fs) → filled ys [] ≡ ys
 filled-none [] = refl
 filled-none (y ∷ ys) = refl
 
@@ -50,3 +50,10 @@ filled-end zero (y ∷ ys) (f ∷ fs) (inl h) = absurd (not-suc-le-zero h)
 filled-end zero (y ∷ ys) (f ∷ fs) (inr h) = absurd (not-suc-le-zero h)
 filled-end (suc n) (y ∷ ys) (f ∷ fs) (inl h) = ap (λ (l : Fs). f ∷ l) (filled-end n ys fs (inl (le-of-suc-le-suc h)))
 filled-end (suc n) (y ∷ ys) (f ∷ fs) (inr h) = ap (λ (l : Fs). f ∷ l) (filled-end n ys fs (inr (le-of-suc-le-suc h)))
+
+-- THE LIST AFTER A CALL: its front is the first of the findings, as many as it has entries, and the rest is as before.
+pub filled-is : (before fs : Fs) → filled before fs ≡ take (length before) fs ++ drop (length fs) before
+filled-is [] [] = refl
+filled-is [] (f ∷ fs) = refl
+filled-is (y ∷ ys) [] = refl
+filled-is (y ∷ ys) (f ∷ fs) = ap (λ (l : Fs). f ∷ l) (filled-is ys fs)

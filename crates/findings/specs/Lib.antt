@@ -1,3 +1,5 @@
 pub mod Findings
 pub mod Calls
 pub mod Steps
+pub mod Claims
+pub mod Examples

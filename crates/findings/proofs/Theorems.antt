@@ -1,0 +1,190 @@
+-- The claims of CR 7 about the findings of a text: each is a code that the rules read there, none is left out, and there are none exactly
+-- if the flags 1, 2 and 4 of the whole reading are clear.
+use mathlib.Core.Bool.{Bool, true, false}
+use mathlib.Core.List.{List, [], _∷_, _++_}
+use mathlib.Core.Logic.{_↔_, _⊎_, inl, inr}
+use mathlib.Core.Path.{_≡_, refl, sym, ap, _∙_, subst}
+use Prim.Native.Nat.{ℕ, zero, suc, _+_, _≤_, _<_, _%_, _^_}
+use native.Mathlib.Numerals.{add-one}
+use native.Mathlib.Omega.{arith}
+use lib.Bits.{bitOr, bitAnd, or-zero-l, or-mod, or-add-and, and-le-l, and-le-r}
+use lib.Dec.{eqb, leb}
+use lib.ListN.{length, take, drop}
+use lib.Seq.{drop-cons}
+use mathlib.Core.Option.{none}
+use borrow.Author.Tests.{ne-eqb, leb-true, leb-false}
+use Rattle.codepage.specs.CodePage.{CodePage, pick, entryAt}
+use Rattle.codepage.specs.Reading.{Reader, Code, unitsOf, sizeOf, alone, together, codes}
+use Rattle.codepage.specs.declared.Kind.{Kind}
+use Rattle.codepage.specs.declared.Kind.the-variants.{UndefinedSingle, UndefinedPair, Invalid}
+use Rattle.codepage.specs.declared.Lookup.{Lookup}
+use Rattle.codepage.specs.declared.Lookup.the-variants.{Found, Lacking}
+use Rattle.engine.specs.declared.Direction.the-variants.{Decoding}
+use Rattle.engine.specs.declared.Policy.{Policy}
+use Rattle.engine.specs.declared.policies.Action.{Action}
+use Rattle.engine.specs.declared.policies.Action.the-variants.{Stop, Skip, Write}
+use Rattle.engine.specs.Policies.{digitOf, flagOf, actionOf, stoppedFlag}
+use Rattle.engine.specs.Engine.{Effect, acted, effectOf, converter, endless, fits, roomLeft, Fed, halt, after, stopAt, takeWhen, takeCode, takeCodes, whole, readerOf}
+use Rattle.codepage_walk.specs.Walk.{Placed, placedFrom, placed, CodeAt}
+use Rattle.codepage_walk.specs.Checks.{bytesReader}
+use Rattle.codepage_walk.proofs.WalkLaws.{at-one, at-end, at-two, at-alone, codes-at, EachAt, codes-end}
+use Rattle.findings.specs.declared.Finding.{Finding}
+use Rattle.findings.specs.Findings.{findingOf, untilStop, findingThen, findingsIn, findingsOf}
+use Rattle.findings.specs.Calls.{findingsText}
+use Rattle.findings.specs.Claims.{IsRead, AllRead, Rising, GoesOn, NoStop, kindFlags}
+
+-- ---- the bytes of a code are the text's at its place
+module _ (r : Reader) (text : List ℕ) (place : ℕ) (k : Code) (at : CodeAt r text place k) where
+  same-code : (l : Code) → CodeAt r text place l → l ≡ k
+  same-code l al =
+      let both : l ∷ codes r (drop (place + sizeOf l) text) ≡ k ∷ codes r (drop (place + sizeOf k) text) = sym (al .here) ∙ at .here in
+      cc
+
+  left : place < length text → drop place text ≡ entryAt text place ∷ drop (place + 1) text
+  left h = rw add-one (drop-cons text place 0 h)
+
+  by-alone : place < length text → CodeAt r text place (alone r (entryAt text place)) → take (sizeOf k) (drop place text) ≡ unitsOf k
+  by-alone h al = subst (λ (l : Code). take (sizeOf l) (drop place text) ≡ unitsOf l) (same-code _ al) (ap (take 1) (left h))
+
+  by-both : place + 1 < length text → CodeAt r text place (together r (entryAt text place) (entryAt text (place + 1))) → take (sizeOf k) (drop place text) ≡ unitsOf k
+  by-both h al =
+      let two : drop place text ≡ entryAt text place ∷ entryAt text (place + 1) ∷ drop (suc (place + 1)) text =
+      left (omega arith) ∙ ap (λ (l : List ℕ). entryAt text place ∷ l) (drop-cons text (place + 1) 0 h) in
+      subst (λ (l : Code). take (sizeOf l) (drop place text) ≡ unitsOf l) (same-code _ al) (ap (take 2) two)
+
+  -- the bytes of the code at a place
+  pub code-units : place < length text → take (sizeOf k) (drop place text) ≡ unitsOf k
+  code-units h = by (r .waits (entryAt text place)) refl
+    where
+      by-joins : place + 1 < length text → r .waits (entryAt text place) ≡ true → (t : Bool) → r .joins (entryAt text place) (entryAt text (place + 1)) ≡ t → take (sizeOf k) (drop place text) ≡ unitsOf k
+      by-joins g w true j = by-both g (at-two r text place g w j)
+      by-joins g w false j = by-alone h (at-alone r text place g w j)
+
+      by-end : r .waits (entryAt text place) ≡ true → (t : Bool) → leb (length text) (place + 1) ≡ t → take (sizeOf k) (drop place text) ≡ unitsOf k
+      by-end w true e = let last : length text ≤ place + 1 = leb-true _ _ e in by-alone h (at-end r text place (omega arith) w)
+      by-end w false e = by-joins (leb-false _ _ e) w (r .joins (entryAt text place) (entryAt text (place + 1))) refl
+
+      by : (t : Bool) → r .waits (entryAt text place) ≡ t → take (sizeOf k) (drop place text) ≡ unitsOf k
+      by true w = by-end w (leb (length text) (place + 1)) refl
+      by false w = by-alone h (at-one r text place h w)
+
+  -- there is a code only before the text's end
+  pub code-inside : place < length text
+  code-inside = by (leb (length text) place) refl
+    where
+      by : (t : Bool) → leb (length text) place ≡ t → place < length text
+      by false e = leb-false _ _ e
+      by true e =
+          let n : _≡_ {A = List Code} [] (k ∷ codes r (drop (place + sizeOf k) text)) = sym (codes-end r text place (leb-true _ _ e)) ∙ at .here in
+          absurd (let z : _≡_ {A = ℕ} 0 1 = cc in omega arith)
+
+-- ---- EACH ENTRY IS A CODE THAT THE RULES READ at that place with that kind
+module _ (p : CodePage) (policy : Policy) (text : List ℕ) where
+  until-read : (f : Finding) (fs : List Finding) (t : Bool) → IsRead p policy text f → AllRead p policy text fs → AllRead p policy text (f ∷ pick t [] fs)
+  until-read f fs true h all = (h, tt)
+  until-read f fs false h all = (h, all)
+
+  then-read : (c : Placed) (m : Lookup) (later : List Finding) → CodeAt (bytesReader p) text (c .place) (c .code) → c .code .means ≡ m → AllRead p policy text later → AllRead p policy text (findingThen policy c m later)
+  then-read c (Found unit) later at e all = all
+  then-read c (Lacking kind) later at e all =
+      until-read (findingOf policy kind c) later (eqb (digitOf policy kind) 0)
+      (record {
+        code = c .code;
+        kind = kind;
+        at = at;
+        lacking = e;
+        told = refl;
+        bytes = code-units (bytesReader p) text (c .place) (c .code) at (code-inside (bytesReader p) text (c .place) (c .code) at);
+      })
+      all
+
+  all-read : (cs : List Placed) → EachAt (bytesReader p) text cs → AllRead p policy text (findingsIn policy cs)
+  unfolding EachAt findingsIn
+  all-read [] h = tt
+  all-read (c ∷ cs) (at, h) = then-read c (c .code .means) (findingsIn policy cs) at refl (all-read cs h)
+
+  pub each-is-read : AllRead p policy text (findingsText policy p text)
+  unfolding findingsOf
+  each-is-read = all-read (placed (bytesReader p) text) (codes-at (bytesReader p) text)
+
+-- ---- IN ORDER OF PLACE: each begins behind the bytes of the one before it
+module _ (policy : Policy) where
+  until-rises : (from : ℕ) (f : Finding) (fs : List Finding) (t : Bool) → from ≤ f .place → 1 ≤ f .size → Rising (f .place + f .size) fs → Rising from (f ∷ pick t [] fs)
+  until-rises from f fs true h s all = (h, (s, tt))
+  until-rises from f fs false h s all = (h, (s, all))
+
+  rises-more : (from to : ℕ) (fs : List Finding) → from ≤ to → Rising to fs → Rising from fs
+  rises-more from to [] h all = tt
+  rises-more from to (f ∷ fs) h (g, all) = (omega (arith, h, g), all)
+
+  then-rises : (from : ℕ) (k : Code) (m : Lookup) (later : List Finding) → Rising (from + sizeOf k) later → Rising from (findingThen policy (record { place = from; code = k }) m later)
+  then-rises from k (Found unit) later all = rises-more from (from + sizeOf k) later (omega arith) all
+  then-rises from k (Lacking kind) later all =
+      until-rises from (findingOf policy kind (record { place = from; code = k })) later (eqb (digitOf policy kind) 0) (omega arith) (omega arith) all
+
+  rises-in : (from : ℕ) (ks : List Code) → Rising from (findingsIn policy (placedFrom from ks))
+  unfolding findingsIn placedFrom
+  rises-in from [] = tt
+  rises-in from (k ∷ ks) = then-rises from k (k .means) (findingsIn policy (placedFrom (from + sizeOf k) ks)) (rises-in (from + sizeOf k) ks)
+
+  pub places-rise : (r : Reader) (text : List ℕ) → Rising 0 (findingsOf r policy text)
+  unfolding findingsOf placed
+  places-rise r text = rises-in 0 (codes r text)
+
+  -- ---- NONE IS LEFT OUT: a code that the reading comes to and that has no character is the entry behind those of the codes before it. If
+  -- its digit is 0, it is the last.
+  past-one : (c : Placed) (m : Lookup) (before later : List Finding) → GoesOn policy m → findingThen policy c m (before ++ later) ≡ findingThen policy c m before ++ later
+  past-one c (Found unit) before later h = refl
+  past-one c (Lacking kind) before later h = rw (ne-eqb (digitOf policy kind) 0 h)
+
+  past : (before rest : List Placed) → NoStop policy before → findingsIn policy (before ++ rest) ≡ findingsIn policy before ++ findingsIn policy rest
+  unfolding findingsIn
+  past [] rest h = refl
+  past (c ∷ cs) rest (g, h) = ap (findingThen policy c (c .code .means)) (past cs rest h) ∙ past-one c (c .code .means) (findingsIn policy cs) (findingsIn policy rest) g
+
+  pub none-left-out : (r : Reader) (text : List ℕ) (before : List Placed) (c : Placed) (after : List Placed) (kind : Kind) → placed r text ≡ before ++ (c ∷ after) → c .code .means ≡ Lacking kind → NoStop policy before
+      → findingsOf r policy text ≡ findingsIn policy before ++ untilStop (findingOf policy kind c) (findingsIn policy after)
+  unfolding findingsOf findingsIn
+  none-left-out r text before c after kind e q h =
+      ap (findingsIn policy) e ∙ past before (c ∷ after) h ∙ ap (λ (m : Lookup). findingsIn policy before ++ findingThen policy c m (findingsIn policy after)) q
+
+-- ---- the flags of a reading
+or-none : (a b : ℕ) → bitOr a b ≡ 0 → a ≡ 0
+or-none a b e = omega (arith, e, or-add-and a b, and-le-l a b, and-le-r a b)
+
+kind-flagged : (kind : Kind) (x : ℕ) → kindFlags (bitOr (flagOf kind) x) ≡ 0 → ⊥
+kind-flagged UndefinedSingle x e = let z = or-none 1 (x % 2 ^ 3) (sym (or-mod 1 x 3) ∙ e) in omega (arith, z)
+kind-flagged UndefinedPair x e = let z = or-none 2 (x % 2 ^ 3) (sym (or-mod 2 x 3) ∙ e) in omega (arith, z)
+kind-flagged Invalid x e = let z = or-none 4 (x % 2 ^ 3) (sym (or-mod 4 x 3) ∙ e) in omega (arith, z)
+
+-- a code without a character sets its flag, whatever its digit does
+acted-flag : (flag n : ℕ) (action : Action) (rest : Fed) → (x : ℕ) × (takeCode endless n (acted flag action) rest .flags ≡ bitOr flag x)
+unfolding takeCode takeWhen stopAt after fits
+acted-flag flag n Stop rest = (stoppedFlag, refl)
+acted-flag flag n Skip rest = (rest .flags, refl)
+acted-flag flag n (Write value) rest = (rest .flags, refl)
+
+module _ (r : Reader) (policy : Policy) (default : ℕ) where
+  abbrev read : List Code → Fed
+  read ks = takeCodes (converter r policy default) endless ks none
+
+  -- one code more, by what it means
+  one-flags : (c : Placed) (m : Lookup) (rest : Fed) (later : List Finding) → ((later ≡ []) ↔ (kindFlags (rest .flags) ≡ 0))
+      → (findingThen policy c m later ≡ []) ↔ (kindFlags (takeCode endless (sizeOf (c .code)) (effectOf (r .writes) policy default (c .code .first) m) rest .flags) ≡ 0)
+  unfolding takeCode takeWhen after fits effectOf
+  one-flags c (Found unit) rest later h = (λ e. ap kindFlags (or-zero-l (rest .flags)) ∙ h .0 e, λ e. h .1 (ap kindFlags (sym (or-zero-l (rest .flags))) ∙ e))
+  one-flags c (Lacking kind) rest later h =
+      let set = acted-flag (flagOf kind) (sizeOf (c .code)) (actionOf (digitOf policy kind) default (c .code .first)) rest in (
+        λ e. absurd (let z : _≡_ {A = ℕ} 0 1 = cc in omega arith),
+        λ e. absurd (kind-flagged kind (set .0) (ap kindFlags (sym (set .1)) ∙ e)),
+      )
+
+  flags-in : (place : ℕ) (ks : List Code) → (findingsIn policy (placedFrom place ks) ≡ []) ↔ (kindFlags (read ks .flags) ≡ 0)
+  unfolding findingsIn placedFrom takeCodes converter roomLeft halt
+  flags-in place [] = (λ e. refl, λ e. refl)
+  flags-in place (k ∷ ks) = one-flags (record { place = place; code = k }) (k .means) (read ks) (findingsIn policy (placedFrom (place + sizeOf k) ks)) (flags-in (place + sizeOf k) ks)
+
+  -- NO FINDINGS EXACTLY IF THE FLAGS 1, 2 AND 4 of the whole reading are clear.
+  pub none-if-clear : (text : List ℕ) → (findingsOf r policy text ≡ []) ↔ (kindFlags (whole r policy default text .flags) ≡ 0)
+  unfolding findingsOf placed whole
+  none-if-clear text = flags-in 0 (codes r text)
