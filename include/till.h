@@ -125,6 +125,22 @@ typedef struct {
     uint8_t number; /* 0, or that of the refusal */
 } till_spelled;
 
+/* A code without a character. */
+typedef struct {
+    size_t place;   /* of its first byte, from 0 */
+    uint8_t kind;   /* 1 undefined single, 2 undefined pair, 4 invalid */
+    uint8_t size;   /* 1 or 2 bytes */
+    uint8_t first;  /* these; second is 0 where there is one */
+    uint8_t second;
+    uint8_t digit;  /* the policy digit that was applied; 0 stopped the reading */
+} till_finding;
+
+/* What listing findings answers. */
+typedef struct {
+    size_t count;   /* how many there are, whatever the list's length */
+    uint8_t number; /* 0, or that of the refusal */
+} till_listed;
+
 /* What encoding inside one buffer answers. */
 typedef struct {
     size_t read;    /* units */
@@ -211,6 +227,11 @@ till_found till_find_code(TILL_TABLES, const uint8_t *journal, size_t journal_le
  * with the place of the first code at fault (it has no character, or one whose own code does not read back as it), 25 the spelling has over
  * 65,536 bytes or does not fit; then out is as it was. */
 till_spelled till_spell(TILL_TABLES, const uint8_t *text, size_t text_len, uint8_t *out, size_t out_len);
+
+/* The findings of a byte text of at most 65,536 bytes: its codes without a character, in order of place, up to the text's end or the first
+ * stop. As many as fit stand at the front of list; the entries behind them are as they were. An empty list only counts. Archive
+ * libcapi_findings.a. 0 and how many there are; 17, 10, 11; then list is as it was. */
+till_listed till_findings(uint8_t single, uint8_t pair, uint8_t invalid, TILL_TABLES, const uint8_t *text, size_t text_len, till_finding *list, size_t list_len);
 
 /* Encodes the units that a buffer holds, two bytes each, low byte first, at most 65,536 of them. The result stands at the buffer's front;
  * the bytes behind it are as they were. Archive libcapi_products.a. 0 all read, 3 stopped with the result so far at the front; 17, 10, 26 the

@@ -33,6 +33,7 @@ use engine_loops::counter;
 
 // A code without a character: the place of its first byte, its kind by its flag (1 undefined single, 2 undefined pair, 4 invalid), how
 // many bytes it has, 1 or 2, these (the second is 0 where there is one), and the policy digit that was applied.
+#[repr(C)]
 pub struct Finding {
     pub place: usize,
     pub kind: u8,
