@@ -1,6 +1,6 @@
 -- Laws of the call: what it gives in each of its cases, and what its functions require.
 use mathlib.Core.Bool.{Bool, true, false, false≢true}
-use mathlib.Core.List.{List, []}
+use mathlib.Core.List.{List, [], _∷_}
 use mathlib.Core.Logic.{_⊎_, inl}
 use mathlib.Core.Option.{Option, none, some}
 use mathlib.Core.Path.{_≡_, refl, sym, ap, _∙_, subst}
@@ -24,8 +24,10 @@ use Rattle.findings.specs.declared.Refusal.{Refusal}
 use Rattle.findings.specs.declared.Refusal.the-variants.{BadPolicy, BadShape, TooLong}
 use Rattle.findings.specs.declared.Turn.{Turn}
 use Rattle.findings.specs.declared.Listed.the-variants as listed
-use Rattle.findings.specs.Calls.{findingsRefusal, findingsText, Call, callUnless, findingsCall}
-use Rattle.findings.specs.Steps.{endTurn, findingsFrom, Tables, Turned, TurnedFrom}
+use Rattle.findings.specs.declared.Next.the-variants as next
+use Rattle.findings.specs.Calls.{findingsRefusal, findingsText, Call, callUnless, findingsCall, nextOf}
+use Rattle.findings.specs.Findings.{findingsFrom}
+use Rattle.findings.specs.Steps.{endTurn, Tables, Turned, TurnedFrom}
 use Rattle.findings.proofs.FindingLaws.{from-start}
 use Rattle.findings.proofs.TurnLaws.{ended-turn}
 
@@ -119,3 +121,21 @@ module _ (policy : Policy) (p : CodePage) (text : List ℕ) where
               (turned c refl (omega arith) (from-start (bytesReader p) policy text)),
           same,
         )
+
+-- ---- the next finding
+module _ (policy : Policy) (p : CodePage) (text : List ℕ) (from : ℕ) where
+  -- refused
+  pub next-refused : (why : Refusal) → findingsRefusal policy p text ≡ some why → next.Refused why ≡ nextOf policy p text from
+  unfolding nextOf
+  next-refused why e = rw e
+
+  module _ (e : findingsRefusal policy p text ≡ none) where
+    -- none is left
+    pub next-nothing : findingsFrom (bytesReader p) policy text from ≡ [] → next.Nothing ≡ nextOf policy p text from
+    unfolding nextOf
+    next-nothing q = rw (e, q)
+
+    -- the first
+    pub next-found : (f : Finding) (fs : List Finding) → findingsFrom (bytesReader p) policy text from ≡ f ∷ fs → next.Found f ≡ nextOf policy p text from
+    unfolding nextOf
+    next-found f fs q = rw (e, q)

@@ -26,8 +26,8 @@ use Rattle.engine.specs.Steps.{summary}
 use Rattle.engine_fastpath.specs.Words.{PlainPage}
 use Rattle.findings.specs.declared.Finding.{Finding}
 use Rattle.findings.specs.declared.Looked.{Looked}
-use Rattle.findings.specs.Findings.{secondOf, findingOf, untilStop, findingThen, findingsIn, findingsOf}
-use Rattle.findings.specs.Steps.{findingAt, findingsFrom, behind, LookedAt, Passed, FoundFrom}
+use Rattle.findings.specs.Findings.{secondOf, findingOf, untilStop, findingThen, findingsIn, findingsOf, findingsFrom}
+use Rattle.findings.specs.Steps.{findingAt, behind, LookedAt, Passed, FoundFrom}
 
 -- ---- the bytes of the code at a place are the text's
 abbrev BytesAre : (a b : ℕ) → Code → Type 0

@@ -6,3 +6,4 @@ pub mod Shared
 pub mod AnswerLaws
 pub mod Theorems
 pub mod Rows
+pub mod Witnesses

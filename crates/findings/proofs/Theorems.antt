@@ -27,10 +27,11 @@ use Rattle.engine.specs.Policies.{digitOf, flagOf, actionOf, stoppedFlag}
 use Rattle.engine.specs.Engine.{Effect, acted, effectOf, converter, endless, fits, roomLeft, Fed, halt, after, stopAt, takeWhen, takeCode, takeCodes, whole, readerOf}
 use Rattle.codepage_walk.specs.Walk.{Placed, placedFrom, placed, CodeAt}
 use Rattle.codepage_walk.specs.Checks.{bytesReader}
-use Rattle.codepage_walk.proofs.WalkLaws.{at-one, at-end, at-two, at-alone, codes-at, EachAt, codes-end}
+use Rattle.codepage_walk.proofs.WalkLaws.{at-one, at-end, at-two, at-alone, codes-at, EachAt, codes-end, code-there}
 use Rattle.findings.specs.declared.Finding.{Finding}
-use Rattle.findings.specs.Findings.{findingOf, untilStop, findingThen, findingsIn, findingsOf}
+use Rattle.findings.specs.Findings.{findingOf, untilStop, findingThen, findingsIn, findingsOf, findingsFrom}
 use Rattle.findings.specs.Calls.{findingsText}
+use Rattle.findings.proofs.FindingLaws.{from-end, from-code}
 use Rattle.findings.specs.Claims.{IsRead, AllRead, Rising, GoesOn, NoStop, kindFlags}
 
 -- ---- the bytes of a code are the text's at its place
@@ -188,3 +189,32 @@ module _ (r : Reader) (policy : Policy) (default : ℕ) where
   pub none-if-clear : (text : List ℕ) → (findingsOf r policy text ≡ []) ↔ (kindFlags (whole r policy default text .flags) ≡ 0)
   unfolding findingsOf placed whole
   none-if-clear text = flags-in 0 (codes r text)
+
+-- ---- GOING ON BEHIND A FINDING: the findings behind one are those from its end on, or none if it stopped the reading.
+module _ (r : Reader) (policy : Policy) (text : List ℕ) (f : Finding) (fs : List Finding) where
+  abbrev Behind : Type 0
+  Behind = fs ≡ pick (eqb (f .digit) 0) [] (findingsFrom r policy text (f .place + f .size))
+
+  none-there : _≡_ {A = List Finding} [] (f ∷ fs) → ⊥
+  none-there e = let z : _≡_ {A = ℕ} 0 1 = cc in omega arith
+
+  at-code : (k : Code) (place : ℕ) (m : Lookup) → findingThen policy (record { place = place; code = k }) m (findingsFrom r policy text (place + sizeOf k)) ≡ f ∷ fs
+      → (findingsFrom r policy text (place + sizeOf k) ≡ f ∷ fs → Behind) → Behind
+  at-code k place (Found unit) e later = later e
+  at-code k place (Lacking kind) e later =
+      let same : findingOf policy kind (record { place = place; code = k }) ≡ f = cc in
+      let rest : pick (eqb (digitOf policy kind) 0) [] (findingsFrom r policy text (place + sizeOf k)) ≡ fs = cc in
+      sym rest ∙ ap (λ (g : Finding). pick (eqb (g .digit) 0) [] (findingsFrom r policy text (g .place + g .size))) same
+
+  behind-from : (n place : ℕ) → length text ≤ place + n → findingsFrom r policy text place ≡ f ∷ fs → Behind
+  behind-from zero place h e = absurd (none-there (sym (from-end r policy text place (omega arith)) ∙ e))
+  behind-from (suc n) place h e = by (leb (length text) place) refl (behind-from n)
+    where
+      by : (t : Bool) → leb (length text) place ≡ t → ((next : ℕ) → length text ≤ next + n → findingsFrom r policy text next ≡ f ∷ fs → Behind) → Behind
+      by true q later = absurd (none-there (sym (from-end r policy text place (leb-true _ _ q)) ∙ e))
+      by false q later =
+          let there = code-there r text place (leb-false _ _ q) in
+          at-code (there .code) place (there .code .means) (sym (from-code r policy text place (there .code) (there .at)) ∙ e) (later (place + sizeOf (there .code)) (omega arith))
+
+  pub next-behind : (place : ℕ) → findingsFrom r policy text place ≡ f ∷ fs → Behind
+  next-behind place e = behind-from (length text) place (omega arith) e

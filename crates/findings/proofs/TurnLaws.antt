@@ -20,7 +20,8 @@ use Rattle.findings.specs.declared.Turn.{Turn}
 use Rattle.findings.specs.declared.Listed.{Listed}
 use Rattle.findings.specs.declared.Listed.the-variants as listed
 use Rattle.findings.specs.Calls.{Call}
-use Rattle.findings.specs.Steps.{endTurn, findingsFrom, behind, Tables, FoundFrom, Ready, Storing, Ended, Turned, TurnedFrom, NextTurn}
+use Rattle.findings.specs.Findings.{findingsFrom}
+use Rattle.findings.specs.Steps.{endTurn, behind, Tables, FoundFrom, Ready, Storing, Ended, Turned, TurnedFrom, NextTurn}
 
 -- ---- the findings behind one
 module _ (r : Reader) (policy : Policy) (text : List ℕ) (f : Finding) (end : ℕ) where

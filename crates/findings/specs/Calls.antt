@@ -1,5 +1,5 @@
 -- Document 02, CR 7: the call that lists the findings of a byte text.
-use mathlib.Core.List.{List, []}
+use mathlib.Core.List.{List, [], _∷_}
 use mathlib.Core.Option.{Option, none, some}
 use mathlib.Core.Path.{_≡_}
 use Prim.Native.Nat.{ℕ}
@@ -15,7 +15,9 @@ use Rattle.findings.specs.declared.Refusal.{Refusal}
 use Rattle.findings.specs.declared.Refusal.the-variants.{BadPolicy, BadShape, TooLong}
 use Rattle.findings.specs.declared.Listed.{Listed}
 use Rattle.findings.specs.declared.Listed.the-variants as listed
-use Rattle.findings.specs.Findings.{findingsOf, filled}
+use Rattle.findings.specs.declared.Next.{Next}
+use Rattle.findings.specs.declared.Next.the-variants as next
+use Rattle.findings.specs.Findings.{findingsOf, findingsFrom, filled}
 
 -- The numbers of the refusals.
 abbrev pub refusalNumber : Refusal → ℕ
@@ -49,3 +51,16 @@ findingsCall policy p text = callUnless (findingsRefusal policy p text) (finding
 pub record ListedAs (c : Call) (r : Listed) (before after : List Finding) : Type 0 where
   pub answer : r ≡ c .answer
   pub lent : after ≡ filled before (c .entries)
+
+-- the first of some findings
+abbrev pub firstOf : List Finding → Next
+firstOf [] = next.Nothing
+firstOf (f ∷ fs) = next.Found f
+
+abbrev pub nextUnless : Option Refusal → List Finding → Next
+nextUnless none fs = firstOf fs
+nextUnless (some why) fs = next.Refused why
+
+-- THE NEXT FINDING from a place on, at which a code begins, with the same checks.
+unfoldable pub nextOf : Policy → CodePage → (text : List ℕ) → (from : ℕ) → Next
+nextOf policy p text from = nextUnless (findingsRefusal policy p text) (findingsFrom (bytesReader p) policy text from)

@@ -2,14 +2,15 @@
 use mathlib.Core.List.{List, [], _∷_}
 use Prim.Native.Nat.{ℕ}
 use lib.Dec.{eqb}
+use lib.ListN.{drop}
 use Rattle.codepage.specs.CodePage.{pick}
-use Rattle.codepage.specs.Reading.{Reader, Code, sizeOf}
+use Rattle.codepage.specs.Reading.{Reader, Code, sizeOf, codes}
 use Rattle.codepage.specs.declared.Kind.{Kind}
 use Rattle.codepage.specs.declared.Lookup.{Lookup}
 use Rattle.codepage.specs.declared.Lookup.the-variants.{Found, Lacking}
 use Rattle.engine.specs.declared.Policy.{Policy}
 use Rattle.engine.specs.Policies.{digitOf, flagOf}
-use Rattle.codepage_walk.specs.Walk.{Placed, placed}
+use Rattle.codepage_walk.specs.Walk.{Placed, placedFrom, placed}
 use Rattle.findings.specs.declared.Finding.{Finding}
 
 -- "the bytes": the second byte of a code, or 0 where it has one
@@ -47,6 +48,10 @@ findingsIn policy (c ∷ cs) = findingThen policy c (c .code .means) (findingsIn
 -- THE FINDINGS of a text under a policy.
 unfoldable pub findingsOf : Reader → Policy → (text : List ℕ) → List Finding
 findingsOf r policy text = findingsIn policy (placed r text)
+
+-- The findings from a place on, at which a code begins.
+unfoldable pub findingsFrom : Reader → Policy → (text : List ℕ) → (place : ℕ) → List Finding
+findingsFrom r policy text place = findingsIn policy (placedFrom place (codes r (drop place text)))
 
 -- "until the list is full": a lent list after as many findings as it has room for were put to its front. "Entries beyond those filled do
 -- not change."

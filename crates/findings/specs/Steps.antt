@@ -7,7 +7,7 @@ use Prim.Native.Nat.{ℕ, _+_, _*_, _≤_, _<_}
 use lib.Dec.{eqb, ltb}
 use lib.ListN.{length, drop}
 use Rattle.codepage.specs.CodePage.{pick, entryAt, isLead, leadsBelow}
-use Rattle.codepage.specs.Reading.{Reader, decoder, codes}
+use Rattle.codepage.specs.Reading.{Reader, decoder}
 use Rattle.codepage.specs.declared.Kind.{Kind}
 use Rattle.codepage_lookup.specs.declared.profile.Leads.{Leads}
 use Rattle.codepage_lookup.specs.Profile.{LeadsAt}
@@ -15,13 +15,12 @@ use Rattle.engine.specs.declared.Policy.{Policy}
 use Rattle.engine.specs.Policies.{digitOf, flagOf}
 use Rattle.engine_fastpath.specs.Words.{PlainPage}
 use Rattle.convert.specs.Runs.{pieceLimit}
-use Rattle.codepage_walk.specs.Walk.{placedFrom}
 use Rattle.findings.specs.declared.Finding.{Finding}
 use Rattle.findings.specs.declared.Looked.{Looked}
 use Rattle.findings.specs.declared.Turn.{Turn}
 use Rattle.findings.specs.declared.Listed.{Listed}
 use Rattle.findings.specs.declared.Listed.the-variants as listed
-use Rattle.findings.specs.Findings.{findingsIn}
+use Rattle.findings.specs.Findings.{findingsFrom}
 use Rattle.findings.specs.Calls.{Call}
 
 -- no finding
@@ -43,10 +42,6 @@ findingAt policy kind text place size =
 -- the end of a call: so many findings are stored, and the answer
 abbrev pub endTurn : (count : ℕ) → Listed → Turn
 endTurn count answer = record { going = false; count = count; finding = noFinding; end = 0; plain = false; leads = record { low = 0; high = 0 }; answer = answer }
-
--- the findings from a place on, at which a code begins
-unfoldable pub findingsFrom : Reader → Policy → (text : List ℕ) → (place : ℕ) → List Finding
-findingsFrom r policy text place = findingsIn policy (placedFrom place (codes r (drop place text)))
 
 -- the findings behind one that ends at a place: none if it stops the reading
 unfoldable pub behind : Reader → Policy → (text : List ℕ) → Finding → (end : ℕ) → List Finding

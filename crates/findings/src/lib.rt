@@ -17,8 +17,9 @@ ghost use Rattle.engine.specs.Policies.{flagOf, digitOf};
 ghost use Rattle.engine.specs.Steps.{DecodeSizes};
 ghost use Rattle.engine_fastpath.specs.Words.{PlainPage};
 ghost use Rattle.convert.specs.Runs.{pieceLimit};
-ghost use Rattle.findings.specs.Calls.{refusalNumber, findingsCall, ListedAs};
-ghost use Rattle.findings.specs.Steps.{noFinding, findingAt, endTurn, findingsFrom, Tables, LookedAt, Passed, FoundFrom, Ready, Turned, TurnedFrom, NextTurn};
+ghost use Rattle.findings.specs.Findings.{findingsFrom};
+ghost use Rattle.findings.specs.Calls.{refusalNumber, findingsCall, ListedAs, nextOf};
+ghost use Rattle.findings.specs.Steps.{noFinding, findingAt, endTurn, Tables, LookedAt, Passed, FoundFrom, Ready, Turned, TurnedFrom, NextTurn};
 use codepage::Kind;
 use codepage::Lookup;
 use codepage::Numbers;
@@ -71,6 +72,15 @@ impl Refusal {
             Refusal::TooLong => 11,
         }
     }
+}
+
+// What the call for the next finding answers.
+pub enum Next {
+    // The first finding from the place on.
+    Found(Finding),
+    // There is none.
+    Nothing,
+    Refused(Refusal),
 }
 
 // What is found at a place of a text, or from there on: whether it is a code without a character, which, and the place behind it.
@@ -467,4 +477,41 @@ pub fn list_findings(
         t = next_turn(policy, classes, singles, pairs, text, list.len(), t);
     }
     t.answer
+}
+
+// The first finding of a text from a place on, at which a code begins, by value. Behind it, at its place and size, the next is asked for,
+// unless its digit is 0: it stopped the reading.
+pub fn next_finding(
+    policy: Policy,
+    numbers: Numbers,
+    classes: &[u8],
+    singles: &[u16],
+    pairs: &[u16],
+    index: &[u8],
+    blocks: &[u16],
+    text: &[u8],
+    from: usize,
+) -> Next
+    ensures { λ r. ⌜ r ≡ nextOf policy (codePage numbers (now (classes .entry)) (now (singles .entry)) (now (pairs .entry)) (now (index .entry)) (now (blocks .entry))) (now (text .entry)) from ⌝ }
+{
+    if !policies::allowed(Direction::Decoding, policy) {
+        return Next::Refused(Refusal::BadPolicy);
+    }
+    if !codepage::shape::good_shape(numbers, classes, singles, pairs, index, blocks) {
+        return Next::Refused(Refusal::BadShape);
+    }
+    if Run::PIECE_LIMIT < text.len() {
+        return Next::Refused(Refusal::TooLong);
+    }
+    if text.len() <= from {
+        return Next::Nothing;
+    }
+    let leads = profile::leads_of(classes);
+    let plain = profile::plain_bytes(classes, singles);
+    let next = find_from(policy, classes, singles, pairs, leads, plain, text, from);
+    if !next.found {
+        return Next::Nothing;
+    }
+    let finding = next.finding;
+    Next::Found(finding)
 }
