@@ -5,12 +5,14 @@ use mathlib.Core.Logic.{_⊎_, inl, inr}
 use mathlib.Core.Option.{Option, none}
 use mathlib.Core.Path.{_≡_, refl, sym, ap, _∙_, subst}
 use Prim.Native.Nat.{ℕ, zero, suc, _+_, _≤_, _<_}
+use native.Mathlib.Numerals.{add-one}
 use native.Mathlib.Omega.{arith}
 use lib.Dec.{leb, ltb, eqb}
-use lib.ListN.{length, drop}
+use lib.ListN.{length, take, drop}
+use lib.Seq.{drop-cons}
 use borrow.Author.Tests.{leb-true, leb-false}
 use Rattle.codepage.specs.CodePage.{pick, entryAt, isLead}
-use Rattle.codepage.specs.Reading.{Reader, decoder, byteAlone, Code, sizeOf, alone, together, callCodes, leftPending, codes}
+use Rattle.codepage.specs.Reading.{Reader, decoder, byteAlone, Code, unitsOf, sizeOf, alone, together, callCodes, leftPending, codes}
 use Rattle.codepage.specs.declared.Kind.{Kind}
 use Rattle.codepage.specs.declared.Kind.the-variants.{UndefinedSingle, UndefinedPair, Invalid}
 use Rattle.codepage.specs.declared.Lookup.{Lookup}
@@ -29,38 +31,58 @@ use Rattle.findings.specs.declared.Looked.{Looked}
 use Rattle.findings.specs.Findings.{secondOf, findingOf, untilStop, findingThen, findingsIn, findingsOf, findingsFrom}
 use Rattle.findings.specs.Steps.{findingAt, behind, LookedAt, Passed, FoundFrom}
 
--- ---- the bytes of the code at a place are the text's
-abbrev BytesAre : (a b : ℕ) → Code → Type 0
-BytesAre a b k = (k .first ≡ a) × (secondOf (k .more) ≡ pick (ltb 1 (sizeOf k)) b 0)
+-- ---- the bytes of the code at a place are the text's: the first two there are a and b
+pub record BytesAre (text : List ℕ) (place a b : ℕ) (k : Code) : Type 0 where
+  pub first : k .first ≡ a
+  pub second : secondOf (k .more) ≡ pick (ltb 1 (sizeOf k)) b 0
+  pub all : take (sizeOf k) (drop place text) ≡ unitsOf k
 
-pub code-bytes : (r : Reader) (text : List ℕ) (place : ℕ) (k : Code) → place < length text → CodeAt r text place k → BytesAre (entryAt text place) (entryAt text (place + 1)) k
-code-bytes r text place k h at = by (r .waits a) refl
-  where
-    a : ℕ
-    a = entryAt text place
+module _ (r : Reader) (text : List ℕ) (place : ℕ) (k : Code) (at : CodeAt r text place k) where
+  -- there is a code only before the text's end
+  pub code-inside : place < length text
+  code-inside = by (leb (length text) place) refl
+    where
+      by : (t : Bool) → leb (length text) place ≡ t → place < length text
+      by false e = leb-false _ _ e
+      by true e =
+          let n : _≡_ {A = List Code} [] (k ∷ codes r (drop (place + sizeOf k) text)) = sym (codes-end r text place (leb-true _ _ e)) ∙ at .here in
+          absurd (let z : _≡_ {A = ℕ} 0 1 = cc in omega arith)
 
-    b : ℕ
-    b = entryAt text (place + 1)
+  same-code : (l : Code) → CodeAt r text place l → l ≡ k
+  same-code l al =
+      let both : l ∷ codes r (drop (place + sizeOf l) text) ≡ k ∷ codes r (drop (place + sizeOf k) text) = sym (al .here) ∙ at .here in
+      cc
 
-    same : (l : Code) → CodeAt r text place l → l ≡ k
-    same l al =
-        let both : l ∷ codes r (drop (place + sizeOf l) text) ≡ k ∷ codes r (drop (place + sizeOf k) text) = sym (al .here) ∙ at .here in
-        cc
+  left : drop place text ≡ entryAt text place ∷ drop (place + 1) text
+  left = rw add-one (drop-cons text place 0 code-inside)
 
-    by-alone : CodeAt r text place (alone r (entryAt text place)) → BytesAre (entryAt text place) (entryAt text (place + 1)) k
-    by-alone al = subst (BytesAre (entryAt text place) (entryAt text (place + 1))) (same _ al) (refl, refl)
+  abbrev Are : Type 0
+  Are = BytesAre text place (entryAt text place) (entryAt text (place + 1)) k
 
-    by-joins : place + 1 < length text → r .waits (entryAt text place) ≡ true → (t : Bool) → r .joins (entryAt text place) (entryAt text (place + 1)) ≡ t → BytesAre (entryAt text place) (entryAt text (place + 1)) k
-    by-joins g w true j = subst (BytesAre (entryAt text place) (entryAt text (place + 1))) (same _ (at-two r text place g w j)) (refl, refl)
-    by-joins g w false j = by-alone (at-alone r text place g w j)
+  by-alone : CodeAt r text place (alone r (entryAt text place)) → Are
+  by-alone al = subst (BytesAre text place (entryAt text place) (entryAt text (place + 1))) (same-code _ al) (record { first = refl; second = refl; all = ap (take 1) left })
 
-    by-end : r .waits (entryAt text place) ≡ true → (t : Bool) → leb (length text) (place + 1) ≡ t → BytesAre (entryAt text place) (entryAt text (place + 1)) k
-    by-end w true e = let last : length text ≤ place + 1 = leb-true _ _ e in by-alone (at-end r text place (omega arith) w)
-    by-end w false e = by-joins (leb-false _ _ e) w (r .joins (entryAt text place) (entryAt text (place + 1))) refl
+  by-both : place + 1 < length text → CodeAt r text place (together r (entryAt text place) (entryAt text (place + 1))) → Are
+  by-both h al =
+      let two : drop place text ≡ entryAt text place ∷ entryAt text (place + 1) ∷ drop (suc (place + 1)) text =
+      left ∙ ap (λ (l : List ℕ). entryAt text place ∷ l) (drop-cons text (place + 1) 0 h) in
+      subst (BytesAre text place (entryAt text place) (entryAt text (place + 1))) (same-code _ al) (record { first = refl; second = refl; all = ap (take 2) two })
 
-    by : (t : Bool) → r .waits (entryAt text place) ≡ t → BytesAre (entryAt text place) (entryAt text (place + 1)) k
-    by true w = by-end w (leb (length text) (place + 1)) refl
-    by false w = by-alone (at-one r text place h w)
+  -- the bytes of the code at a place
+  pub code-bytes : Are
+  code-bytes = by (r .waits (entryAt text place)) refl
+    where
+      by-joins : place + 1 < length text → r .waits (entryAt text place) ≡ true → (t : Bool) → r .joins (entryAt text place) (entryAt text (place + 1)) ≡ t → Are
+      by-joins g w true j = by-both g (at-two r text place g w j)
+      by-joins g w false j = by-alone (at-alone r text place g w j)
+
+      by-end : r .waits (entryAt text place) ≡ true → (t : Bool) → leb (length text) (place + 1) ≡ t → Are
+      by-end w true e = let last : length text ≤ place + 1 = leb-true _ _ e in let h = code-inside in by-alone (at-end r text place (omega (arith, h, last)) w)
+      by-end w false e = by-joins (leb-false _ _ e) w (r .joins (entryAt text place) (entryAt text (place + 1))) refl
+
+      by : (t : Bool) → r .waits (entryAt text place) ≡ t → Are
+      by true w = by-end w (leb (length text) (place + 1)) refl
+      by false w = by-alone (at-one r text place code-inside w)
 
 -- ---- the size of the code at a place: one or two bytes that are there
 one-or-two : (n : ℕ) → (n ≡ 1) ⊎ (n ≡ 2) → (1 ≤ n) × (n ≤ 2)
@@ -96,14 +118,14 @@ module _ (r : Reader) (policy : Policy) (text : List ℕ) where
   from-found place k unit at e = from-code place k at ∙ ap (λ (m : Lookup). findingThen policy (record { place = place; code = k }) m (findingsFrom r policy text (place + sizeOf k))) e
 
   -- one that has none
-  pub from-lacking : (place : ℕ) (k : Code) (kind : Kind) → place < length text → CodeAt r text place k → k .means ≡ Lacking kind
+  pub from-lacking : (place : ℕ) (k : Code) (kind : Kind) → CodeAt r text place k → k .means ≡ Lacking kind
       → findingsFrom r policy text place ≡ findingAt policy kind text place (sizeOf k) ∷ behind r policy text (findingAt policy kind text place (sizeOf k)) (place + sizeOf k)
   unfolding behind
-  from-lacking place k kind h at e =
-      let bytes = code-bytes r text place k h at in
+  from-lacking place k kind at e =
+      let bytes = code-bytes r text place k at in
       from-code place k at
       ∙ ap (λ (m : Lookup). findingThen policy (record { place = place; code = k }) m (findingsFrom r policy text (place + sizeOf k))) e
-      ∙ ap (λ (f : Finding). untilStop f (findingsFrom r policy text (place + sizeOf k))) (alike (bytes .0) (bytes .1))
+      ∙ ap (λ (f : Finding). untilStop f (findingsFrom r policy text (place + sizeOf k))) (alike (bytes .first) (bytes .second))
     where
       alike : k .first ≡ entryAt text place → secondOf (k .more) ≡ pick (ltb 1 (sizeOf k)) (entryAt text (place + 1)) 0 → findingOf policy kind (record { place = place; code = k }) ≡ findingAt policy kind text place (sizeOf k)
       alike p q = cc
@@ -128,7 +150,7 @@ module _ (r : Reader) (policy : Policy) (text : List ℕ) where
           inside = read-inside r text place c w .2;
           none = λ z. absurd (true≢false z);
           one = λ _.
-              from-lacking place (w .code) kind h (w .at) (sym (w .means) ∙ e)
+              from-lacking place (w .code) kind (w .at) (sym (w .means) ∙ e)
               ∙ ap (λ (n : ℕ). findingAt policy kind text place n ∷ behind r policy text (findingAt policy kind text place n) (place + n)) (sym (w .size))
               ∙ ap (λ (g : Finding). g ∷ behind r policy text g (place + c .size)) (sym q);
         }

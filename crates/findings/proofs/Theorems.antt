@@ -5,16 +5,14 @@ use mathlib.Core.List.{List, [], _∷_, _++_}
 use mathlib.Core.Logic.{_↔_, _⊎_, inl, inr}
 use mathlib.Core.Path.{_≡_, refl, sym, ap, _∙_, subst}
 use Prim.Native.Nat.{ℕ, zero, suc, _+_, _≤_, _<_, _%_, _^_}
-use native.Mathlib.Numerals.{add-one}
 use native.Mathlib.Omega.{arith}
 use lib.Bits.{bitOr, bitAnd, or-zero-l, or-mod, or-add-and, and-le-l, and-le-r}
 use lib.Dec.{eqb, leb}
-use lib.ListN.{length, take, drop}
-use lib.Seq.{drop-cons}
+use lib.ListN.{length}
 use mathlib.Core.Option.{none}
 use borrow.Author.Tests.{ne-eqb, leb-true, leb-false}
-use Rattle.codepage.specs.CodePage.{CodePage, pick, entryAt}
-use Rattle.codepage.specs.Reading.{Reader, Code, unitsOf, sizeOf, alone, together, codes}
+use Rattle.codepage.specs.CodePage.{CodePage, pick}
+use Rattle.codepage.specs.Reading.{Reader, Code, sizeOf, codes}
 use Rattle.codepage.specs.declared.Kind.{Kind}
 use Rattle.codepage.specs.declared.Kind.the-variants.{UndefinedSingle, UndefinedPair, Invalid}
 use Rattle.codepage.specs.declared.Lookup.{Lookup}
@@ -27,57 +25,12 @@ use Rattle.engine.specs.Policies.{digitOf, flagOf, actionOf, stoppedFlag}
 use Rattle.engine.specs.Engine.{Effect, acted, effectOf, converter, endless, fits, roomLeft, Fed, halt, after, stopAt, takeWhen, takeCode, takeCodes, whole, readerOf}
 use Rattle.codepage_walk.specs.Walk.{Placed, placedFrom, placed, CodeAt}
 use Rattle.codepage_walk.specs.Checks.{bytesReader}
-use Rattle.codepage_walk.proofs.WalkLaws.{at-one, at-end, at-two, at-alone, codes-at, EachAt, codes-end, code-there}
+use Rattle.codepage_walk.proofs.WalkLaws.{codes-at, EachAt, code-there}
 use Rattle.findings.specs.declared.Finding.{Finding}
 use Rattle.findings.specs.Findings.{findingOf, untilStop, findingThen, findingsIn, findingsOf, findingsFrom}
 use Rattle.findings.specs.Calls.{findingsText}
-use Rattle.findings.proofs.FindingLaws.{from-end, from-code}
+use Rattle.findings.proofs.FindingLaws.{code-bytes, from-end, from-code}
 use Rattle.findings.specs.Claims.{IsRead, AllRead, Rising, GoesOn, NoStop, kindFlags}
-
--- ---- the bytes of a code are the text's at its place
-module _ (r : Reader) (text : List ℕ) (place : ℕ) (k : Code) (at : CodeAt r text place k) where
-  same-code : (l : Code) → CodeAt r text place l → l ≡ k
-  same-code l al =
-      let both : l ∷ codes r (drop (place + sizeOf l) text) ≡ k ∷ codes r (drop (place + sizeOf k) text) = sym (al .here) ∙ at .here in
-      cc
-
-  left : place < length text → drop place text ≡ entryAt text place ∷ drop (place + 1) text
-  left h = rw add-one (drop-cons text place 0 h)
-
-  by-alone : place < length text → CodeAt r text place (alone r (entryAt text place)) → take (sizeOf k) (drop place text) ≡ unitsOf k
-  by-alone h al = subst (λ (l : Code). take (sizeOf l) (drop place text) ≡ unitsOf l) (same-code _ al) (ap (take 1) (left h))
-
-  by-both : place + 1 < length text → CodeAt r text place (together r (entryAt text place) (entryAt text (place + 1))) → take (sizeOf k) (drop place text) ≡ unitsOf k
-  by-both h al =
-      let two : drop place text ≡ entryAt text place ∷ entryAt text (place + 1) ∷ drop (suc (place + 1)) text =
-      left (omega arith) ∙ ap (λ (l : List ℕ). entryAt text place ∷ l) (drop-cons text (place + 1) 0 h) in
-      subst (λ (l : Code). take (sizeOf l) (drop place text) ≡ unitsOf l) (same-code _ al) (ap (take 2) two)
-
-  -- the bytes of the code at a place
-  pub code-units : place < length text → take (sizeOf k) (drop place text) ≡ unitsOf k
-  code-units h = by (r .waits (entryAt text place)) refl
-    where
-      by-joins : place + 1 < length text → r .waits (entryAt text place) ≡ true → (t : Bool) → r .joins (entryAt text place) (entryAt text (place + 1)) ≡ t → take (sizeOf k) (drop place text) ≡ unitsOf k
-      by-joins g w true j = by-both g (at-two r text place g w j)
-      by-joins g w false j = by-alone h (at-alone r text place g w j)
-
-      by-end : r .waits (entryAt text place) ≡ true → (t : Bool) → leb (length text) (place + 1) ≡ t → take (sizeOf k) (drop place text) ≡ unitsOf k
-      by-end w true e = let last : length text ≤ place + 1 = leb-true _ _ e in by-alone h (at-end r text place (omega arith) w)
-      by-end w false e = by-joins (leb-false _ _ e) w (r .joins (entryAt text place) (entryAt text (place + 1))) refl
-
-      by : (t : Bool) → r .waits (entryAt text place) ≡ t → take (sizeOf k) (drop place text) ≡ unitsOf k
-      by true w = by-end w (leb (length text) (place + 1)) refl
-      by false w = by-alone h (at-one r text place h w)
-
-  -- there is a code only before the text's end
-  pub code-inside : place < length text
-  code-inside = by (leb (length text) place) refl
-    where
-      by : (t : Bool) → leb (length text) place ≡ t → place < length text
-      by false e = leb-false _ _ e
-      by true e =
-          let n : _≡_ {A = List Code} [] (k ∷ codes r (drop (place + sizeOf k) text)) = sym (codes-end r text place (leb-true _ _ e)) ∙ at .here in
-          absurd (let z : _≡_ {A = ℕ} 0 1 = cc in omega arith)
 
 -- ---- EACH ENTRY IS A CODE THAT THE RULES READ at that place with that kind
 module _ (p : CodePage) (policy : Policy) (text : List ℕ) where
@@ -95,7 +48,7 @@ module _ (p : CodePage) (policy : Policy) (text : List ℕ) where
         at = at;
         lacking = e;
         told = refl;
-        bytes = code-units (bytesReader p) text (c .place) (c .code) at (code-inside (bytesReader p) text (c .place) (c .code) at);
+        bytes = code-bytes (bytesReader p) text (c .place) (c .code) at .all;
       })
       all
 
