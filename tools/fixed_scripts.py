@@ -488,6 +488,9 @@ def initial_script():
     script.expect("inplace 755 0 -", "inplace 17 kept")
     script.expect("inplace 555 0 -", "inplace 10 kept")
     script.expect("inplace 555 3 41", "inplace 10 kept")
+    script.expect("findings 755 0 0 0", "findings 17 kept")
+    script.expect("findings 555 0 0 3", "findings 10 kept")
+    script.expect("findings 555 0 1 3", "?")
     script.expect("spell 0 1 5", "?")
     script.expect("entry 0 0 0", "?")
     script.note("no field buffer, and nothing held")
@@ -509,6 +512,7 @@ def initial_script():
     script.expect("find 0 0", "find 29")
     script.expect("spell 0 0 0", "spell 0 0 - kept")
     script.expect("inplace 555 0 -", "inplace 0 0 0 0 - kept")
+    script.expect("findings 000 0 0 0", "findings 0 0 0 kept")
     return script
 
 
@@ -681,6 +685,9 @@ def grammar_script():
         "decodehere", "decodehere 0 3 last 5", "decodehere 0 1 last 66001", "decodehere 0 1 5", "decodehere 0 1 last 5 5",
         "decode here 0 1 last 5",
         "encodehere 0 3 last 5", "encodehere 0 1 last 140001", "encodehere 0 1 more", "here 0 1 last 5",
+        # findings
+        "findings", "findings 555 0 2", "findings 555 0 3 5", "findings 555 2 1 5", "findings 55 0 2 5", "findings 555 0 2 301",
+        "findings 555 0 2 05", "findings 555 00 2 5", "findings 555 0 2 5 5", "findings D 555 0 2 5",
         # nothing else is a command
         "quit", "help", "decodes 0 1 last 5", "tables sample.tbl", "policy 555", "shape\tgood",
     )

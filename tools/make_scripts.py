@@ -7,7 +7,7 @@
 
 NAME.out has the answers of second_converter.py. In the fixed scripts (fixed_scripts.py, bad_half_scripts.py,
 surrogate_scripts.py, one_call_scripts.py, standard_scripts.py, field_scripts.py, break_scripts.py, index_scripts.py, spell_scripts.py,
-inplace_scripts.py, here_scripts.py) an expected answer is written by hand, from the documents and the readings of
+inplace_scripts.py, here_scripts.py, findings_scripts.py) an expected answer is written by hand, from the documents and the readings of
 them, for every command, and making the scripts fails where second_converter.py answers otherwise. The random scripts
 (random_scripts.py) are the same for the same seed. join_scripts.py joins all scripts for the console.
 """
@@ -20,6 +20,7 @@ import tempfile
 import bad_half_scripts
 import break_scripts
 import field_scripts
+import findings_scripts
 import fixed_scripts
 import here_scripts
 import index_scripts
@@ -48,6 +49,7 @@ LISTS = {
     "lists_index": 80,
     "lists_inplace": 60,
     "lists_here": 120,
+    "lists_findings": 80,
 }
 
 
@@ -73,6 +75,7 @@ def scripts_by_hand():
         "spell": spell_scripts.spell_script(),
         "inplace": inplace_scripts.inplace_script(),
         "here": here_scripts.here_script(),
+        "findings": findings_scripts.findings_script(),
     }
 
 

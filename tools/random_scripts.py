@@ -13,6 +13,7 @@ Kinds of script:
     lists_index      journals that grow, their index gone on with, and codes found by it, also by wrong entries
     lists_inplace    units encoded in their own buffer, with surrogates in pairs and alone, some buffers of an odd size
     lists_here       lists of calls of both forms on all tables: by value, and on the record where it stands
+    lists_findings   the codes without a character of byte texts, lists of all sizes, some tables of a bad shape
 
 The generator plays each command on second_converter.py as it goes, only to know where the run stands, so that the next
 piece begins there; the answers stored are those of that play.
@@ -608,6 +609,23 @@ def play_in_place(player, chance, names, tables):
         player.do(f"inplace {random_policy(chance, 'E')} {size} {hex_text(buffer, 2)}")
 
 
+def play_findings(player, chance, names, damaged_names, tables):
+    """A byte text with many codes without a character: the whole of it and parts, under random policies, lists of all sizes."""
+    name = chance.choice(names) if chance.random() < 0.95 else chance.choice(damaged_names)
+    player.do(f"table {name}")
+    # a damaged table set says nothing of bytes: the text is the sample page's
+    good = tables[name] if name in names else tables["sample.tbl"]
+    for _ in range(3):
+        size = chance.choice((0, 1, 2, 3, chance.randrange(30), chance.randrange(30)))
+        text = chance.choice((random_bytes, random_halves))(chance, good, size)
+        player.do(f"bytes {hex_text(text, 2)}")
+        for _ in range(2):
+            start = chance.choice((0, 0, 0, chance.randrange(size + 1)))
+            count = chance.choice((size - start, size - start, chance.randrange(size - start + 1)))
+            room = chance.choice((0, 1, 2, 3, count, count, 300, chance.randrange(10)))
+            player.do(f"findings {random_policy(chance, 'D')} {start} {count} {room}")
+
+
 def random_script(kind, seed, count, tables, folder):
     """The two files of a random script; folder has the images of the tables."""
     chance = random.Random(f"{kind} {seed}")
@@ -640,6 +658,8 @@ def random_script(kind, seed, count, tables, folder):
             play_here(player, chance, [*random_names, "sample.tbl"], damaged_names, tables, size, calls)
         elif kind == "lists_inplace":
             play_in_place(player, chance, random_names + ["sample.tbl"], tables)
+        elif kind == "lists_findings":
+            play_findings(player, chance, random_names + ["sample.tbl"], damaged_names, tables)
         elif kind == "lists_index":
             play_index(player, chance, random_names + ["sample.tbl"], tables)
         else:

@@ -841,6 +841,48 @@ def in_place_call(digits, table, buffer):
 
 
 # ---------------------------------------------------------------------------------------------------------------
+# Findings (document 02, CR 7)
+# ---------------------------------------------------------------------------------------------------------------
+
+
+@dataclass(frozen=True)
+class Finding:
+    """ "place (of the first byte, from 0 ..), kind, the bytes, and the policy digit that was applied" """
+
+    place: int
+    kind: int  # the kind's flag: 1, 2 or 4
+    code: tuple  # its one or two bytes
+    digit: int
+
+
+def findings_of(digits, table, text):
+    """The codes of a byte text that have no character, "in order of place, until .. the reading ends"."""
+    found = []
+    for place, code in codes_from(table, text, 0):
+        if code.kind == 0:
+            continue
+        digit = digit_for(digits, code.kind)
+        found.append(Finding(place, code.kind, tuple(text[place : place + code.size]), digit))
+        # "Stopping reads past the code, sets its flag and 8, writes nothing and ends the run" (document 01): it is the last finding
+        if digit == 0:
+            break
+    return found
+
+
+def findings_call(digits, table, text, out):
+    """ "the tool fills a lent list of findings" and "reports the true number": answers ('findings', number, filled), or a refusal's
+    number: "Checks: 17, 10, 11"."""
+    refusal = one_go_refusal(DECODING, digits, table, text)
+    if refusal is not None:
+        return refusal
+    found = findings_of(digits, table, text)
+    # "until the list is full"; "Entries beyond those filled do not change"
+    filled = found[: len(out)]
+    out[: len(filled)] = filled
+    return ("findings", len(found), len(filled))
+
+
+# ---------------------------------------------------------------------------------------------------------------
 # The console: the command language of docs/CONSOLE.md, and the decisions of docs/CONSOLE-NOTES.md
 # ---------------------------------------------------------------------------------------------------------------
 
@@ -852,12 +894,15 @@ FILE_NAME_LIMIT = 4000
 HOLD_LIMIT = 300
 BREAKS_LIMIT = 300
 INDEX_LIMIT = 300
+FINDINGS_LIMIT = 300
 ENTRY_LIMIT = 2**31 - 1  # an entry in memory is one number of 32 bits, twice the count plus the mark
 NUMBER_LIMIT = 2**64 - 1
 
 BYTE_FILL = 0xEE
 UNIT_FILL = 0xEEEE
 ENTRY_FILL = Entry(UNIT_FILL, True)
+# "Lent entries hold place 61,166, kind EE, two bytes EE EE (a count of EE), digit EE"
+FINDING_FILL = Finding(UNIT_FILL, BYTE_FILL, (BYTE_FILL, BYTE_FILL), BYTE_FILL)
 
 
 class NotACommand(Exception):
@@ -917,6 +962,11 @@ def run_text(run):
     digits = " ".join(str(digit) for digit in run.digits)
     word = "over" if run.ended else "on"
     return f"{run.direction} {run.page} {digits} {carried_field(run)} {run.flags} {run.read} {run.written} {word}"
+
+
+def finding_text(finding):
+    """ "each ENTRY as `PLACE/KIND/BYTES/DIGIT` (KIND the flag's number 1, 2, 4; BYTES hex)" """
+    return f"{finding.place}/{finding.kind}/{hex_text(finding.code, 2)}/{finding.digit}"
 
 
 def kept_text(out, written, fill):
@@ -1006,6 +1056,7 @@ class Console:
             b"find": (2, self.do_find),
             b"spell": (3, self.do_spell),
             b"inplace": (3, self.do_inplace),
+            b"findings": (4, self.do_findings),
         }
 
     def answer(self, line):
@@ -1250,6 +1301,17 @@ class Console:
         if isinstance(taken, int):
             return f"inplace {taken} {kept}"
         return f"inplace {taken.number} {taken.flags} {taken.read} {written} {hex_text(buffer[:written], 2)} {kept}"
+
+    def do_findings(self, policy, start, count, size):
+        digits = policy_word(policy)
+        text = self.part_of(self.byte_text, start, count)
+        out = [FINDING_FILL] * number_word(size, FINDINGS_LIMIT)
+        answer = findings_call(digits, self.table, text, out)
+        if answer in (17, 10, 11):
+            return f"findings {answer} {kept_text(out, 0, FINDING_FILL)}"
+        _, total, filled = answer
+        words = [total, filled, *map(finding_text, out[:filled]), kept_text(out, filled, FINDING_FILL)]
+        return "findings 0 " + " ".join(str(word) for word in words)
 
 
 def script_lines(script):

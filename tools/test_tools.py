@@ -150,6 +150,7 @@ def check_coverage(options):
         "find": (0, 10, 11, 28, 29),
         "spell": (0, 10, 11, 24, 25),
         "inplace": (0, 3, 10, 11, 17, 26),
+        "findings": (0, 10, 11, 17),
     }
     seen = {command: set() for command in wanted}
     shown = set()
@@ -732,6 +733,82 @@ def check_forms(options):
                 line, answer = (call + b"here" + words[len(call) :] for words in (line, answer))
             got = console.answer(line).encode("ascii")
             expect(got == answer, f"{name}: {line[:80]!r} is answered {got[:120]!r}, and by value {answer[:120]!r}")
+
+
+# ---------------------------------------------------------------------------------------------------------------
+# Findings against the uncut reading, and against the flags of one call with empty room
+# ---------------------------------------------------------------------------------------------------------------
+
+FINDINGS_POLICIES = ((5, 5, 5), (5, 5, 0), (0, 0, 0), (1, 1, 1), (0, 5, 1), (5, 0, 5), (6, 4, 3), (2, 1, 0))
+
+
+def findings_again(table, digits, text):
+    """The findings of a text by the regular expression of its codes."""
+    kinds = {"single": (0, 1), "pair": (1, 2)}
+    leads = [byte for byte in range(256) if table.classes[byte] in (2, 6)]
+    found = []
+    for match in byte_reader(table).finditer(bytes(text)):
+        code = match.group()
+        number, flag = kinds.get(match.lastgroup, (2, 4))
+        if flag == 1 and table.singles[code[0]] != 0xFFFF:
+            continue
+        if flag == 2 and table.pairs[256 * leads.index(code[0]) + code[1]] != 0xFFFF:
+            continue
+        found.append(converter.Finding(match.start(), flag, tuple(code), digits[number]))
+        if digits[number] == 0:
+            break
+    return found
+
+
+def check_findings_of(table, digits, text, sizes, name):
+    """One text under one policy: each list, the true number, and the flags of one call with empty room."""
+    found = findings_again(table, digits, text)
+    for size in sizes:
+        out = [None] * size
+        answer = converter.findings_call(digits, table, text, out)
+        filled = found[:size]
+        expect(answer == ("findings", len(found), len(filled)), f"{name}: the numbers, list of {size}")
+        expect(out == filled + [None] * (size - len(filled)), f"{name}: the list of {size}")
+    flags = converter.convert_call("D", digits, table, text, []).flags
+    # "No findings exactly if flags 1, 2 and 4 are clear"; more: the flags are the kinds found, and 8 tells of a stop
+    expect((not found) == (flags & 7 == 0), f"{name}: findings and flags")
+    gathered = 0
+    for finding in found:
+        gathered |= finding.kind | (8 if finding.digit == 0 else 0)
+    expect(gathered == flags, f"{name}: the kinds found are not the flags")
+
+
+def stored_byte_texts():
+    """Each byte text of the stored random scripts, with the table set in hand when it is set; each once."""
+    seen = set()
+    for name in make_scripts.LISTS:
+        console, image = converter.Console(FOLDERS), None
+        for line in read(os.path.join(SCRIPTS, name + ".in")).splitlines():
+            words = line.split(b" ")
+            if words[0] == b"table":
+                console.answer(line)
+                image = words[1]
+            elif words[0] in (b"bytes", b"fillbytes") and (image, line) not in seen:
+                console.answer(line)
+                seen.add((image, line))
+                if converter.text_refusal(console.table, console.byte_text) is None:
+                    yield f"{name}, {image.decode('ascii')}, {line[:60].decode('ascii')}", console.table, console.byte_text
+
+
+def check_findings(options):
+    """The texts of all stored random scripts under policies of all kinds, and random texts on the real pages."""
+    for number, (name, table, text) in enumerate(stored_byte_texts()):
+        policies = FINDINGS_POLICIES if len(text) < 100 else FINDINGS_POLICIES[number % 8 :][:1]
+        for digits in policies:
+            check_findings_of(table, digits, text, (0, 1, 300) if len(text) < 100 else (300,), name)
+    chance = random.Random(7)
+    for page in (932, 936, 949, 950, 874, 1252):
+        table = load_table(f"cp{page}.tbl")
+        leads = [byte for byte in range(256) if table.classes[byte] in (2, 6)] or [0x81]
+        for number in range(60):
+            text = [chance.choice((chance.randrange(256), chance.choice(leads))) for _ in range(chance.randrange(40))]
+            for digits in chance.sample(FINDINGS_POLICIES, 3):
+                check_findings_of(table, digits, text, (0, 2, 300), f"page {page}, text {number}")
 
 
 # ---------------------------------------------------------------------------------------------------------------
@@ -1834,6 +1911,7 @@ def check_wrong_converters(options):
     expect_found_out(wrong_converters.wrong_spell_calls()[:1], ("spell_pages",))
     expect_found_out(wrong_converters.wrong_in_place_converters(), ("inplace",))
     expect_found_out(wrong_converters.wrong_here_converters(), ("here",))
+    expect_found_out(wrong_converters.wrong_findings_converters(), ("findings",))
     readings = ("read_unit", "HIGH_SURROGATES", "LOW_SURROGATES")
     expect_found_out([wrong for wrong in wrong_surrogate_converters() if wrong[1] in readings], ("inplace",))
 
@@ -1907,6 +1985,7 @@ CHECKS = (
     ("the standard spelling against decoding and encoding", check_spelling),
     ("encoding in one buffer against the uncut reading", check_in_place),
     ("lists of calls of both forms", check_forms),
+    ("findings against the uncut reading and the flags", check_findings),
     ("wrong converters are found out", check_wrong_converters),
     ("the standard policy is told and not used", check_standard_is_told),
     ("wrong page tables are found out", check_wrong_pages),

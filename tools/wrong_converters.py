@@ -1146,3 +1146,354 @@ def wrong_here_converters():
         ("140,001 bytes of room are a command", "BYTES_ROOM_LIMIT", 140001),
         ("140,000 bytes of room are no command", "BYTES_ROOM_LIMIT", 139999), *wrong_numbers(),
     )
+
+
+# ---------------------------------------------------------------------------------------------------------------
+# Findings (CR 7)
+# ---------------------------------------------------------------------------------------------------------------
+
+
+def wrong_findings():
+    """Which codes are findings, and what each says."""
+    findings_of = RIGHT["findings_of"]
+
+    def each(change):
+        """Each finding says something else: change gets it, the digits, the table and the text."""
+
+        def wrong(digits, table, text):
+            return [change(finding, digits, table, text) for finding in findings_of(digits, table, text)]
+
+        return wrong
+
+    def field(name, value_of):
+        return each(lambda finding, digits, table, text: converter.replace(finding, **{name: value_of(finding, digits, table, text)}))
+
+    def only(keep):
+        """Some codes are no findings."""
+        return lambda digits, table, text: [finding for finding in findings_of(digits, table, text) if keep(finding)]
+
+    def stopping_at(stops):
+        """The reading ends behind the first finding of which this holds."""
+
+        def wrong(digits, table, text):
+            found = []
+            for finding in findings_of((5, 5, 5), table, text):
+                finding = converter.replace(finding, digit=RIGHT["digit_for"](digits, finding.kind))
+                found.append(finding)
+                if stops(finding, digits):
+                    break
+            return found
+
+        return wrong
+
+    def ends_before_stop(digits, table, text):
+        found = findings_of(digits, table, text)
+        return found[:-1] if found and found[-1].digit == 0 else found
+
+    def code_number(finding, digits, table, text):
+        return [place for place, _ in RIGHT["codes_from"](table, text, 0)].index(finding.place)
+
+    def two_bytes(finding, digits, table, text):
+        return tuple((*text[finding.place : finding.place + 2], 0)[:2])
+
+    def default_is_none(digits, table, text):
+        """A character equal to the default unit is a finding too."""
+        found = []
+        for place, code in RIGHT["codes_from"](table, text, 0):
+            kind = code.size if code.meaning == [table.default_unit] else code.kind
+            if kind:
+                digit = RIGHT["digit_for"](digits, kind)
+                found.append(converter.Finding(place, kind, tuple(text[place : place + code.size]), digit))
+                if digit == 0:
+                    break
+        return found
+
+    def each_byte(digits, table, text):
+        """A code of two bytes is told byte by byte."""
+        return [converter.Finding(finding.place + number, finding.kind, (byte,), finding.digit)
+                for finding in findings_of(digits, table, text) for number, byte in enumerate(finding.code)]
+
+    def once(digits, table, text):
+        seen = {}
+        for finding in findings_of(digits, table, text):
+            seen.setdefault(finding.code, finding)
+        return list(seen.values())
+
+    def runs_joined(digits, table, text):
+        """Findings of one kind, one behind the other, are told once."""
+        found = []
+        for finding in findings_of(digits, table, text):
+            if not (found and found[-1][1] == finding.place and found[-1][0].kind == finding.kind):
+                found.append([finding, 0])
+            found[-1][1] = finding.place + len(finding.code)
+        return [finding for finding, _ in found]
+
+    def told_with_the_next(digits, table, text):
+        """A lead is told with the byte behind it that may not be second, and that is read afresh."""
+        return [converter.replace(finding, code=two_bytes(finding, digits, table, text))
+                if finding.kind == 4 and table.classes[finding.code[0]] in (2, 6) and finding.place + 1 < len(text) else finding
+                for finding in findings_of(digits, table, text)]
+
+    digits_of = {
+        "the digit is always the third": lambda finding, digits, table, text: digits[2],
+        "the digit is always the first": lambda finding, digits, table, text: digits[0],
+        "the digit of a pair is that of a single": lambda finding, digits, table, text: digits[{1: 0, 2: 0, 4: 2}[finding.kind]],
+        "the digit of a pair is that of an invalid code": lambda finding, digits, table, text: digits[{1: 0, 2: 2, 4: 2}[finding.kind]],
+        "the digit is that of the code's size": lambda finding, digits, table, text: digits[len(finding.code) - 1],
+        "6 is told as 5": lambda finding, digits, table, text: min(finding.digit, 5),
+        "the digit is what it writes": lambda finding, digits, table, text: {0: 0, 1: 0}.get(finding.digit, 1),
+    }
+    places_of = {
+        "the place of the last byte": lambda finding, digits, table, text: finding.place + len(finding.code) - 1,
+        "the place behind the code": lambda finding, digits, table, text: finding.place + len(finding.code),
+        "the place from 1": lambda finding, digits, table, text: finding.place + 1,
+        "the place counted in codes": code_number,
+        "the place in a byte": lambda finding, digits, table, text: finding.place % 256,
+        "the place from the end": lambda finding, digits, table, text: len(text) - finding.place,
+    }
+    codes_of = {
+        "always two bytes": two_bytes,
+        "always two bytes, the second of one is 0": lambda finding, digits, table, text: (*finding.code, 0)[:2],
+        "the first byte only": lambda finding, digits, table, text: finding.code[:1],
+        "the second byte first": lambda finding, digits, table, text: finding.code[::-1],
+        "a lead at the end has a second byte 0": lambda finding, digits, table, text: (
+            (*finding.code, 0) if finding.kind == 4 and finding.place + 1 == len(text) and table.classes[finding.code[0]] in (2, 6)
+            else finding.code),
+    }
+    kinds_of = {
+        "the kind by its number": lambda finding, digits, table, text: {1: 1, 2: 2, 4: 3}[finding.kind],
+        "an undefined pair is invalid": lambda finding, digits, table, text: {1: 1, 2: 4, 4: 4}[finding.kind],
+        "an undefined pair is an undefined single": lambda finding, digits, table, text: {1: 1, 2: 1, 4: 4}[finding.kind],
+        "an invalid code of two bytes is an undefined pair":
+            lambda finding, digits, table, text: 2 if len(finding.code) == 2 else finding.kind,
+        "a stop's kind has flag 8": lambda finding, digits, table, text: finding.kind + (8 if finding.digit == 0 else 0),
+        "a lead alone is an undefined single":
+            lambda finding, digits, table, text: 1 if finding.kind == 4 and table.classes[finding.code[0]] in (2, 6)
+            and len(finding.code) == 1 else finding.kind,
+    }
+    return named("findings_of", (
+        *((title, field("digit", value_of)) for title, value_of in digits_of.items()),
+        *((title, field("place", value_of)) for title, value_of in places_of.items()),
+        *((title, field("code", value_of)) for title, value_of in codes_of.items()),
+        *((title, field("kind", value_of)) for title, value_of in kinds_of.items()),
+        ("a stop is no finding", ends_before_stop),
+        ("nothing stops", stopping_at(lambda finding, digits: False)),
+        ("the first finding stops, if a digit is 0", stopping_at(lambda finding, digits: 0 in digits)),
+        ("what is skipped stops", stopping_at(lambda finding, digits: finding.digit < 2)),
+        ("the third digit alone stops", stopping_at(lambda finding, digits: digits[2] == 0 and finding.kind == 4)),
+        ("the third digit stops every kind", stopping_at(lambda finding, digits: digits[2] == 0)),
+        ("what is skipped is no finding", only(lambda finding: finding.digit != 1)),
+        ("what is replaced is no finding", only(lambda finding: finding.digit < 2)),
+        ("undefined singles are no findings", only(lambda finding: finding.kind != 1)),
+        ("undefined pairs are no findings", only(lambda finding: finding.kind != 2)),
+        ("invalid codes are no findings", only(lambda finding: finding.kind != 4)),
+        ("a finding at place 0 is none", only(lambda finding: finding.place > 0)),
+        ("the last byte is not looked at",
+         lambda digits, table, text: [finding for finding in findings_of(digits, table, text) if finding.place + 1 < len(text)]),
+        ("a byte that a digit replaces by itself is no finding", only(lambda finding: finding.digit != 6)),
+        ("a code of two bytes is two findings", each_byte),
+        ("a code is told once", once),
+        ("findings of one kind side by side are one", runs_joined),
+        ("a bad half is told with the byte behind it", told_with_the_next),
+        ("a character equal to the default is a finding", default_is_none),
+        ("the last finding is first", lambda digits, table, text: findings_of(digits, table, text)[::-1]),
+        ("findings in order of kind",
+         lambda digits, table, text: sorted(findings_of(digits, table, text), key=lambda finding: finding.kind)),
+        ("the table of the sample page is asked", lambda digits, table, text: findings_of(digits, converter.replace(
+            table, classes=[5 if 0x40 <= byte < 0x7F else 1 if byte <= 0x80 or byte == 0xA0 else 2 if byte in (0x81, 0x82) else 0
+                            for byte in range(256)], pairs=(table.pairs + [0xFFFF] * 512)[:512]), text)),
+    ))
+
+
+def wrong_findings_calls():
+    """The list, and the numbers that are reported."""
+    findings_call, findings_of = RIGHT["findings_call"], RIGHT["findings_of"]
+    empty = RIGHT["FINDING_FILL"]
+
+    def answered(change):
+        """Where it is accepted, the list is filled otherwise, or other numbers are told: change gets all findings and the list."""
+
+        def wrong(digits, table, text, out):
+            right = findings_call(digits, table, text, list(out))
+            if isinstance(right, int):
+                return right
+            found = findings_of(digits, table, text)
+            numbers = change(found, out)
+            return ("findings", *numbers)
+
+        return wrong
+
+    def fill(out, entries, first=0):
+        entries = entries[: max(len(out) - first, 0)]
+        out[first : first + len(entries)] = entries
+        return len(entries)
+
+    def numbers(total_of, filled_of=lambda found, filled: filled):
+        def change(found, out):
+            filled = fill(out, found)
+            return total_of(found, filled), filled_of(found, filled)
+
+        return answered(change)
+
+    def last_ones(found, out):
+        """The list has the last findings."""
+        return len(found), fill(out, found[-len(out) :] if out else [])
+
+    def last_place_again(found, out):
+        """What does not fit is written over the last entry."""
+        filled = fill(out, found)
+        if out and len(found) > len(out):
+            out[-1] = found[-1]
+        return len(found), filled
+
+    def one_place_free(found, out):
+        return len(found), fill(out, found[: max(len(out) - 1, 0)])
+
+    def at_the_end(found, out):
+        filled = found[: len(out)]
+        out[len(out) - len(filled) :] = filled
+        return len(found), len(filled)
+
+    def closed(found, out):
+        """An entry of zeros behind the last."""
+        filled = fill(out, found)
+        if filled < len(out):
+            out[filled] = converter.Finding(0, 0, (), 0)
+        return len(found), filled
+
+    def cleared(found, out):
+        filled = fill(out, found)
+        out[filled:] = [converter.Finding(0, 0, (), 0)] * (len(out) - filled)
+        return len(found), filled
+
+    def a_field_cleared(name, value):
+        """One field of the entry behind the last is touched."""
+
+        def change(found, out):
+            filled = fill(out, found)
+            if filled < len(out):
+                out[filled] = converter.replace(empty, **{name: value})
+            return len(found), filled
+
+        return answered(change)
+
+    def full_list_is_refused(digits, table, text, out):
+        answer = findings_call(digits, table, text, list(out))
+        if not isinstance(answer, int) and answer[1] > len(out):
+            return 11
+        return findings_call(digits, table, text, out)
+
+    def refusal_touches(digits, table, text, out):
+        answer = findings_call(digits, table, text, out)
+        if isinstance(answer, int) and out:
+            out[0] = converter.Finding(0, 0, (), 0)
+        return answer
+
+    def second_byte_kept(found, out):
+        """The second place of a code of one byte keeps what stood there, and is told."""
+        filled = fill(out, [converter.replace(finding, code=(*finding.code, 0xEE)[:2]) for finding in found])
+        return len(found), filled
+
+    return named("findings_call", (
+        ("the number of filled entries for the true number", numbers(lambda found, filled: filled)),
+        ("the true number for the number of filled entries", numbers(lambda found, filled: len(found), lambda found, filled: len(found))),
+        ("one entry more than the list is counted", numbers(lambda found, filled: min(len(found), filled + 1))),
+        ("at most 300 are counted", numbers(lambda found, filled: min(len(found), 300))),
+        ("the number in 15 bits", numbers(lambda found, filled: len(found) % 32768)),
+        ("the number in 16 bits", numbers(lambda found, filled: len(found) % 65536)),
+        ("a stop is not counted", numbers(lambda found, filled: len([finding for finding in found if finding.digit != 0]))),
+        ("different codes are counted", numbers(lambda found, filled: len({finding.code for finding in found}))),
+        ("bytes are counted", numbers(lambda found, filled: sum(len(finding.code) for finding in found))),
+        ("an empty list counts nothing", answered(lambda found, out: (len(found) if out else 0, fill(out, found)))),
+        ("the list has the last findings", answered(last_ones)),
+        ("the last entry is written over", answered(last_place_again)),
+        ("the last entry is left free", answered(one_place_free)),
+        ("the list is filled at its end", answered(at_the_end)),
+        ("the list is filled from its second entry", answered(lambda found, out: (len(found), fill(out, found, 1)))),
+        ("an entry closes the list", answered(closed)),
+        ("all behind the findings is cleared", answered(cleared)),
+        ("the place behind the last is touched", a_field_cleared("place", 0)),
+        ("the kind behind the last is touched", a_field_cleared("kind", 0)),
+        ("the bytes behind the last are touched", a_field_cleared("code", (0, 0xEE))),
+        ("the digit behind the last is touched", a_field_cleared("digit", 0)),
+        ("the second byte of one is what stood there", answered(second_byte_kept)),
+        ("a list that is too short is refused", full_list_is_refused),
+        ("a refusal touches the list", refusal_touches),
+    ))
+
+
+def wrong_one_go_refusals(direction):
+    """17, 10, 11 of a call on a whole text in one go."""
+    one_go_refusal = RIGHT["one_go_refusal"]
+
+    def with_digits(change):
+        return lambda direction, digits, table, text: one_go_refusal(direction, change(digits), table, text)
+
+    def asked_if(holds):
+        """17 only where this holds of the text."""
+        return lambda direction, digits, table, text: one_go_refusal(
+            direction, digits if holds(digits, table, text) else (5, 5, 5), table, text)
+
+    return named("one_go_refusal", (
+        ("10 before 17", ahead("one_go_refusal", 10, (17,), lambda direction, digits, table, text: not RIGHT["shape_is_good"](table))),
+        ("11 before 17", ahead("one_go_refusal", 11, (17,), lambda direction, digits, table, text: len(text) > 65536)),
+        ("17 by the other direction's rule",
+         lambda _, digits, table, text: one_go_refusal("E" if direction == "D" else "D", digits, table, text)),
+        ("6 in any digit", with_digits(lambda digits: tuple(5 if digit == 6 else digit for digit in digits))),
+        ("6 in the third digit", with_digits(lambda digits: (*digits[:2], 5 if digits[2] == 6 else digits[2]))),
+        ("7 is allowed", with_digits(lambda digits: tuple(5 if digit == 7 else digit for digit in digits))),
+        ("17 by the first digit only", with_digits(lambda digits: (digits[0], 5, 5))),
+        ("17 not by the second digit", with_digits(lambda digits: (digits[0], 5, digits[2]))),
+        ("17 not for an empty text", asked_if(lambda digits, table, text: len(text) > 0)),
+        ("17 not where all are characters",
+         asked_if(lambda digits, table, text: not RIGHT["shape_is_good"](table) or len(text) > 65536 or not text
+                  or RIGHT["findings_of"]((5, 5, 5), table, text))),
+        ("no policy is refused", lambda direction, digits, table, text: RIGHT["text_refusal"](table, text)),
+    ))
+
+
+def wrong_findings_consoles():
+    class CountsFromTheWhole(converter.Console):
+        """Places are counted from the whole text's beginning."""
+
+        def do_findings(self, policy, start, count, size):
+            words = super().do_findings(policy, start, count, size).split(" ")
+            for number, word in enumerate(words):
+                place, slash, rest = word.partition("/")
+                if slash:
+                    words[number] = f"{int(place) + int(start)}/{rest}"
+            return " ".join(words)
+
+    class ReadsOn(converter.Console):
+        """A lead at a part's end is read with the byte behind the part."""
+
+        def part_of(self, text, start, count):
+            part = super().part_of(text, start, count)
+            behind = int(start) + len(part)
+            if part and RIGHT["shape_is_good"](self.table) and len(part) < 300 and behind < len(text):
+                *_, (place, code) = RIGHT["codes_from"](self.table, part, 0)
+                if self.table.classes[part[place]] in (2, 6) and place + 1 == len(part):
+                    part = part + text[behind : behind + 1]
+            return part
+
+    def cut_text(console, words):
+        console.byte_text = console.byte_text[: int(words[2])]
+
+    return (
+        ("places count from the whole text's beginning", "Console", CountsFromTheWhole),
+        ("a part's last lead is read with the byte behind the part", "Console", ReadsOn),
+        ("findings cut the text", "Console", after(b"findings", cut_text)),
+        ("findings give up the run in hand", "Console", after(b"findings", give_up_run)),
+        ("301 entries are a command", "FINDINGS_LIMIT", 301),
+        ("300 entries are no command", "FINDINGS_LIMIT", 299),
+    )
+
+
+def wrong_findings_converters():
+    """Findings (document 02, CR 7)."""
+    # the size of a lead at the text's end is not told; wrong_findings has one that tells a second byte
+    readings = [wrong for wrong in wrong_readings() if "at the text's end" not in wrong[0]]
+    return (
+        *wrong_findings(), *wrong_findings_calls(), *wrong_one_go_refusals("D"), *wrong_findings_consoles(), *readings,
+        *wrong_text_refusals(), *wrong_numbers(),
+    )
