@@ -103,12 +103,19 @@ fn say_count(count: u64, before: u64, name: &[u8]) {
 
 // How many codes without a character this call replaced or skipped, by kind; nothing where there were none.
 pub fn say_kinds(kinds: Kinds) {
+    say_by_kind(b"replaced or skipped", kinds);
+}
+
+// Numbers of codes by kind, and what they are; nothing where there are none.
+pub fn say_by_kind(what: &[u8], kinds: Kinds) {
     let before = sum(kinds.single, kinds.pair);
     let all = sum(before, kinds.invalid);
     if all == 0 {
         return;
     }
-    say(b"tillbox: replaced or skipped: ");
+    say(b"tillbox: ");
+    say(what);
+    say(b": ");
     say_count(kinds.single, 0, b"undefined single");
     say_count(kinds.pair, kinds.single, b"undefined pair");
     say_count(kinds.invalid, before, b"invalid");
@@ -288,6 +295,7 @@ pub fn summary(run: Run, stop: Stop, kinds: Kinds, checkpoint: &[u8]) {
 // The summary of a receipt whose lines were broken.
 pub fn printed(page: Page) {
     let run = page.run;
+    let kinds = page.kinds;
     let direction = run.direction;
     say_sums(direction, run.read, page.written);
     say(b"tillbox: printed lines: ");
@@ -297,6 +305,7 @@ pub fn printed(page: Page) {
     say(b"\n");
     say_replaced(page.replaced);
     say_flags(run.flags);
+    say_kinds(kinds);
 }
 
 // How many characters were replaced.

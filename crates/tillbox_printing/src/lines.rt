@@ -8,14 +8,46 @@ use crate::replaced::replaced_in;
 use codepage::Numbers;
 use convert::Pending;
 use convert::Run;
+use tillbox_checks::kinds;
+use tillbox_checks::kinds::Kinds;
 use tillbox_storage::messages;
 
-// What a call wrote, at the front of a lent buffer, and the run after it.
+// What a call wrote, at the front of a lent buffer, the run after it, and the characters that it replaced, all and by kind.
 struct Encoded {
     run: Run,
     written: usize,
     replaced: u64,
+    kinds: Kinds,
     failed: bool,
+}
+
+// The characters that a call replaced, by kind; `flags` are those of the run after it.
+fn kinds_of(
+    run: Run,
+    flags: u8,
+    numbers: Numbers,
+    classes: &[u8],
+    singles: &[u16],
+    pairs: &[u16],
+    index: &[u8],
+    blocks: &[u16],
+    units: &[u16],
+    last: bool,
+) -> Kinds {
+    if flags % 8 == 0 {
+        return kinds::none();
+    }
+    kinds::in_units(
+        run,
+        numbers,
+        classes,
+        singles,
+        pairs,
+        index,
+        blocks,
+        units,
+        last,
+    )
 }
 
 // Encodes at most 512 units into a buffer that has room for them.
@@ -66,6 +98,18 @@ fn encode(
             last,
             outcome.written,
         ),
+        kinds: kinds_of(
+            run,
+            after.flags,
+            numbers,
+            classes,
+            singles,
+            pairs,
+            index,
+            blocks,
+            units,
+            last,
+        ),
         failed: !taken,
     }
 }
@@ -103,7 +147,8 @@ fn put_piece(
         path,
     );
     let after = encoded.run;
-    let p = page.with_run(after, encoded.replaced).with_units();
+    let met = encoded.kinds;
+    let p = page.with_run(after, encoded.replaced, met).with_units();
     if encoded.failed {
         return p.broken();
     }
@@ -189,7 +234,8 @@ fn end_line(
         path,
     );
     let after = encoded.run;
-    let p = page.with_run(after, encoded.replaced);
+    let met = encoded.kinds;
+    let p = page.with_run(after, encoded.replaced, met);
     if encoded.failed {
         return p.broken();
     }
@@ -370,7 +416,8 @@ pub fn end_text(
         path,
     );
     let after = encoded.run;
-    let p = page.with_run(after, encoded.replaced);
+    let met = encoded.kinds;
+    let p = page.with_run(after, encoded.replaced, met);
     if encoded.failed {
         return p.broken();
     }

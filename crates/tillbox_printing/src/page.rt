@@ -1,11 +1,13 @@
 // How far a receipt is.
 use convert::Run;
+use tillbox_checks::kinds;
+use tillbox_checks::kinds::Kinds;
 use tillbox_layout::sum;
 use tillbox_storage::files;
 
 // The run; the bytes of the line at hand, whether it has units, whether it is over the buffer and so written as it comes, and its
-// number; what was written, the printed lines, the lines that were not broken, and the characters replaced so far; and whether
-// something failed, whose reason was said.
+// number; what was written, the printed lines, the lines that were not broken, and the characters replaced so far, all and by kind; and
+// whether something failed, whose reason was said.
 pub struct Page {
     pub run: Run,
     pub length: usize,
@@ -16,6 +18,7 @@ pub struct Page {
     pub printed: u64,
     pub unbroken: u64,
     pub replaced: u64,
+    pub kinds: Kinds,
     pub failed: bool,
 }
 
@@ -31,6 +34,7 @@ pub fn first(run: Run) -> Page {
         printed: 0,
         unbroken: 0,
         replaced: 0,
+        kinds: kinds::none(),
         failed: false,
     }
 }
@@ -44,7 +48,8 @@ impl Page {
     }
 
     // A call that gave another run, and replaced some characters.
-    pub fn with_run(self, run: Run, replaced: u64) -> Page {
+    pub fn with_run(self, run: Run, replaced: u64, kinds: Kinds) -> Page {
+        let met = self.kinds;
         Page {
             run,
             length: self.length,
@@ -55,6 +60,7 @@ impl Page {
             printed: self.printed,
             unbroken: self.unbroken,
             replaced: sum(self.replaced, replaced),
+            kinds: met.with(kinds),
             failed: self.failed,
         }
     }

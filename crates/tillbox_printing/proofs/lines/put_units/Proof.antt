@@ -19,10 +19,10 @@ feed-from-requires : tie.Need-feed-from-requires Inv-loop μ-loop
 feed-from-requires c κs = search needs
 
 add-next : tie.Need-add-next Inv-loop μ-loop
-add-next c = search needs
+add-next c = let units = c .before .before .before .before .before .before .before .before .before .before .before .good .1 .1 .1 .1 .1 .1 .1 .1 .0 in search needs
 
 mul-put-part : tie.Need-mul-put-part Inv-loop μ-loop
-mul-put-part c = search needs
+mul-put-part c = let units = c .before .before .before .before .before .before .before .before .before .before .before .good .1 .1 .1 .1 .1 .1 .1 .1 .0 in search needs
 
 sub-put-part : tie.Need-sub-put-part Inv-loop μ-loop
 sub-put-part c = search needs
