@@ -12,6 +12,7 @@ Where a line is saved, about every other call names no policy: the run goes on u
 Then, if strace can be used, a fresh and a resumed job that decode, and a resumed one that encodes, are killed at their system
 calls, one after the other: at each call that opens, syncs, cuts, renames or closes a file, and at those that read and write blocks
 around a checkpoint. A resumed job begins in the middle of a character: between the bytes of a pair, or between two surrogates.
+The jobs have a clock that shows another second at each look (slow_clock.py), so that there are many lines to be killed at.
 Prints 'N passed, M failed'; the exit status is 0 exactly if none failed.
 """
 
@@ -26,10 +27,15 @@ import tempfile
 import time
 
 import second_converter as converter
+import slow_clock
 
 ROOT = os.path.dirname(os.path.dirname(os.path.abspath(__file__)))
 TABLE = os.path.join(ROOT, "tables", "cp932.tbl")
 TEXT = "毎度ありがとうございます。緑茶　１２０円 ｵﾁｬ 表ソ能 total 1,234 yen\r\n①②Ⅲ㈱纊黑"
+
+
+# What a job is run with: its clock.
+SLOW = None
 
 
 class Wrong(Exception):
@@ -128,7 +134,7 @@ class Job:
     def start(self, last, longest):
         """Runs tillbox once and kills it at a random moment, or not at all if there is none. True: it came to its end."""
         words = self.words("input", "output", "checkpoint", last=last)
-        process = subprocess.Popen(words, stdout=subprocess.PIPE, stderr=subprocess.PIPE)
+        process = subprocess.Popen(words, stdout=subprocess.PIPE, stderr=subprocess.PIPE, env=SLOW)
         if longest is not None:
             time.sleep(longest * self.chance.random() ** 2)
             process.kill()
@@ -149,7 +155,7 @@ class Job:
         with open("input", "wb") as file:
             file.write(self.input)
         begin = time.time()
-        done = subprocess.run(self.words("input", "whole", *checkpoint, last=True), stdout=subprocess.PIPE, stderr=subprocess.PIPE)
+        done = subprocess.run(self.words("input", "whole", *checkpoint, last=True), stdout=subprocess.PIPE, stderr=subprocess.PIPE, env=SLOW)
         took = time.time() - begin
         if done.stdout != b"done\n":
             raise Wrong(f"the uncut run said {done.stdout!r}: {done.stderr.decode()}")
@@ -222,7 +228,7 @@ def call_job(chance, program, table, direction):
 def killed_at(job, call, number, last):
     """Kills the job at the number-th such call. False: there is none."""
     words = ["strace", "-o", "trace", "-e", f"trace={call}", "-e", f"inject={call}:signal=SIGKILL:when={number}"]
-    done = subprocess.run(words + job.words("input", "output", "checkpoint", last=last), stdout=subprocess.PIPE, stderr=subprocess.PIPE)
+    done = subprocess.run(words + job.words("input", "output", "checkpoint", last=last), stdout=subprocess.PIPE, stderr=subprocess.PIPE, env=SLOW)
     if done.returncode not in (0, -9):
         raise Wrong(f"strace ended with {done.returncode}: {done.stderr.decode()}")
     return done.returncode == -9
@@ -285,6 +291,7 @@ def every_call(chance, program, table):
 
 
 def main():
+    global SLOW
     parser = argparse.ArgumentParser(description=__doc__.splitlines()[0])
     parser.add_argument("--tillbox", default=os.path.join(ROOT, "target", "tillbox"))
     parser.add_argument("--rounds", type=int, default=30)
@@ -296,6 +303,8 @@ def main():
     print(f"seed {seed}")
     chance = random.Random(seed)
     table = converter.read_image_file(TABLE, [""])
+    clock = tempfile.TemporaryDirectory()
+    SLOW = slow_clock.environment(clock.name)
     passed = failed = 0
     totals = [0, 0]
     for number in range(arguments.rounds):

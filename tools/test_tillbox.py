@@ -23,6 +23,7 @@ import tempfile
 import time
 
 import second_converter
+import slow_clock
 from fixed_scripts import double_codes, edited
 
 ROOT = os.path.dirname(os.path.dirname(os.path.abspath(__file__)))
@@ -55,7 +56,11 @@ COUNTED = "tillbox: replaced or skipped: "
 STATUS = {"done": 0, "failed": 1, "stopped": 2}
 
 
-def tillbox(*words, word="done", says=None, limit=None, status=None):
+# What a program is run with whose clock shows another second at each look: a line is saved after every 128 blocks.
+SLOW = None
+
+
+def tillbox(*words, word="done", says=None, limit=None, status=None, env=None):
     """Runs tillbox; its last word, the exit status that belongs to it, and what it says if that is given, must be as expected. The
     line that counts codes by kind is looked at by its own tests."""
 
@@ -63,7 +68,7 @@ def tillbox(*words, word="done", says=None, limit=None, status=None):
         if limit is not None:
             resource.setrlimit(resource.RLIMIT_FSIZE, (limit, limit))
 
-    got = subprocess.run([PROGRAM, *words], capture_output=True, preexec_fn=prepare, restore_signals=False, timeout=60)
+    got = subprocess.run([PROGRAM, *words], capture_output=True, preexec_fn=prepare, restore_signals=False, timeout=60, env=env)
     equal(got.stdout.decode(), word + "\n" if word else "", f"last word of {words}")
     if word:
         equal(got.returncode, STATUS[word.split("\n")[-1]] if status is None else status, f"exit status of {words}")
@@ -169,6 +174,7 @@ def test_help_goes_to_standard_output():
         "555",
         "done (all is read)",
     ):
+        "The exit status is 0 done, 1 failed, 2 stopped, 64 wrong words.\n",
         if part not in text:
             raise AssertionError(f"help without {part!r}")
 
@@ -502,7 +508,7 @@ def at_work(process):
 
 def halted(*words):
     """A job that is halted after its first lines, its checkpoint's lock in its hands."""
-    job = subprocess.Popen([PROGRAM, *words], stdout=subprocess.DEVNULL, stderr=subprocess.DEVNULL)
+    job = subprocess.Popen([PROGRAM, *words], stdout=subprocess.DEVNULL, stderr=subprocess.DEVNULL, env=SLOW)
     while not os.path.exists("checkpoint") and job.poll() is None:
         time.sleep(0.001)
     job.send_signal(signal.SIGSTOP)
@@ -903,7 +909,7 @@ def test_codes_by_kind():
     write("journal", (b"\x80a" * 100 + b"|\x83\n") * 30)
     equal(counted("import", "sample.tbl", "journal", "records"), "3000 undefined single, 30 invalid", "codes of an import")
     write("units", units_text(*[0xD83D, 0xDE00, 0x41, 0xDE00, 0x1234] * 700))
-    for command in (("encode", "policy", "555"), ("preview",)):
+    for command in (("encode", "policy", "555"), ("preview",), ("preview", "width", "9"), ("preview", "width", "1000")):
         equal(counted(*command, "cp932.tbl", "units", "receipt"), "1400 undefined single, 700 invalid", f"codes of {command}")
 
 
@@ -920,6 +926,22 @@ def test_codes_by_kind_before_a_stop():
     equal(counted(*words), "2 undefined single", "codes of the first call")
     write("journal", b"\x80\x80\x81\x5a\x80")
     equal(counted(*words), "1 undefined single, 1 undefined pair", "codes of the second call")
+def test_codes_by_kind_of_printed_lines():
+    # halves and pairs at the ends of lines and of blocks of 512 units; the numbers are those of the whole ledger, cut into lines or not
+    for before in (0, 1, 509, 510, 511, 512, 1023):
+        for middle, single, invalid in (((0xD83D, 0xDE00), 1, 0), ((0xD83D,), 0, 1), ((0xDE00, 0xD83D), 0, 2), ((0x1234, 0xD83D, 0x1234), 2, 1), ((0x41,), 0, 0)):
+            for end in ((), (0x0A,), (0x0A, 0x0A), (0x42, 0x0A, *middle)):
+                times = 2 if len(end) > 2 else 1
+                write("units", units_text(*[0x61] * before, *middle, *end))
+                numbers = ((times * single, "undefined single"), (times * invalid, "invalid"))
+                wanted = ", ".join(f"{number} {name}" for number, name in numbers if number)
+                for width in ("1", "7", "65536"):
+                    equal(counted("preview", "width", width, "cp932.tbl", "units", "receipt"), wanted, f"codes of {middle} behind {before}, then {end}")
+    # a line that is too long to be broken
+    write("units", units_text(*[0x1234, 0xDE00] * 35000, 0x0A, 0x1234))
+    equal(counted("preview", "width", "9", "cp932.tbl", "units", "receipt"), "35001 undefined single, 35000 invalid", "codes of a long line")
+
+
     equal(counted(*words), "", "codes of a third call")
 
 
@@ -1239,10 +1261,10 @@ def test_half_a_unit():
 
 
 def test_a_line_after_every_128_blocks():
-    # the ledger may not grow over 300,000 bytes: the block that does so fails, and the line of block 256 stands
+    # while the journal comes slowly: the ledger may not grow over 300,000 bytes: the block that does so fails, and the line of block 256 stands
     write("journal", b"0123456789" * 20000)
     says = ["error: cannot write ledger: File too large"]
-    tillbox("decode", "last", "cp932.tbl", "journal", "ledger", "checkpoint", word="failed", says=says, limit=300000)
+    tillbox("decode", "last", "cp932.tbl", "journal", "ledger", "checkpoint", word="failed", says=says, limit=300000, env=SLOW)
     equal(read("checkpoint"), line("D 932 550 - 0 131072 131072 on"), "the line")
     # what is behind the line in the ledger is written over
     write("ledger", read("ledger")[: 2 * 131072] + b"no part of it" * 30000)
@@ -1263,6 +1285,22 @@ def test_a_left_over_new_file():
     tillbox("decode", "cp932.tbl", "journal", "ledger", "checkpoint")
     equal(read("checkpoint"), line("D 932 550 - 0 2 2 on"), "the line")
     equal(os.path.exists("checkpoint.new"), False, "the new file is there")
+def test_a_fast_journal_is_saved_once_a_second():
+    """Not after every 128 blocks: a save syncs the ledger and the new file of the checkpoint."""
+    if not can_trace():
+        return
+    write("journal", b"tea \x93\xfa\n" * 600000)
+    begin = time.time()
+    got = subprocess.run(["strace", "-o", "trace", "-e", "trace=fsync", PROGRAM, *JOB], capture_output=True, timeout=60)
+    took = time.time() - begin
+    equal(got.stdout, b"done\n", "the last word")
+    syncs = read("trace").count(b"fsync(")
+    # the folders, the last line, and one save for each second that the clock showed
+    if not 2 <= syncs <= 2 * (took + 1) + 4:
+        raise AssertionError(f"{syncs} syncs in {took:.1f} seconds")
+    equal(read("checkpoint"), line("D 932 550 - 0 4200000 3600000 over"), "the line")
+
+
 
 
 def every_cut(text, units):
@@ -1401,7 +1439,7 @@ def test_a_pair_cut_by_the_line_of_128_blocks():
     wanted = b"a" * 65535 + b"?" + b"b" * 2000
     write("ledger", units_text(*[0x61] * 65535, 0xD83D, 0xDE00, *[0x62] * 2000))
     says = ["error: cannot write receipt: File too large"]
-    tillbox("encode", "last", "cp932.tbl", "ledger", "receipt", "checkpoint", word="failed", says=says, limit=65800)
+    tillbox("encode", "last", "cp932.tbl", "ledger", "receipt", "checkpoint", word="failed", says=says, limit=65800, env=SLOW)
     equal(read("checkpoint"), line("E 932 550 D83D 0 65536 65535 on"), "the line")
     # what is behind the line in the receipt is written over
     write("receipt", read("receipt")[:65535] + b"no part of it" * 1000)
@@ -2284,7 +2322,7 @@ def test_spell_that_can_not_write():
 
 
 def main():
-    global PROGRAM
+    global PROGRAM, SLOW
     parser = argparse.ArgumentParser(description=__doc__.splitlines()[0])
     parser.add_argument("--tillbox", default=PROGRAM)
     PROGRAM = os.path.abspath(parser.parse_args().tillbox)
@@ -2311,3 +2349,5 @@ def main():
 
 if __name__ == "__main__":
     main()
+    clock = tempfile.TemporaryDirectory()
+    SLOW = slow_clock.environment(clock.name)

@@ -116,17 +116,20 @@ fn put_checkpoints(fd: i32) {
     );
     io::write_all(
         fd,
-        b"With it the run goes on from the line in that file, if there is one. The line is replaced after\n",
+        b"With it the run goes on from the line in that file, if there is one. The line is replaced after every 128\n",
     );
     io::write_all(
         fd,
-        b"every 128 blocks of 512 and at the end, when the output is safely written: a job that was cut or\n",
+        b"blocks of 512, but once a second where they come faster, and at the end, when the output is safely written:\n",
     );
     io::write_all(
         fd,
-        b"killed is called again. The word last says that the input is complete; without it a first half\n",
+        b"a job that was cut or killed is called again. The word last says that the input is complete; without it a\n",
     );
-    io::write_all(fd, b"of a character waits in the checkpoint.\n\n");
+    io::write_all(
+        fd,
+        b"first half of a character waits in the checkpoint.\n\n",
+    );
 }
 
 // Where messages go, and the last word.
@@ -140,3 +143,7 @@ fn put_ending(fd: i32) {
         b"done (all is read), stopped (by a digit 0: the place is said) or failed (the reason was said).\n",
     );
 }
+    io::write_all(
+        fd,
+        b"The exit status is 0 done, 1 failed, 2 stopped, 64 wrong words.\n",
+    );

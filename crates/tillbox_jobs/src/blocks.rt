@@ -1,6 +1,7 @@
 // The blocks of a job, one after the other. A block has at most 512 units of input, so 1,024 units or 2,048 bytes of room are
 // enough for what one of them gives, with a pending lead byte or high surrogate.
 ghost use Prim.Native.Nat.{_≤_};
+use crate::clock;
 use crate::job::Job;
 use crate::report;
 use crate::stops;
@@ -485,26 +486,50 @@ fn next_block(
     }
 }
 
-// Progress and checkpoints on the way, after `done` blocks. Answers false where a checkpoint could not be written.
+// What the clock showed when a run was saved last, or when its job began; and whether a line could not be saved: then the reason was
+// said.
+struct Saving {
+    clock: i64,
+    failed: bool,
+}
+
+// Nothing is saved now.
+fn unsaved(clock: i64) -> Saving {
+    Saving {
+        clock,
+        failed: false,
+    }
+}
+
+// Progress and checkpoints on the way, after `done` blocks. A line is saved after every 128 blocks, unless the clock still shows the
+// second of the last save: a journal that comes fast is not held up by syncs.
 fn on_the_way(
     job: Job,
     run: Run,
     done: u64,
+    clock: i64,
     target: i32,
     total: u64,
     output: &[u8],
     checkpoint: &[u8],
-) -> bool {
+) -> Saving {
     if done % 8192 == 0 {
         report::progress(run, total);
     }
     if done % 128 != 0 {
-        return true;
+        return unsaved(clock);
     }
     if !job.saves {
-        return true;
+        return unsaved(clock);
     }
-    checkpoints::save(run, target, output, checkpoint)
+    if clock::seconds() == clock {
+        return unsaved(clock);
+    }
+    let saved = checkpoints::save(run, target, output, checkpoint);
+    Saving {
+        clock: clock::seconds(),
+        failed: !saved,
+    }
 }
 
 // A turn with what all blocks up to it met and replaced.
@@ -541,6 +566,7 @@ pub fn all_blocks(
     let mut run = run;
     let mut met = kinds::none();
     let mut replaced = 0;
+    let mut clock = clock::seconds();
     let mut done = 0;
     while done < count {
         let turn = next_block(
@@ -568,9 +594,11 @@ pub fn all_blocks(
             return with_totals(turn, met, replaced);
         }
         done += 1;
-        if !on_the_way(job, run, done, target, total, output, checkpoint) {
+        let saving = on_the_way(job, run, done, clock, target, total, output, checkpoint);
+        if saving.failed {
             return broken(run);
         }
+        clock = saving.clock;
     }
     Turn {
         run,

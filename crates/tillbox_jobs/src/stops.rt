@@ -37,7 +37,7 @@ struct Lacking {
 }
 
 // A run that stops at the first code without a character.
-fn stopping(direction: Direction, page: u16) -> Started {
+pub fn stopping(direction: Direction, page: u16) -> Started {
     Run::start(
         direction,
         page,

@@ -4,16 +4,19 @@ use Rattle.tillbox_jobs.proofs.blocks.all_blocks.Statement.{statement}
 use Rattle.tillbox_jobs.proofs.blocks.all_blocks.Tie as tie
 
 abbrev Inv-loop : tie.InvT-loop
-Inv-loop job numbers classes singles pairs index blocks source target total input output checkpoint count run₀ met₀ replaced₀ done₀ run met replaced done = Unit {0}
+Inv-loop job numbers classes singles pairs index blocks source target total input output checkpoint count run₀ met₀ replaced₀ clock₀ done₀ run met replaced clock done = Unit {0}
 
 abbrev μ-loop : tie.MeasureT-loop
-μ-loop job numbers classes singles pairs index blocks source target total input output checkpoint count run₀ met₀ replaced₀ done₀ run met replaced done = count - done
+μ-loop job numbers classes singles pairs index blocks source target total input output checkpoint count run₀ met₀ replaced₀ clock₀ done₀ run met replaced clock done = count - done
 
 block-count-requires : tie.Need-block-count-requires Inv-loop μ-loop
 block-count-requires c κs = tt
 
 none-requires : tie.Need-none-requires Inv-loop μ-loop
 none-requires c κs = tt
+
+seconds-requires : tie.Need-seconds-requires Inv-loop μ-loop
+seconds-requires c κs = tt
 
 loop-holds : tie.Need-loop-holds Inv-loop μ-loop
 loop-holds c = tt
@@ -68,6 +71,7 @@ all-blocks-spec =
     μ-loop
     block-count-requires
     none-requires
+    seconds-requires
     loop-holds
     next-block-requires
     returns
