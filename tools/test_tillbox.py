@@ -166,6 +166,7 @@ def test_help_goes_to_standard_output():
         "tillbox decode [last] [policy DDD] TABLE JOURNAL LEDGER [CHECKPOINT]\n",
         "tillbox encode [last] [policy DDD] TABLE LEDGER RECEIPT [CHECKPOINT]\n",
         "tillbox import [policy DDD] TABLE JOURNAL RECORDS\n",
+        "  tillbox why [policy DDD] [context] TABLE JOURNAL\n",
         "  tillbox preview [width N] TABLE LEDGER RECEIPT\n",
         "  tillbox spell TABLE NAMES SPELLINGS\n",
         "tillbox shape TABLE\n",
@@ -173,8 +174,8 @@ def test_help_goes_to_standard_output():
         "550",
         "555",
         "done (all is read)",
-    ):
         "The exit status is 0 done, 1 failed, 2 stopped, 64 wrong words.\n",
+    ):
         if part not in text:
             raise AssertionError(f"help without {part!r}")
 
@@ -187,7 +188,7 @@ def test_man_page_has_the_calls_of_help():
         text = page.read()
     synopsis = text.split(".SH SYNOPSIS\n.nf\n")[1].split("\n.fi\n")[0].split("\n")
     equal(synopsis, calls, "the synopsis of the man page")
-    for command in ("decode", "encode", "import", "preview", "spell", "shape"):
+    for command in ("decode", "encode", "import", "why", "preview", "spell", "shape"):
         if f".B {command}\n" not in text:
             raise AssertionError(f"the man page does not tell of {command}")
 
@@ -198,7 +199,7 @@ def test_other_words_for_help_and_the_version():
         got = subprocess.run([PROGRAM, word], capture_output=True)
         equal((got.stdout, got.stderr), (help_text, b""), word)
     got = subprocess.run([PROGRAM, "--version"], capture_output=True)
-    equal(got.stdout, b"tillbox, by document 01 with the change requests 1, 2, 4, 5, 6, 8, 10 and 12\n", "the version")
+    equal(got.stdout, b"tillbox, by document 01 with the change requests 1, 2, 4, 5, 6, 7, 8, 10 and 12\n", "the version")
 
 
 def test_a_byte_order_mark_is_told():
@@ -256,6 +257,12 @@ def test_misuse_says_how_to_call():
         (["import", "a.tbl", "journal", "records", "checkpoint"], "three names of files are asked for"),
         (["import", "policy", "55", "a.tbl", "journal", "records"], "a policy is three digits"),
         (["import", "last", "a.tbl", "journal", "records"], "import has no word last: the journal is complete"),
+        (["why"], "two names of files are asked for"),
+        (["why", "a.tbl"], "two names of files are asked for"),
+        (["why", "a.tbl", "journal", "findings"], "two names of files are asked for"),
+        (["why", "last", "a.tbl", "journal"], "two names of files are asked for"),
+        (["why", "context", "policy", "55", "a.tbl", "journal"], "a policy is three digits"),
+        (["why", "policy", "5x5", "context", "a.tbl", "journal"], "a policy is three digits"),
         (["spell"], "three names of files are asked for"),
         (["spell", "a.tbl", "names"], "three names of files are asked for"),
         (["spell", "a.tbl", "names", "spellings", "checkpoint"], "three names of files are asked for"),
@@ -309,6 +316,9 @@ def test_exit_status():
         (["import", "policy", "550", "cp932.tbl", "broken", "records"], 2),
         (["import", "cp932.tbl", "broken", "records"], 0),
         (["import", "cp932.tbl", "long", "records"], 1),
+        (["why", "cp932.tbl", "broken"], 0),
+        (["why", "policy", "550", "cp932.tbl", "broken"], 2),
+        (["why", "policy", "557", "cp932.tbl", "broken"], 1),
     ):
         write("broken", b"tea \x82\n")
         write("long", b"x" * 300)
@@ -321,6 +331,7 @@ def test_a_small_stack():
     write("units", units)
     write("journal", "茶|tea|表ソ能\n".encode("cp932") * 3000)
     write("names", "茶|tea|表ソ能\n".encode("cp932") * 3000 + OTHER * 32768)
+    write("damaged", "茶|tea|\n".encode("cp932") * 8000 + b"\x82|" * 2000)
 
     def small(size):
         resource.setrlimit(resource.RLIMIT_STACK, (size * 1024, size * 1024))
@@ -333,6 +344,8 @@ def test_a_small_stack():
         ["preview", "cp932.tbl", "units", "receipt"],
         ["preview", "width", "9", "cp932.tbl", "units", "receipt"],
         ["spell", "cp932.tbl", "names", "spellings"],
+        ["why", "cp932.tbl", "damaged"],
+        ["why", "context", "cp932.tbl", "damaged"],
         *(["shape", os.path.join(TABLES, name)] for name in sorted(os.listdir(TABLES)) if name.endswith(".tbl")),
     ):
         size = 128
@@ -913,19 +926,6 @@ def test_codes_by_kind():
         equal(counted(*command, "cp932.tbl", "units", "receipt"), "1400 undefined single, 700 invalid", f"codes of {command}")
 
 
-def test_codes_by_kind_before_a_stop():
-    # what comes behind the code that stops a run is not counted, nor is that code
-    for front in FRONTS:
-        for code in (b"\x83", b"\x82\x80", b"\x82\n"):
-            write("journal", b"\x80" * front + code + b"\x80\x83" * 300)
-            wanted = f"{front} undefined single" if front else ""
-            equal(counted("decode", "sample.tbl", "journal", "ledger", word="stopped"), wanted, f"codes before {code!r} behind {front}")
-    # a call counts its own codes
-    write("journal", b"\x80\x80\x81")
-    words = ("decode", "policy", "555", "sample.tbl", "journal", "ledger", "checkpoint")
-    equal(counted(*words), "2 undefined single", "codes of the first call")
-    write("journal", b"\x80\x80\x81\x5a\x80")
-    equal(counted(*words), "1 undefined single, 1 undefined pair", "codes of the second call")
 def test_codes_by_kind_of_printed_lines():
     # halves and pairs at the ends of lines and of blocks of 512 units; the numbers are those of the whole ledger, cut into lines or not
     for before in (0, 1, 509, 510, 511, 512, 1023):
@@ -942,6 +942,19 @@ def test_codes_by_kind_of_printed_lines():
     equal(counted("preview", "width", "9", "cp932.tbl", "units", "receipt"), "35001 undefined single, 35000 invalid", "codes of a long line")
 
 
+def test_codes_by_kind_before_a_stop():
+    # what comes behind the code that stops a run is not counted, nor is that code
+    for front in FRONTS:
+        for code in (b"\x83", b"\x82\x80", b"\x82\n"):
+            write("journal", b"\x80" * front + code + b"\x80\x83" * 300)
+            wanted = f"{front} undefined single" if front else ""
+            equal(counted("decode", "sample.tbl", "journal", "ledger", word="stopped"), wanted, f"codes before {code!r} behind {front}")
+    # a call counts its own codes
+    write("journal", b"\x80\x80\x81")
+    words = ("decode", "policy", "555", "sample.tbl", "journal", "ledger", "checkpoint")
+    equal(counted(*words), "2 undefined single", "codes of the first call")
+    write("journal", b"\x80\x80\x81\x5a\x80")
+    equal(counted(*words), "1 undefined single, 1 undefined pair", "codes of the second call")
     equal(counted(*words), "", "codes of a third call")
 
 
@@ -1272,19 +1285,6 @@ def test_a_line_after_every_128_blocks():
     equal(read("ledger"), ("0123456789" * 20000).encode("utf-16le"), "the ledger")
 
 
-def test_progress_on_long_input():
-    write("journal", b"a" * (9 * 1024 * 1024))
-    progress = ["read 4194304 of 9437184 bytes", "read 8388608 of 9437184 bytes"]
-    tillbox("decode", "cp932.tbl", "journal", "ledger", says=progress + summary(9437184, 9437184))
-    equal(read("ledger"), b"a\0" * (9 * 1024 * 1024), "the ledger")
-
-
-def test_a_left_over_new_file():
-    write("journal", b"ab")
-    write("checkpoint.new", b"left by a job that was killed")
-    tillbox("decode", "cp932.tbl", "journal", "ledger", "checkpoint")
-    equal(read("checkpoint"), line("D 932 550 - 0 2 2 on"), "the line")
-    equal(os.path.exists("checkpoint.new"), False, "the new file is there")
 def test_a_fast_journal_is_saved_once_a_second():
     """Not after every 128 blocks: a save syncs the ledger and the new file of the checkpoint."""
     if not can_trace():
@@ -1301,6 +1301,19 @@ def test_a_fast_journal_is_saved_once_a_second():
     equal(read("checkpoint"), line("D 932 550 - 0 4200000 3600000 over"), "the line")
 
 
+def test_progress_on_long_input():
+    write("journal", b"a" * (9 * 1024 * 1024))
+    progress = ["read 4194304 of 9437184 bytes", "read 8388608 of 9437184 bytes"]
+    tillbox("decode", "cp932.tbl", "journal", "ledger", says=progress + summary(9437184, 9437184))
+    equal(read("ledger"), b"a\0" * (9 * 1024 * 1024), "the ledger")
+
+
+def test_a_left_over_new_file():
+    write("journal", b"ab")
+    write("checkpoint.new", b"left by a job that was killed")
+    tillbox("decode", "cp932.tbl", "journal", "ledger", "checkpoint")
+    equal(read("checkpoint"), line("D 932 550 - 0 2 2 on"), "the line")
+    equal(os.path.exists("checkpoint.new"), False, "the new file is there")
 
 
 def every_cut(text, units):
@@ -2321,12 +2334,174 @@ def test_spell_that_can_not_write():
     tillbox("spell", "cp932.tbl", "names", "/dev/null", says=spelled(4000, 4000, 1000, 0))
 
 
+# ---------------------------------------------------------------------------------------------------------------
+# Why
+# ---------------------------------------------------------------------------------------------------------------
+
+KIND_WORDS = {1: "undefined single", 2: "undefined pair", 4: "invalid code"}
+DIGIT_WORDS = {0: "stopped here", 1: "skipped", 2: "replaced by NUL", 3: "replaced by ?", 4: "replaced by _", 5: "replaced by the table's default"}
+DEFAULT = DIGIT_WORDS[5]
+
+
+def said_of(read_total, single=0, pair=0, invalid=0, is_stopped=False):
+    """The summary of a journal's findings."""
+    numbers = ((single, "undefined single"), (pair, "undefined pair"), (invalid, "invalid"))
+    flags = (single > 0) + 2 * (pair > 0) + 4 * (invalid > 0) + 8 * is_stopped
+    by_kind = ["by kind: " + ", ".join(f"{number} {name}" for number, name in numbers if number)]
+    found = f"read {read_total} bytes, found {single + pair + invalid} codes without a character"
+    return [found, f"flags: {flags_text(flags)} ({flags})", *(by_kind if flags % 8 else [])]
+
+
+def why(table, journal, lines, says, *words, word="done"):
+    """The lines that `why` writes on standard output before its last word, and what it says."""
+    write("journal", journal)
+    tillbox("why", *words, table, "journal", word="\n".join([*lines, word]), says=says)
+
+
+def test_why_names_each_finding():
+    # page 7: 80 is an undefined single, 81 5A an undefined pair, 83 invalid, 82 a lead byte
+    text = b"A\x80\x81\x40\x81\x5a\x83B\x82\n\x81\x82\x82"
+    codes = [(1, "undefined single 80"), (4, "undefined pair 81 5A"), (6, "invalid code 83"), (8, "invalid code 82"), (10, "invalid code 81 82"), (12, "invalid code 82")]
+    for words in ((), ("policy", "555")):
+        why("sample.tbl", text, [f"byte {place}: {code}, {DEFAULT}" for place, code in codes], said_of(13, 1, 1, 4), *words)
+    why("cp932.tbl", b"tea \x82\n", [f"byte 4: invalid code 82, {DEFAULT}"], said_of(6, invalid=1))
+    for text in (b"", b"A", b"\n", "毎度ありがとう\n".encode("cp932"), b"a" * 70000):
+        why("cp932.tbl", text, [], said_of(len(text)))
+
+
+def test_why_names_what_is_done():
+    text = b"\x80\x81\x5a\x83"
+    for digit in range(1, 6):
+        done = DIGIT_WORDS[digit]
+        lines = [f"byte 0: undefined single 80, {done}", f"byte 1: undefined pair 81 5A, {DEFAULT}", "byte 3: invalid code 83, skipped"]
+        why("sample.tbl", text, lines, said_of(4, 1, 1, 1), "policy", f"{digit}51")
+        lines = ["byte 0: undefined single 80, replaced by F180", f"byte 1: undefined pair 81 5A, {done}", f"byte 3: invalid code 83, {done}"]
+        why("sample.tbl", text, lines, said_of(4, 1, 1, 1), "policy", f"6{digit}{digit}")
+    # a digit 0 ends the reading, and its code is told
+    first, second, third = ("byte 0: undefined single 80, ", "byte 1: undefined pair 81 5A, ", "byte 3: invalid code 83, ")
+    why("sample.tbl", text + b"\x80", [first + "stopped here"], said_of(1, 1, is_stopped=True), "policy", "055", word="stopped")
+    why("sample.tbl", text + b"\x80", [first + "skipped", second + "stopped here"], said_of(3, 1, 1, is_stopped=True), "policy", "105", word="stopped")
+    lines = [first + DEFAULT, second + DEFAULT, third + "stopped here"]
+    why("sample.tbl", text + b"\x80", lines, said_of(4, 1, 1, 1, is_stopped=True), "policy", "550", word="stopped")
+    why("sample.tbl", b"AB", [], said_of(2), "policy", "000")
+    for policy in ("755", "565", "556", "955"):
+        says = ["error 17: the page is 0, or a policy digit is not allowed (policy)", f"  the digits are {policy}; each is 0 to 5, and the first may be 6"]
+        for text in (b"", b"A"):
+            write("journal", text)
+            refused("why", "policy", policy, "sample.tbl", "journal", says=says)
+
+
+def test_why_with_context():
+    def shown(table, text, *lines):
+        write("journal", text)
+        got = subprocess.run([PROGRAM, "why", "context", table, "journal"], capture_output=True)
+        equal(got.stdout.decode().split("\n")[1:-2:2], ["    " + line for line in lines], f"the lines around the findings of {text!r}")
+
+    shown("cp932.tbl", b"tea \x82\n", "tea [82]")
+    shown("cp932.tbl", b"\x82", "[82]")
+    shown("cp932.tbl", b"\n\x82\n\n", "[82]")
+    japanese = "緑茶　１２０円 ｵﾁｬ".encode("cp932")
+    shown("cp932.tbl", b"no|" + japanese + b"\x85\x40" + japanese + b"|300\nnext\n", "no|緑茶　１２０円 ｵﾁｬ[85 40]緑茶　１２０円 ｵﾁｬ|300")
+    # other findings of the line, and NUL, are shown by the replacement character; control characters by points
+    shown("cp932.tbl", b"a\x82\nb\x80c\xfdd\xa0e\0f\n\xa0", "a[82]", "b[80]c\ufffdd\ufffde\ufffdf", "b\ufffdc[FD]d\ufffde\ufffdf", "b\ufffdc\ufffdd[A0]e\ufffdf", "[A0]")
+    shown("cp932.tbl", b"\x1b[2J\t\xfd|\r\n\x7f", ".[2J.[FD]|.")
+    # at most 64 bytes before a finding and behind it: the line is cut where a code begins
+    shown("cp932.tbl", b"a" * 64 + b"\xfd" + b"b" * 64 + b"\n", "a" * 64 + "[FD]" + "b" * 64)
+    shown("cp932.tbl", b"a" * 65 + b"\xfd" + b"b" * 65, "..." + "a" * 64 + "[FD]" + "b" * 64 + "...")
+    shown("cp932.tbl", b"x" + b"\x93\xfa" * 40 + b"\xfd" + b"\x93\xfa" * 40, "..." + "日" * 32 + "[FD]" + "日" * 32 + "...")
+    shown("cp932.tbl", b"\x93\xfa" * 40 + b"x\xfdx" + b"\x93\xfa" * 40, "..." + "日" * 31 + "x[FD]x" + "日" * 32 + "...")
+    shown("cp1252.tbl", "caf\u00e9 \u20ac".encode("cp1252") + b"\x81", "caf\u00e9 \u20ac[81]")
+
+
+def findings_of(table, text, digits):
+    """By the rules, in the second converter's reading: the lines of the findings, their numbers by kind, what was read, and whether it
+    stopped."""
+    lines, numbers = [], {1: 0, 2: 0, 4: 0}
+    for place, code in second_converter.codes_from(table, text, 0):
+        if code.kind == 0:
+            continue
+        numbers[code.kind] += 1
+        digit = digits[(1, 2, 4).index(code.kind)]
+        shown = " ".join(f"{byte:02X}" for byte in text[place : place + code.size])
+        lines.append(f"byte {place}: {KIND_WORDS[code.kind]} {shown}, " + (DIGIT_WORDS[digit] if digit < 6 else f"replaced by F1{text[place]:02X}"))
+        if digit == 0:
+            return lines, numbers, place + code.size, True
+    return lines, numbers, len(text), False
+
+
+def compare_why(table, name, text, policy):
+    lines, numbers, read_total, is_stopped = findings_of(table, text, [int(digit) for digit in policy])
+    says = said_of(read_total, numbers[1], numbers[2], numbers[4], is_stopped)
+    why(name, text, lines, says, "policy", policy, word="stopped" if is_stopped else "done")
+    write("journal", text)
+    got = subprocess.run([PROGRAM, "why", "policy", policy, "context", name, "journal"], capture_output=True)
+    equal(got.stdout.decode().split("\n")[0:-2:2], lines, "the findings between the lines around them")
+
+
+def test_why_of_random_journals():
+    rng = random.Random(7)
+    for name in ("cp932.tbl", "cp1252.tbl", "sample.tbl"):
+        table = second_converter.read_image_file(name, ["."])
+        for size in (1, 2, 3, 511, 512, 513, 1025, 5000):
+            for damage in (0.01, 0.2, 1.0):
+                parts = ["日本茶 tea|300\n".encode("cp932"), b"a", b"\n", b"\x93\xfa"]
+                text = b"".join(bytes([rng.randrange(256)]) if rng.random() < damage else rng.choice(parts) for _ in range(size))[:size]
+                compare_why(table, name, text, rng.choice(("555", "555", "111", "645", "550", "505", "055")))
+
+
+def test_why_over_parts():
+    # a journal is read in parts of at most 65,536 bytes that begin at codes: findings and pairs at their ends, with and without lines
+    table = second_converter.read_image_file("sample.tbl", ["."])
+    for before in (65534, 65535, 65536, 131071):
+        for fill in (b"a" * before, (b"a" * 99 + b"\n") * 1400, b"\n" + b"a" * before, b"\x81\x40" * 66000, b"b" + b"\x81\x40" * 66000):
+            for code in (b"\x81\x5a", b"\x82\n", b"\x81\x40\x80"):
+                compare_why(table, "sample.tbl", fill[:before] + code + b"\x83\x80|\n\x82", "555")
+    compare_why(table, "sample.tbl", b"\x83" * 70000, "555")
+    compare_why(table, "sample.tbl", b"\x81" * 70001, "555")
+
+
+def test_why_of_a_long_file():
+    # places are those of the whole file; NUL is a character of every page
+    with open("journal", "wb") as file:
+        file.truncate(200000)
+        file.seek(200000)
+        file.write(b"\x83")
+    tillbox("why", "sample.tbl", "journal", word=f"byte 200000: invalid code 83, {DEFAULT}\ndone", says=said_of(200001, invalid=1))
+
+
+def test_why_refused():
+    write("journal", b"A\n")
+    missing = "No such file or directory"
+    refused("why", "none.tbl", "journal", says=[f"error: cannot open none.tbl: {missing}"])
+    refused("why", "cp932.tbl", "none", says=[f"error: cannot open none: {missing}"])
+    os.mkfifo("pipe")
+    for name in ("pipe", "/dev/zero", "."):
+        refused("why", "cp932.tbl", name, says=[f"error: {name}: {NO_PLAIN_FILE}"])
+        refused("why", name, "journal", says=[f"error: {name}: {NO_PLAIN_FILE}"])
+    refused("why", "journal", "journal", says=["error: journal: it is not a table image"])
+    image = bytearray(read("cp932.tbl"))
+    image[28 + 0xFF] = 3
+    write("class.tbl", image)
+    says = ["error 10: the shape of the tables is not good (class.tbl)", "  the first bad place: the class at FF is none of 0, 1, 2, 4, 5, 6"]
+    refused("why", "class.tbl", "journal", says=says)
+    for when in ("1", "2"):
+        write("journal", b"tea\n" * 30000)
+        injected("read", "journal", "why", "cp932.tbl", "journal", when=when, says="cannot read journal: Input/output error")
+    # what can't be written is told
+    write("journal", b"\xfd\n" * 1000)
+    with open("/dev/full", "wb") as full:
+        got = subprocess.run([PROGRAM, "why", "cp932.tbl", "journal"], stdout=full, stderr=subprocess.PIPE)
+    equal((got.returncode, got.stderr), (1, b"tillbox: error: cannot write standard output: No space left on device\n"), "findings that can't be written")
+
+
 def main():
     global PROGRAM, SLOW
     parser = argparse.ArgumentParser(description=__doc__.splitlines()[0])
     parser.add_argument("--tillbox", default=PROGRAM)
     PROGRAM = os.path.abspath(parser.parse_args().tillbox)
     os.environ["LC_ALL"] = "C"
+    clock = tempfile.TemporaryDirectory()
+    SLOW = slow_clock.environment(clock.name)
     passed = failed = 0
     for name, test in list(globals().items()):
         if not name.startswith("test_"):
@@ -2349,5 +2524,3 @@ def main():
 
 if __name__ == "__main__":
     main()
-    clock = tempfile.TemporaryDirectory()
-    SLOW = slow_clock.environment(clock.name)

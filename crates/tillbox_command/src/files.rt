@@ -107,6 +107,36 @@ fn with_output(
     )
 }
 
+// The work on a table and an input, where nothing is written but to standard output.
+fn without_output(
+    call: Call,
+    table: &[u8],
+    input: &[u8],
+    image: &mut [u8],
+    classes: &mut [u8],
+    singles: &mut [u16],
+    pairs: &mut [u16],
+    index: &mut [u8],
+    blocks: &mut [u16],
+) -> Ending {
+    if !work::are_good(call, table, input, b"", b"") {
+        return Ending::Failed;
+    }
+    work::run(
+        call,
+        table,
+        input,
+        b"",
+        b"",
+        image,
+        classes,
+        singles,
+        pairs,
+        index,
+        blocks,
+    )
+}
+
 // The second name, the input's, and the rest.
 fn with_input(
     call: Call,
@@ -122,6 +152,20 @@ fn with_input(
     let count = name_at(later(call.first, 1), &mut name);
     if count == 0 {
         return Ending::Failed;
+    }
+    let kind = call.kind;
+    if let Kind::Why = kind {
+        return without_output(
+            call,
+            table,
+            &name[..count],
+            image,
+            classes,
+            singles,
+            pairs,
+            index,
+            blocks,
+        );
     }
     with_output(
         call,

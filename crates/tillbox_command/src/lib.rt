@@ -1,6 +1,6 @@
 // Inner: the commands of tillbox, from the words of a call to its last word and its exit status. It converts whole files between a
-// till's code page bytes and UTF-16LE, with checkpoints, imports a journal's records, and previews a receipt.
-// What is said goes to standard error; standard output has one last word: done, stopped or failed.
+// till's code page bytes and UTF-16LE, with checkpoints, imports a journal's records, tells its findings, previews a receipt and spells names.
+// What is said goes to standard error; standard output has findings and shapes, and one last word: done, stopped or failed.
 mod descriptors;
 mod files;
 mod options;

@@ -1,4 +1,4 @@
-// The words before the names of the files: `last` and `policy DDD`.
+// The words before the names of the files: `last`, `policy DDD` and `context`.
 use convert::Policy;
 
 // What was chosen, and which argument is the first name. The policy is the standard one if none was asked for.
@@ -8,6 +8,8 @@ pub struct Options {
     // Whether a policy was asked for, and is one of three digits.
     pub asked: bool,
     pub valid: bool,
+    // Whether the lines around findings are asked for.
+    pub context: bool,
     pub next: usize,
 }
 
@@ -138,6 +140,24 @@ fn with_last(options: Options) -> Options {
         policy,
         asked: options.asked,
         valid: options.valid,
+        context: options.context,
+        next: later(next, 1),
+    }
+}
+
+// Takes the word `context`, if it is next.
+fn with_context(options: Options) -> Options {
+    let next = options.next;
+    if !is_word(next, b"context") {
+        return options;
+    }
+    let policy = options.policy;
+    Options {
+        last: options.last,
+        policy,
+        asked: options.asked,
+        valid: options.valid,
+        context: true,
         next: later(next, 1),
     }
 }
@@ -155,6 +175,7 @@ fn with_policy(options: Options) -> Options {
             policy,
             asked: true,
             valid: true,
+            context: options.context,
             next: later(next, 2),
         },
         Parsed::Nothing => {
@@ -164,23 +185,34 @@ fn with_policy(options: Options) -> Options {
                 policy,
                 asked: true,
                 valid: false,
+                context: options.context,
                 next,
             }
         }
     }
 }
 
-// The words from an argument on, in either order.
-pub fn chosen_from(next: usize) -> Options {
+// Nothing is chosen before an argument.
+fn nothing_from(next: usize) -> Options {
     let policy = Policy::standard();
-    let options = Options {
+    Options {
         last: false,
         policy,
         asked: false,
         valid: true,
+        context: false,
         next,
-    };
-    with_last(with_policy(with_last(options)))
+    }
+}
+
+// The words from an argument on, in either order.
+pub fn chosen_from(next: usize) -> Options {
+    with_last(with_policy(with_last(nothing_from(next))))
+}
+
+// The words behind the command `why`, in either order.
+pub fn chosen_for_why() -> Options {
+    with_context(with_policy(with_context(nothing_from(2))))
 }
 
 // The words behind the command.

@@ -2,11 +2,12 @@
 pub fn put(fd: i32) {
     io::write_all(
         fd,
-        b"tillbox converts a till's journal to UTF-16LE and back, imports its records, previews receipts and spells names.\n\n",
+        b"tillbox converts a till's journal to UTF-16LE and back, imports its records, tells why a flag is\nup, previews receipts and spells names.\n\n",
     );
     put_commands(fd);
     put_words(fd);
     put_import(fd);
+    put_why(fd);
     put_preview(fd);
     put_spelling(fd);
     put_checkpoints(fd);
@@ -17,7 +18,7 @@ pub fn put(fd: i32) {
 pub fn put_version(fd: i32) {
     io::write_all(
         fd,
-        b"tillbox, by document 01 with the change requests 1, 2, 4, 5, 6, 8, 10 and 12\n",
+        b"tillbox, by document 01 with the change requests 1, 2, 4, 5, 6, 7, 8, 10 and 12\n",
     );
 }
 
@@ -32,6 +33,7 @@ fn put_commands(fd: i32) {
         b"  tillbox encode [last] [policy DDD] TABLE LEDGER RECEIPT [CHECKPOINT]\n",
     );
     io::write_all(fd, b"  tillbox import [policy DDD] TABLE JOURNAL RECORDS\n");
+    io::write_all(fd, b"  tillbox why [policy DDD] [context] TABLE JOURNAL\n");
     io::write_all(fd, b"  tillbox preview [width N] TABLE LEDGER RECEIPT\n");
     io::write_all(fd, b"  tillbox spell TABLE NAMES SPELLINGS\n");
     io::write_all(fd, b"  tillbox shape TABLE\n");
@@ -54,7 +56,7 @@ fn put_words(fd: i32) {
     );
     io::write_all(
         fd,
-        b"it stops at an invalid code. 555 replaces it and gets through; import and preview use it.\n",
+        b"it stops at an invalid code. 555 replaces it and gets through; import, why and preview use it.\n",
     );
     io::write_all(
         fd,
@@ -77,6 +79,22 @@ fn put_import(fd: i32) {
         b"longer one, or a digit 0, ends the import, the records before it are whole in RECORDS. Its policy is 555\n",
     );
     io::write_all(fd, b"if none is named.\n\n");
+}
+
+// What is told of a journal, and where that ends.
+fn put_why(fd: i32) {
+    io::write_all(
+        fd,
+        b"why reads the whole JOURNAL and writes a line on standard output for each code without a character: its place, from 0,\n",
+    );
+    io::write_all(
+        fd,
+        b"its kind, its bytes in hex, and what the policy does with it. With context the line of JOURNAL around it follows, as\n",
+    );
+    io::write_all(
+        fd,
+        b"UTF-8, its bytes in brackets. Its policy is 555 if none is named; a digit 0 ends it.\n\n",
+    );
 }
 
 // What a preview makes.
@@ -142,8 +160,8 @@ fn put_ending(fd: i32) {
         fd,
         b"done (all is read), stopped (by a digit 0: the place is said) or failed (the reason was said).\n",
     );
-}
     io::write_all(
         fd,
         b"The exit status is 0 done, 1 failed, 2 stopped, 64 wrong words.\n",
     );
+}

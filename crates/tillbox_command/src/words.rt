@@ -13,14 +13,17 @@ pub enum Kind {
     Import,
     Shape,
     Spell,
+    Why,
     // The words are wrong; that was said.
     Misused,
 }
 
-// A command, its job, and which argument is the first name. A shape and a spelling have no job, and an import uses its policy alone.
+// A command, its job, whether lines around findings are asked for, and which argument is the first name. A shape and a spelling have no
+// job, and an import and the findings of a journal use its policy alone.
 pub struct Call {
     pub kind: Kind,
     pub job: Job,
+    pub context: bool,
     pub first: usize,
 }
 
@@ -40,7 +43,12 @@ fn whole(direction: Direction, policy: Policy) -> Job {
 // A command that needs no more of a job than its policy.
 fn plain(kind: Kind, policy: Policy, first: usize) -> Call {
     let job = whole(Direction::Decoding, policy);
-    Call { kind, job, first }
+    Call {
+        kind,
+        job,
+        context: false,
+        first,
+    }
 }
 
 // Says what is wrong with the words of the call, and where the right ones are.
@@ -79,7 +87,12 @@ fn convert_call(direction: Direction) -> Call {
         width: 0,
     };
     let kind = Kind::Convert;
-    Call { kind, job, first }
+    Call {
+        kind,
+        job,
+        context: false,
+        first,
+    }
 }
 
 // The receipt that the printer would get, its lines broken to a width unless that is 0 (CR 12). It gets through, under 555 by name, and
@@ -92,7 +105,12 @@ fn preview_from(first: usize, width: u64) -> Call {
     job.counts = true;
     job.width = width;
     let kind = Kind::Convert;
-    Call { kind, job, first }
+    Call {
+        kind,
+        job,
+        context: false,
+        first,
+    }
 }
 
 // A preview from an argument on, where no word but names may stand.
@@ -118,8 +136,8 @@ fn preview_call() -> Call {
     preview_names(2, 0)
 }
 
-// The policy of an import: the one that was asked for, or 555 by name, so that it gets through a damaged night (CR 4).
-fn import_policy(chosen: Options) -> Policy {
+// The policy of an import and of the findings: the one that was asked for, or 555 by name, so that a damaged night is got through (CR 4).
+fn through_policy(chosen: Options) -> Policy {
     if chosen.asked {
         let policy = chosen.policy;
         return policy;
@@ -140,7 +158,22 @@ fn import_call() -> Call {
     if options::names_from(first) != 3 {
         return misused(b"three names of files are asked for");
     }
-    plain(Kind::Import, import_policy(chosen), first)
+    plain(Kind::Import, through_policy(chosen), first)
+}
+
+// `why`: a policy and the lines around, if they are asked for, and two files.
+fn why_call() -> Call {
+    let chosen = options::chosen_for_why();
+    if !chosen.valid {
+        return misused(b"a policy is three digits");
+    }
+    let first = chosen.next;
+    if options::names_from(first) != 2 {
+        return misused(b"two names of files are asked for");
+    }
+    let mut call = plain(Kind::Why, through_policy(chosen), first);
+    call.context = chosen.context;
+    call
 }
 
 // `shape`: the shape report of one table image.
@@ -181,6 +214,9 @@ pub fn command() -> Call {
     }
     if options::is_word(1, b"spell") {
         return spell_call();
+    }
+    if options::is_word(1, b"why") {
+        return why_call();
     }
     misused(b"no such command")
 }

@@ -13,7 +13,7 @@ use tillbox_layout::front_bytes;
 use tillbox_layout::front_units;
 use tillbox_storage::names::is_plain;
 
-// The most bytes of a line that is broken or spelled. They stand where the image was.
+// The most bytes of a line that is broken or spelled, and of a part of a journal. They stand where the image was.
 const LINE: usize = 65536;
 
 // Whether the names of a call are of files that it can use; names that it has not are empty. It is asked before `run`, whose stack
@@ -23,6 +23,9 @@ pub fn are_good(call: Call, table: &[u8], input: &[u8], output: &[u8], checkpoin
     let job = call.job;
     if let Kind::Shape = kind {
         return is_plain(table);
+    }
+    if let Kind::Why = kind {
+        return is_plain(table) && is_plain(input);
     }
     names::are_apart(job, table, input, output, checkpoint)
 }
@@ -87,6 +90,37 @@ fn spell(
     )
 }
 
+// Tells why a flag is up: the memory of the image has room for a part of the journal.
+fn tell_why(
+    call: Call,
+    numbers: Numbers,
+    classes: &[u8],
+    singles: &[u16],
+    pairs: &[u16],
+    index: &[u8],
+    blocks: &[u16],
+    image: &mut [u8],
+    table: &[u8],
+    input: &[u8],
+) -> Ending {
+    let room = front_bytes(LINE, image);
+    let job = call.job;
+    let policy = job.policy;
+    tillbox_why::job::with_tables(
+        policy,
+        call.context,
+        numbers,
+        classes,
+        singles,
+        pairs,
+        index,
+        blocks,
+        &mut image[..room],
+        table,
+        input,
+    )
+}
+
 // From a table set on.
 fn with_tables(
     call: Call,
@@ -121,6 +155,18 @@ fn with_tables(
                 output,
             )
         }
+        Kind::Why => tell_why(
+            call,
+            numbers,
+            classes,
+            singles,
+            pairs,
+            index,
+            blocks,
+            image,
+            table,
+            input,
+        ),
         Kind::Spell => spell(
             numbers,
             classes,
