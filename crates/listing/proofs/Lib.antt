@@ -1,0 +1,5 @@
+pub mod SetLaws
+pub mod FormLaws
+pub mod TableLaws
+pub mod ChangeLaws
+pub mod ExampleRow

@@ -1,0 +1,129 @@
+-- Document 02, CR 3: the record of a line.
+use mathlib.Core.Bool.{Bool, true, false, not, _&&_, _||_}
+use mathlib.Core.List.{List, [], _∷_}
+use Prim.Native.Nat.{ℕ, zero, suc, _+_, _-_, _*_, _<_}
+use lib.Dec.{leb, ltb, eqb}
+use Rattle.codepage.specs.CodePage.{pick, entryAt}
+use Rattle.listing.specs.declared.Record.{Record}
+use Rattle.listing.specs.declared.Record.the-variants.{Page, Defaults, Single, Lead, Trail, Pair, Code, NoRecord}
+
+-- ---- digits
+unfoldable pub isDigit : ℕ → Bool
+isDigit byte = leb 0x30 byte && leb byte 0x39
+
+unfoldable pub isCapital : ℕ → Bool
+isCapital byte = leb 0x41 byte && leb byte 0x46
+
+-- the value of a hex digit; 0 for any other byte
+unfoldable pub digit : ℕ → ℕ
+digit byte = pick (isDigit byte) (byte - 0x30) (pick (isCapital byte) (byte - 0x41 + 10) 0)
+
+-- bytes have two digits, units and codes four
+unfoldable pub byteAt : (line : List ℕ) → (place : ℕ) → ℕ
+byteAt line place = 16 * digit (entryAt line place) + digit (entryAt line (place + 1))
+
+unfoldable pub unitAt : (line : List ℕ) → (place : ℕ) → ℕ
+unitAt line place = 256 * byteAt line place + byteAt line (place + 2)
+
+-- a decimal number of so many digits
+unfoldable pub decimalAt : (count : ℕ) → (line : List ℕ) → (place : ℕ) → ℕ
+decimalAt zero line place = 0
+decimalAt (suc count) line place = 10 * decimalAt count line place + digit (entryAt line (place + count))
+
+-- ---- forms
+-- A form is the bytes of a line, with a symbol for each digit.
+abbrev pub hexSymbol : ℕ
+hexSymbol = 0x23
+
+abbrev pub decimalSymbol : ℕ
+decimalSymbol = 0x30
+
+-- the first digit of a decimal number, which has no spare zeros
+abbrev pub firstSymbol : ℕ
+firstSymbol = 0x31
+
+abbrev pub tab : ℕ
+tab = 0x09
+
+abbrev pub lineFeed : ℕ
+lineFeed = 0x0A
+
+unfoldable pub fits : (symbol byte : ℕ) → Bool
+fits symbol byte =
+    pick (eqb symbol hexSymbol) (isDigit byte || isCapital byte)
+    (pick (eqb symbol decimalSymbol) (isDigit byte)
+    (pick (eqb symbol firstSymbol) (isDigit byte && not (eqb byte 0x30))
+    (eqb byte symbol)))
+
+unfoldable pub hasForm : (form line : List ℕ) → Bool
+hasForm [] [] = true
+hasForm [] (byte ∷ line) = false
+hasForm (symbol ∷ form) [] = false
+hasForm (symbol ∷ form) (byte ∷ line) = fits symbol byte && hasForm form line
+
+-- `D` default byte, default unit
+abbrev pub defaultsForm : List ℕ
+defaultsForm = 0x44 ∷ tab ∷ hexSymbol ∷ hexSymbol ∷ tab ∷ hexSymbol ∷ hexSymbol ∷ hexSymbol ∷ hexSymbol ∷ lineFeed ∷ []
+
+-- `S` byte, unit
+abbrev pub singleForm : List ℕ
+singleForm = 0x53 ∷ tab ∷ hexSymbol ∷ hexSymbol ∷ tab ∷ hexSymbol ∷ hexSymbol ∷ hexSymbol ∷ hexSymbol ∷ lineFeed ∷ []
+
+-- `S` byte, `-`: a single without a character
+abbrev pub bareForm : List ℕ
+bareForm = 0x53 ∷ tab ∷ hexSymbol ∷ hexSymbol ∷ tab ∷ 0x2D ∷ lineFeed ∷ []
+
+-- `L` lead
+abbrev pub leadForm : List ℕ
+leadForm = 0x4C ∷ tab ∷ hexSymbol ∷ hexSymbol ∷ lineFeed ∷ []
+
+-- `T` second byte
+abbrev pub trailForm : List ℕ
+trailForm = 0x54 ∷ tab ∷ hexSymbol ∷ hexSymbol ∷ lineFeed ∷ []
+
+-- `M` code, unit
+abbrev pub pairForm : List ℕ
+pairForm = 0x4D ∷ tab ∷ hexSymbol ∷ hexSymbol ∷ hexSymbol ∷ hexSymbol ∷ tab ∷ hexSymbol ∷ hexSymbol ∷ hexSymbol ∷ hexSymbol ∷ lineFeed ∷ []
+
+-- `W` unit, code
+abbrev pub codeForm : List ℕ
+codeForm = 0x57 ∷ tab ∷ hexSymbol ∷ hexSymbol ∷ hexSymbol ∷ hexSymbol ∷ tab ∷ hexSymbol ∷ hexSymbol ∷ hexSymbol ∷ hexSymbol ∷ lineFeed ∷ []
+
+-- so many more decimal digits, and the line feed
+abbrev pub digitsForm : ℕ → List ℕ
+digitsForm zero = lineFeed ∷ []
+digitsForm (suc count) = decimalSymbol ∷ digitsForm count
+
+-- `P` page: one to five digits
+abbrev pub pageForm : (more : ℕ) → List ℕ
+pageForm more = 0x50 ∷ tab ∷ firstSymbol ∷ digitsForm more
+
+-- ---- records
+-- a record whose right side is not FFFF
+abbrev pub unlessNone : (right : ℕ) → Record → Record
+unlessNone right r = pick (eqb right 0xFFFF) NoRecord r
+
+abbrev pub smallPage : ℕ → Record
+smallPage page = pick (leb page 65535) (Page page) NoRecord
+
+-- the page as in a saved line: decimal with no spare zeros, 1 to 65,535
+unfoldable pub pageOf : List ℕ → Record
+pageOf line =
+    pick (hasForm (pageForm 0) line) (smallPage (decimalAt 1 line 2))
+    (pick (hasForm (pageForm 1) line) (smallPage (decimalAt 2 line 2))
+    (pick (hasForm (pageForm 2) line) (smallPage (decimalAt 3 line 2))
+    (pick (hasForm (pageForm 3) line) (smallPage (decimalAt 4 line 2))
+    (pick (hasForm (pageForm 4) line) (smallPage (decimalAt 5 line 2))
+    NoRecord))))
+
+-- A single without a character has FFFF for its unit, as in the table.
+unfoldable pub recordOf : List ℕ → Record
+recordOf line =
+    pick (hasForm codeForm line) (unlessNone (unitAt line 7) (Code (unitAt line 2) (unitAt line 7)))
+    (pick (hasForm pairForm line) (unlessNone (unitAt line 7) (Pair (unitAt line 2) (unitAt line 7)))
+    (pick (hasForm singleForm line) (unlessNone (unitAt line 5) (Single (byteAt line 2) (unitAt line 5)))
+    (pick (hasForm bareForm line) (Single (byteAt line 2) 0xFFFF)
+    (pick (hasForm trailForm line) (Trail (byteAt line 2))
+    (pick (hasForm leadForm line) (Lead (byteAt line 2))
+    (pick (hasForm defaultsForm line) (Defaults (byteAt line 2) (unitAt line 5))
+    (pageOf line)))))))
