@@ -1,0 +1,14 @@
+pub mod BitLaws
+pub mod FilledLaws
+pub mod NumberLaws
+pub mod BoundLaws
+pub mod HoldLaws
+pub mod CodeLaws
+pub mod WholeLaws
+pub mod LineLaws
+pub mod RoundLaws
+pub mod SingleLaws
+pub mod BlockLaws
+pub mod PairLaws
+pub mod UnitLaws
+pub mod ReturnLaws

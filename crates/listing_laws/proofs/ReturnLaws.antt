@@ -1,0 +1,143 @@
+-- READ AFTER WRITE: the whole listing of a good table set, read into tables large enough, is accepted, and gives a table set of good
+-- shape with the same page, defaults, classes, characters and codes.
+use mathlib.Core.Bool.{Bool, true, false}
+use mathlib.Core.List.{List}
+use mathlib.Core.Path.{_≡_, refl, sym, ap, ap₂, _∙_}
+use Prim.Native.Nat.{ℕ, _+_, _-_, _*_, _/_, _%_, _≤_, _<_}
+use native.Mathlib.Omega.{arith}
+use lib.Dec.{leb, ltb}
+use lib.ListN.{length, take}
+use lib.Seq.{length-take-le, getD-take}
+use borrow.Author.Tests.{le-leb, lt-ltb}
+use Rattle.codepage.specs.CodePage.{CodePage, GoodShape, pick, entryAt, isSingle, isLead, isTrail, leadsBelow}
+use Rattle.codepage.specs.Reading.{byteAlone, bytePair, unitCode, lookup}
+use Rattle.codepage.specs.declared.Kind.the-variants.{UndefinedSingle, UndefinedPair}
+use Rattle.codepage_lookup.specs.Profile.{unitEntry}
+use Rattle.listing.specs.declared.Progress.{Progress}
+use Rattle.listing.specs.declared.Ended.the-variants.{Whole}
+use Rattle.listing.specs.Order.{nothingRead, rank, sizesOf, blockCount}
+use Rattle.listing.specs.Tables.{Tables, endOf}
+use Rattle.lister.proofs.PlaceLaws.{pairs-inside}
+use Rattle.listing_laws.specs.Cut.{cutSet}
+use Rattle.listing_laws.specs.Round.{wholeListing}
+use Rattle.listing_laws.specs.Claims.{InWidths, LargeEnough, SameMeaning, Returned}
+use Rattle.listing_laws.proofs.BitLaws.{tally, tally-same}
+use Rattle.listing_laws.proofs.WholeLaws.{Kept, leads-tally, good-shape}
+use Rattle.listing_laws.proofs.RoundLaws.{Keeps, Arrived, listing-accepted, same-classes}
+use Rattle.listing_laws.proofs.SingleLaws.{Singles, singles-keep, same-singles}
+use Rattle.listing_laws.proofs.PairLaws.{Pairs, pairPlace, pairs-keep}
+use Rattle.listing_laws.proofs.UnitLaws.{Codes, codeIn, codes-keep}
+
+-- two things that are kept are kept together
+both-keep : (p : CodePage) (Q R : ℕ → Tables → Type 0) → Keeps p Q → Keeps p R → Keeps p (λ k t. Q k t × R k t)
+both-keep p Q R x y =
+    record {
+      starts = λ s page t large. (x .starts s page t large, y .starts s page t large);
+      record-kept = λ k s t l h b sound large held q. (x .record-kept k s t l h b sound large (held .0) q, y .record-kept k s t l h b sound large (held .1) q);
+      none-kept = λ k t l h held q. (x .none-kept k t l h (held .0) q, y .none-kept k t l h (held .1) q);
+    }
+
+-- what is kept of all three
+abbrev AllKept : CodePage → ℕ → Tables → Type 0
+AllKept p k t = (Singles p k t × Pairs p k t) × Codes p k t
+
+module _ (p : CodePage) (good : GoodShape p) {t : Tables} (a : Arrived p (AllKept p) nothingRead (wholeListing p) t) where
+  kept : Kept (a .state) (a .lent)
+  kept = a .sound (omega (arith, a .before .late))
+
+  abbrev back : CodePage
+  back = cutSet (a .state .numbers) (sizesOf (a .state)) (a .lent)
+
+  back-good : GoodShape back
+  back-good = good-shape (a .state) (a .lent) kept
+
+  whole-end : endOf (a .state) ≡ Whole (a .state .numbers) (sizesOf (a .state))
+  unfolding endOf
+  whole-end = rw (le-leb 2 (rank (a .state .letter)) (a .before .late))
+
+  class-back : (byte : ℕ) → byte < 256 → entryAt (back .classes) byte ≡ entryAt (p .classes) byte
+  unfolding cutSet sizesOf
+  class-back byte h = getD-take 256 (a .lent .classes) byte 0 h ∙ same-classes p good a byte h
+
+  single-back : (byte : ℕ) → byte < 256 → isSingle (entryAt (p .classes) byte) ≡ true → entryAt (back .singles) byte ≡ entryAt (p .singles) byte
+  unfolding cutSet sizesOf
+  single-back byte h on = getD-take 256 (a .lent .singles) byte 0 h ∙ a .kept .0 .0 byte h (omega arith) on
+
+  below-back : (lead : ℕ) → lead < 256 → leadsBelow (back .classes) lead ≡ leadsBelow (p .classes) lead
+  unfolding leadsBelow
+  below-back lead h =
+      leads-tally (back .classes) lead (omega (arith, back-good .classes))
+      ∙ tally-same (λ i. isLead (entryAt (back .classes) i)) (λ i. isLead (entryAt (p .classes) i)) lead (λ i k. ap isLead (class-back i (omega arith)))
+      ∙ sym (leads-tally (p .classes) lead (omega (arith, good .classes)))
+
+  -- an entry of a table that is cut behind it
+  pair-entry : (i : ℕ) → i < length (back .pairs) → entryAt (back .pairs) i ≡ entryAt (a .lent .pairs) i
+  unfolding cutSet sizesOf
+  pair-entry i h = getD-take (sizesOf (a .state) .pairs) (a .lent .pairs) i 0 (omega (arith, length-take-le (sizesOf (a .state) .pairs) (a .lent .pairs) (kept .fits .pairs-fit)))
+
+  block-entry : (i : ℕ) → i < length (back .blocks) → entryAt (back .blocks) i ≡ entryAt (a .lent .blocks) i
+  unfolding cutSet sizesOf
+  block-entry i h = getD-take (sizesOf (a .state) .blocks) (a .lent .blocks) i 0 (omega (arith, length-take-le (sizesOf (a .state) .blocks) (a .lent .blocks) (kept .fits .blocks-fit)))
+
+  index-entry : (i : ℕ) → i < 256 → entryAt (back .index) i ≡ entryAt (a .lent .index) i
+  unfolding cutSet sizesOf
+  index-entry i h = getD-take 256 (a .lent .index) i 0 h
+
+  pair-back : (lead byte : ℕ) → lead < 256 → byte < 256 → isLead (entryAt (p .classes) lead) ≡ true → bytePair (back .classes) (back .pairs) lead byte ≡ bytePair (p .classes) (p .pairs) lead byte
+  unfolding bytePair
+  pair-back lead byte h k on = by-class (isTrail (entryAt (p .classes) byte)) refl
+    where
+      inside : pairPlace p lead byte < length (back .pairs)
+      inside = omega (arith, pairs-inside back back-good lead h (ap isLead (class-back lead h) ∙ on), below-back lead h)
+
+      by-class : (x : Bool) → isTrail (entryAt (p .classes) byte) ≡ x → bytePair (back .classes) (back .pairs) lead byte ≡ bytePair (p .classes) (p .pairs) lead byte
+      by-class true q =
+          let value : entryAt (back .pairs) (pairPlace p lead byte) ≡ entryAt (p .pairs) (pairPlace p lead byte) =
+          pair-entry (pairPlace p lead byte) inside
+          ∙ a .kept .0 .1 lead byte h k on q (omega arith)
+          ∙ ap (λ (x : Bool). pick x (entryAt (p .pairs) (pairPlace p lead byte)) 0xFFFF) (lt-ltb (770 + (256 * lead + byte)) 131842 (omega arith)) in
+          rw (class-back byte k, q, below-back lead h) (ap (lookup UndefinedPair) value)
+      by-class false q = rw (class-back byte k, q)
+
+  code-back : (unit : ℕ) → unit < 65536 → unitCode (back .index) (back .blocks) unit ≡ unitCode (p .index) (p .blocks) unit
+  unfolding unitCode
+  code-back unit h = ap (lookup UndefinedSingle) (ap (λ (x : ℕ). entryAt (back .blocks) (256 * x + unit % 256)) same ∙ block-entry (256 * entryAt (a .lent .index) (unit / 256) + unit % 256) inside ∙ value)
+    where
+      same : entryAt (back .index) (unit / 256) ≡ entryAt (a .lent .index) (unit / 256)
+      same = index-entry (unit / 256) (omega arith)
+
+      inside : 256 * entryAt (a .lent .index) (unit / 256) + unit % 256 < length (back .blocks)
+      inside = omega (arith, same, back-good .number (unit / 256) (omega arith))
+
+      value : unitEntry (a .lent .index) (a .lent .blocks) unit ≡ codeIn p unit
+      value = a .kept .1 unit h ∙ ap (λ (x : Bool). pick x (codeIn p unit) 0xFFFF) (lt-ltb (66306 + unit) 131842 (omega arith))
+
+  arrived : Returned p t
+  unfolding cutSet
+  arrived =
+      record {
+        progress = a .state;
+        lent = a .lent;
+        numbers = a .state .numbers;
+        sizes = sizesOf (a .state);
+        accepted = a .accepted;
+        end = whole-end;
+        shape = back-good;
+        same =
+            record {
+              page = a .before .page;
+              byte = a .before .byte;
+              unit = a .before .unit;
+              classes = class-back;
+              singles = same-singles p (back .classes) (back .singles) class-back single-back;
+              pairs = pair-back;
+              codes = code-back;
+            };
+      }
+
+pub listing-returns : (p : CodePage) → GoodShape p → InWidths p → (t : Tables) → LargeEnough t → Returned p t
+listing-returns p good m t large =
+    arrived p good
+    (listing-accepted p good m (AllKept p)
+    (both-keep p (λ k u. Singles p k u × Pairs p k u) (Codes p) (both-keep p (Singles p) (Pairs p) (singles-keep p) (pairs-keep p good m)) (codes-keep p good m))
+    nothingRead t refl large)
