@@ -12,3 +12,5 @@ pub mod BlockLaws
 pub mod PairLaws
 pub mod UnitLaws
 pub mod ReturnLaws
+pub mod RunLaws
+pub mod AnswerLaws

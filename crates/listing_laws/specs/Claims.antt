@@ -1,5 +1,5 @@
 -- Document 02, CR 3: what is promised of whole listings.
-use mathlib.Core.Bool.{true}
+use mathlib.Core.Bool.{true, false}
 use mathlib.Core.List.{List}
 use mathlib.Core.Path.{_≡_}
 use Prim.Native.Nat.{ℕ, _≤_, _<_}
@@ -9,11 +9,19 @@ use Rattle.codepage.specs.Reading.{byteAlone, bytePair, unitCode}
 use Rattle.codepage.specs.declared.Numbers.{Numbers}
 use Rattle.listing.specs.declared.Progress.{Progress}
 use Rattle.listing.specs.declared.Sizes.{Sizes}
+use Rattle.listing.specs.declared.Refusal.{Refusal}
+use Rattle.listing.specs.declared.Refusal.the-variants.{BadLine, TooSmall}
 use Rattle.listing.specs.declared.Read.the-variants.{Accepted}
 use Rattle.listing.specs.declared.Ended.the-variants.{Whole}
-use Rattle.listing.specs.Order.{nothingRead}
-use Rattle.listing.specs.Tables.{Tables, reading, endOf}
+use Rattle.listing.specs.Form.{recordOf}
+use Rattle.listing.specs.Order.{nothingRead, accepts, after, sizesOf}
+use Rattle.listing.specs.Tables.{Tables, fit, reading, endOf}
 use Rattle.listing.specs.Whole.{readAll}
+use Rattle.lister.specs.declared.Cursor.{Cursor}
+use Rattle.lister.specs.declared.Refusal.{Refusal as WriterRefusal}
+use Rattle.lister.specs.declared.Refusal.the-variants.{BadShape, NoRoom}
+use Rattle.lister.specs.Lines.{recordLine}
+use Rattle.lister.specs.Lister.{places, recordAt, nextPlace}
 use Rattle.listing_laws.specs.Cut.{cutSet}
 use Rattle.listing_laws.specs.Round.{wholeListing}
 
@@ -56,3 +64,23 @@ pub record Returned (p : CodePage) (t : Tables) : Type 0 where
   pub end : endOf progress ≡ Whole numbers sizes
   pub shape : GoodShape (cutSet numbers sizes lent)
   pub same : SameMeaning p (cutSet numbers sizes lent)
+
+-- ---- The cases of the answers of the reader: 22, then 23.
+-- 22: the line is no record, or not one that may come next. 23: it is one, and a lent table is too small for it or the place reached.
+abbrev pub ReadSays : Progress → (line : List ℕ) → Tables → Refusal → Type 0
+ReadSays s line t BadLine = accepts s (recordOf line) ≡ false
+ReadSays s line t TooSmall = (accepts s (recordOf line) ≡ true) × (fit (sizesOf (after s (recordOf line))) t ≡ false)
+
+-- a line that is accepted
+abbrev pub ReadPasses : Progress → (line : List ℕ) → Tables → Type 0
+ReadPasses s line t = (accepts s (recordOf line) ≡ true) × (fit (sizesOf (after s (recordOf line))) t ≡ true)
+
+-- ---- The cases of the answers of the writer: 10, then done, then 19.
+-- a record is left, from a cursor on
+abbrev pub IsLeft : CodePage → Cursor → Type 0
+IsLeft p cursor = nextPlace p (cursor .place) < places
+
+-- 10: the shape is bad. 19: it is good, a record is left, and its line does not fit the room.
+abbrev pub WriteSays : CodePage → Cursor → (room : ℕ) → WriterRefusal → Type 0
+WriteSays p cursor room BadShape = GoodShape p → ⊥
+WriteSays p cursor room NoRoom = GoodShape p × IsLeft p cursor × (room < length (recordLine (recordAt p (nextPlace p (cursor .place)))))

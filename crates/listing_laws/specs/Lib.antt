@@ -1,3 +1,4 @@
 pub mod Cut
 pub mod Round
+pub mod Run
 pub mod Claims
