@@ -19,7 +19,7 @@ use Rattle.listing_laws.proofs.BitLaws.{tally, tally-same, tally-none, 
 use Rattle.listing_laws.proofs.WholeLaws.{leads-tally}
 use Rattle.listing_laws.proofs.RoundLaws.{Before}
 
-below-tally : (h : Half) → h .low < 2 ^ 64 → (place : ℕ) → belowInHalf h place ≡ tally (inHalf h) place
+pub below-tally : (h : Half) → h .low < 2 ^ 64 → (place : ℕ) → belowInHalf h place ≡ tally (inHalf h) place
 unfolding belowInHalf inHalf bitsBelow
 below-tally h small place = by-word (ltb place 64) refl
   where
@@ -37,7 +37,7 @@ below-tally h small place = by-word (ltb place 64) refl
         let whole : 64 + (place - 64) ≡ place = omega (arith, ltb-false place 64 q) in
         rw q (omega (arith, first, word-tally (h .high) (place - 64), rest, tally-split (inHalf h) 64 (place - 64), ap (tally (inHalf h)) whole))
 
-listed-tally : (h : Half) (lead : ℕ) → 0x80 ≤ lead → tally (inHalf h) (lead - 0x80) ≡ tally (isListedLead h) lead
+pub listed-tally : (h : Half) (lead : ℕ) → 0x80 ≤ lead → tally (inHalf h) (lead - 0x80) ≡ tally (isListedLead h) lead
 unfolding isListedLead
 listed-tally h lead high =
     let none : tally (isListedLead h) 128 ≡ 0 = tally-none (isListedLead h) 128 (λ i m. rw (lt-leb 0x80 i m)) in

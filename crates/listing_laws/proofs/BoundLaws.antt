@@ -28,7 +28,7 @@ either : (t : Bool) (a b : Record) → (t ≡ true → Bounded a) → Bounded b 
 either true a b x y = x refl
 either false a b x y = y
 
-digit-small : (byte : ℕ) → digit byte < 16
+pub digit-small : (byte : ℕ) → digit byte < 16
 unfolding digit isDigit isCapital
 digit-small byte = by-case (leb 0x30 byte) refl (leb byte 0x39) refl (leb 0x41 byte) refl (leb byte 0x46) refl
   where
@@ -50,7 +50,7 @@ unfolding unitAt
 unit-small line place = omega (arith, byte-small line place, byte-small line (place + 2))
 
 -- ---- the page
-first-digit : (byte : ℕ) → fits 0x31 byte ≡ true → 1 ≤ digit byte
+pub first-digit : (byte : ℕ) → fits 0x31 byte ≡ true → 1 ≤ digit byte
 unfolding fits digit isDigit
 first-digit byte e =
     let known : (leb 0x30 byte && leb byte 0x39) ≡ true = and-left (leb 0x30 byte && leb byte 0x39) (not (eqb byte 0x30)) e in

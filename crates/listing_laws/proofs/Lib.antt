@@ -14,3 +14,7 @@ pub mod UnitLaws
 pub mod ReturnLaws
 pub mod RunLaws
 pub mod AnswerLaws
+pub mod BackLaws
+pub mod PutLaws
+pub mod RecordLaws
+pub mod AgainLaws

@@ -23,7 +23,7 @@ tally-upto f m n h none =
     let whole : m + (n - m) ≡ n = omega arith in
     omega (arith, tally-split f m (n - m), ap (tally f) whole, tally-none (λ i. f (m + i)) (n - m) (λ i k. none (m + i) (omega arith) (omega arith)))
 
-tally-next : (f : ℕ → Bool) (n : ℕ) → f n ≡ true → tally f (suc n) ≡ suc (tally f n)
+pub tally-next : (f : ℕ → Bool) (n : ℕ) → f n ≡ true → tally f (suc n) ≡ suc (tally f n)
 unfolding tally
 tally-next f n e = rw e
 

@@ -148,7 +148,7 @@ pub record Before (p : CodePage) (k : ℕ) (s : Progress) : Type 0 where
   pub byte : s .numbers .«default_byte» ≡ p .defaultByte
   pub unit : s .numbers .«default_unit» ≡ p .defaultUnit
 
-bytes-with : (s : Bytes) (byte : ℕ) → inBytes (addToBytes s byte) byte ≡ true
+pub bytes-with : (s : Bytes) (byte : ℕ) → inBytes (addToBytes s byte) byte ≡ true
 unfolding inBytes addToBytes
 bytes-with s byte = by-half (ltb byte 0x80) refl
   where
@@ -163,7 +163,7 @@ lead-with leads byte h = rw (le-ltb byte 0x80 h, le-leb 0x80 byte h) (half-with 
 both : {a b : Bool} → a ≡ true → b ≡ true → (a && b) ≡ true
 both {a} {b} x y = rw (x, y)
 
-lead-not-single : (class : ℕ) → isLead class ≡ true → isSingle class ≡ false
+pub lead-not-single : (class : ℕ) → isLead class ≡ true → isSingle class ≡ false
 unfolding isLead isSingle
 lead-not-single class e = by-two (eqb class 2) refl
   where

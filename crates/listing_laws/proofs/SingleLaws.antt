@@ -25,7 +25,7 @@ use Rattle.listing_laws.proofs.RoundLaws.{Before, Keeps, Arrived, listi
 abbrev pub Singles : CodePage → ℕ → Tables → Type 0
 Singles p k t = (c : ℕ) → c < 256 → 2 + c < k → isSingle (entryAt (p .classes) c) ≡ true → entryAt (t .singles) c ≡ entryAt (p .singles) c
 
-at-single : (p : CodePage) (c : ℕ) → c < 256 → recordAt p (2 + c) ≡ singleAt (p .classes) (p .singles) c
+pub at-single : (p : CodePage) (c : ℕ) → c < 256 → recordAt p (2 + c) ≡ singleAt (p .classes) (p .singles) c
 unfolding recordAt
 at-single p c h =
     let e : 2 + c - 2 ≡ c = omega arith in

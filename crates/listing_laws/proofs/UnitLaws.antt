@@ -40,7 +40,7 @@ code-block-small s unit h = by-half (isNewHigh s unit)
     by-half false = h
 
 module _ (p : CodePage) where
-  at-code : (c : ℕ) → recordAt p (66306 + c) ≡ codeAt (p .index) (p .blocks) c
+  pub at-code : (c : ℕ) → recordAt p (66306 + c) ≡ codeAt (p .index) (p .blocks) c
   unfolding recordAt
   at-code c =
       let e : 66306 + c - 66306 ≡ c = omega arith in

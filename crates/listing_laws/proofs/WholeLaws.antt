@@ -39,7 +39,7 @@ use Rattle.listing_laws.proofs.HoldLaws.{Holds, hold-page, hold-default
 use Rattle.listing_laws.proofs.CodeLaws.{NumberedBy, number-record}
 
 -- ---- leads by the classes and by the bits
-class-lead : (s : Progress) (byte : ℕ) → isLead (classOf s byte) ≡ isListedLead (s .leads) byte
+pub class-lead : (s : Progress) (byte : ℕ) → isLead (classOf s byte) ≡ isListedLead (s .leads) byte
 unfolding isLead
 class-lead s byte = by-case (inBytes (s .trails) byte) (isListedLead (s .leads) byte) (inBytes (s .singles) byte)
   where
@@ -129,7 +129,7 @@ same-sizes s (Code unit code) t =
 same-sizes s NoRecord t = record { classes = refl; singles = refl; pairs = refl; index = refl; blocks = refl }
 
 -- ---- a line, and all lines
-accepted-same : {s u : Progress} → Accepted s ≡ Accepted u → s ≡ u
+pub accepted-same : {s u : Progress} → Accepted s ≡ Accepted u → s ≡ u
 accepted-same e = cc
 
 module _ (s : Progress) (t : Tables) (sound : Sound s t) where
@@ -174,10 +174,10 @@ module _ (s : Progress) (t : Tables) (sound : Sound s t) where
   unfolding readOf
   step line u e = step-record (recordOf line) (bounded line) u e
 
-reading-same : {a b : Read} {t u : Tables} → reading a t ≡ reading b u → (a ≡ b) × (t ≡ u)
+pub reading-same : {a b : Read} {t u : Tables} → reading a t ≡ reading b u → (a ≡ b) × (t ≡ u)
 reading-same e = (ap (λ (r : Reading). r .answer) e, ap (λ (r : Reading). r .lent) e)
 
-refused-not : {why : Refusal} {u : Progress} → Refused why ≡ Accepted u → ⊥
+pub refused-not : {why : Refusal} {u : Progress} → Refused why ≡ Accepted u → ⊥
 refused-not {why} {u} e = let z : _≡_ {A = ℕ} 0 1 = cc in omega arith
 
 pub every-line : (lines : List (List ℕ)) (s : Progress) (t : Tables) → Sound s t → (s′ : Progress) (t′ : Tables) → readAll s lines t ≡ reading (Accepted s′) t′ → Sound s′ t′
@@ -235,26 +235,27 @@ module _ (s : Progress) (t : Tables) (kept : Kept s t) where
         number = λ high h. omega (arith, blocks-long, getD-take 256 (t .index) high 0 h, kept .holds .index high h);
       }
 
--- THE SHAPE: a whole listing that is accepted from its first line to its end gives, each table cut to the size needed, a good
--- shape.
-pub listing-shape : (lines : List (List ℕ)) (s : Progress) (t : Tables) (s′ : Progress) (t′ : Tables) (numbers : Numbers) (sizes : Sizes)
-    → s .letter ≡ Start → readAll s lines t ≡ reading (Accepted s′) t′ → endOf s′ ≡ ended.Whole numbers sizes → GoodShape (cutSet numbers sizes t′)
+-- an end that is whole: `D` was read, and these are the numbers and sizes
+pub end-whole : (s : Progress) (numbers : Numbers) (sizes : Sizes) → endOf s ≡ ended.Whole numbers sizes → (2 ≤ rank (s .letter)) × ((s .numbers ≡ numbers) × (sizesOf s ≡ sizes))
 unfolding endOf
-listing-shape lines s t s′ t′ numbers sizes start e f = by-letter (leb 2 (rank (s′ .letter))) refl
+end-whole s numbers sizes f = by-letter (leb 2 (rank (s .letter))) refl
   where
-    sound : Sound s′ t′
-    sound = every-line lines s t (λ h. absurd (omega (arith, ap rank start))) s′ t′ e
-
-    whole-same : ended.Whole (s′ .numbers) (sizesOf s′) ≡ ended.Whole numbers sizes → (s′ .numbers ≡ numbers) × (sizesOf s′ ≡ sizes)
+    whole-same : ended.Whole (s .numbers) (sizesOf s) ≡ ended.Whole numbers sizes → (s .numbers ≡ numbers) × (sizesOf s ≡ sizes)
     whole-same k = (cc, cc)
 
     unfinished : ended.Refused BadLine ≡ ended.Whole numbers sizes → ⊥
     unfinished k = let z : _≡_ {A = ℕ} 0 1 = cc in omega arith
 
-    by-letter : (b : Bool) → leb 2 (rank (s′ .letter)) ≡ b → GoodShape (cutSet numbers sizes t′)
-    by-letter true q =
-        let same = whole-same (sym (rw q) ∙ f) in
-        subst (λ (n : Numbers). GoodShape (cutSet n sizes t′)) (same .0)
-        (subst (λ (z : Sizes). GoodShape (cutSet (s′ .numbers) z t′)) (same .1)
-        (good-shape s′ t′ (sound (omega (arith, leb-true 2 (rank (s′ .letter)) q)))))
+    by-letter : (b : Bool) → leb 2 (rank (s .letter)) ≡ b → (2 ≤ rank (s .letter)) × ((s .numbers ≡ numbers) × (sizesOf s ≡ sizes))
+    by-letter true q = (leb-true 2 (rank (s .letter)) q, whole-same (sym (rw q) ∙ f))
     by-letter false q = absurd (unfinished (sym (rw q) ∙ f))
+
+-- THE SHAPE: a whole listing that is accepted from its first line to its end gives, each table cut to the size needed, a good
+-- shape.
+pub listing-shape : (lines : List (List ℕ)) (s : Progress) (t : Tables) (s′ : Progress) (t′ : Tables) (numbers : Numbers) (sizes : Sizes)
+    → s .letter ≡ Start → readAll s lines t ≡ reading (Accepted s′) t′ → endOf s′ ≡ ended.Whole numbers sizes → GoodShape (cutSet numbers sizes t′)
+listing-shape lines s t s′ t′ numbers sizes start e f =
+    let (late, same) = end-whole s′ numbers sizes f in
+    subst (λ (n : Numbers). GoodShape (cutSet n sizes t′)) (same .0)
+    (subst (λ (z : Sizes). GoodShape (cutSet (s′ .numbers) z t′)) (same .1)
+    (good-shape s′ t′ (every-line lines s t (λ h. absurd (omega (arith, ap rank start))) s′ t′ e (omega arith))))
