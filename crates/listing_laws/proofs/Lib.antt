@@ -18,3 +18,4 @@ pub mod BackLaws
 pub mod PutLaws
 pub mod RecordLaws
 pub mod AgainLaws
+pub mod EdgeRow

@@ -1,4 +1,5 @@
 pub mod Cut
 pub mod Round
 pub mod Run
+pub mod Edge
 pub mod Claims
