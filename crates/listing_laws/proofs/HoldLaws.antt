@@ -50,15 +50,15 @@ module _ (classes : List ℕ) (long : 256 ≤ length classes) (s n : Progress) (
           getD-set-other classes byte b (classOf n byte) 0 ne ∙ held b h ∙ sym (same b ne)
 
 -- ---- the blocks of `W`
-count-early : (s : Progress) → (rank (s .letter) ≡ 7 → ⊥) → blockCount s ≡ s .block + 1
+pub count-early : (s : Progress) → (rank (s .letter) ≡ 7 → ⊥) → blockCount s ≡ s .block + 1
 unfolding blockCount
 count-early s ne = rw (ne-eqb (rank (s .letter)) 7 ne)
 
-count-late : (s : Progress) → rank (s .letter) ≡ 7 → (s .block ≡ 0 → ⊥) → blockCount s ≡ s .block + 1
+pub count-late : (s : Progress) → rank (s .letter) ≡ 7 → (s .block ≡ 0 → ⊥) → blockCount s ≡ s .block + 1
 unfolding blockCount
 count-late s e ne = rw (eq-eqb (rank (s .letter)) 7 e, ne-eqb (s .block) 0 ne)
 
-count-full : (s : Progress) → rank (s .letter) ≡ 7 → s .block ≡ 0 → blockCount s ≡ 256
+pub count-full : (s : Progress) → rank (s .letter) ≡ 7 → s .block ≡ 0 → blockCount s ≡ 256
 unfolding blockCount
 count-full s e z = rw (eq-eqb (rank (s .letter)) 7 e, eq-eqb (s .block) 0 z)
 

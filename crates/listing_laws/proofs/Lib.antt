@@ -11,9 +11,10 @@ pub mod SingleLaws
 pub mod BlockLaws
 pub mod PairLaws
 pub mod UnitLaws
+pub mod AnswerLaws
+pub mod RoomLaws
 pub mod ReturnLaws
 pub mod RunLaws
-pub mod AnswerLaws
 pub mod BackLaws
 pub mod PutLaws
 pub mod RecordLaws

@@ -14,14 +14,15 @@ use Rattle.listing.specs.declared.Record.{Record}
 use Rattle.listing.specs.declared.Record.the-variants.{Page, Defaults, Single, Lead, Trail, Pair, Code, NoRecord}
 use Rattle.listing.specs.Tables.{Tables, filled, changeOf}
 use Rattle.listing.specs.Form.{unlessNone}
-use Rattle.listing.specs.Order.{accepts, after, isListedLead}
+use Rattle.listing.specs.Order.{accepts, after, isListedLead, sizesOf}
+use Rattle.listing.proofs.TableLaws.{listed-below}
 use Rattle.listing.specs.Sets.{countHalf}
 use Rattle.listing.specs.Tables.{leadBlock}
 use Rattle.lister.specs.Lister.{singleAt, leadAt, trailAt, recordAt, isRecord, pairAt, codeAt}
-use Rattle.listing_laws.specs.Claims.{InWidths, LargeEnough}
+use Rattle.listing_laws.specs.Claims.{InWidths}
 use Rattle.listing_laws.proofs.BitLaws.{tally, tally-none, tally-split, tally-le}
 use Rattle.listing_laws.proofs.WholeLaws.{Sound, hold-record, leads-tally}
-use Rattle.listing_laws.proofs.RoundLaws.{Before, Keeps, Arrived, fine, ltb-more}
+use Rattle.listing_laws.proofs.RoundLaws.{Before, FitsAll, Keeps, Arrived, fine, ltb-more}
 use Rattle.listing_laws.proofs.BlockLaws.{same-block}
 use Rattle.listing_laws.proofs.HoldLaws.{Holds}
 use Rattle.listing_laws.proofs.BoundLaws.{Bounded, bounded}
@@ -116,17 +117,20 @@ module _ (p : CodePage) (good : GoodShape p) where
       by-size true q = absurd (true≢false (sym on ∙ good .low b (ltb-true b 0x80 q)))
       by-size false q = ltb-false b 0x80 q
 
-  -- a lead has at most 127 leads below it
-  few-below : (b : ℕ) → b < 256 → isLead (entryAt (p .classes) b) ≡ true → leadsBelow (p .classes) b ≤ 127
-  unfolding leadsBelow
-  few-below b h on =
-      let f : ℕ → Bool = λ i. isLead (entryAt (p .classes) i) in
-      let none : tally f 128 ≡ 0 = tally-none f 128 (λ i l. good .low i l) in
-      let high : 0x80 ≤ b = high-lead b on in
-      let whole : 128 + (b - 128) ≡ b = omega arith in
-      omega (arith, leads-tally (p .classes) b (omega (arith, good .classes)), none, tally-split f 128 (b - 128), ap (tally f) whole, tally-le (λ i. f (128 + i)) (b - 128))
+  -- the pairs of a listed lead lie inside a table that fits
+  block-fits : (n : Progress) (t : Tables) (lead : ℕ) → isListedLead (n .leads) lead ≡ true → leadBlock n lead ≡ leadsBelow (p .classes) lead → 256 * countHalf (n .leads) ≤ length (t .pairs) → 256 * leadsBelow (p .classes) lead + 256 ≤ length (t .pairs)
+  unfolding leadBlock
+  block-fits n t lead listed block room = omega (arith, room, listed-below (n .leads) lead listed, block)
 
-  lead-kept : (k : ℕ) (n : Progress) (t : Tables) (b : ℕ) → b < 256 → k ≡ 258 + b → isLead (entryAt (p .classes) b) ≡ true → 32768 ≤ length (t .pairs) → leadBlock n b ≡ leadsBelow (p .classes) b → Pairs p k t
+  whole-front : (n : Progress) (t : Tables) → FitsAll (sizesOf n) t → (256 ≤ length (t .classes)) × (256 ≤ length (t .index))
+  unfolding sizesOf
+  whole-front n t f = (f .classes-fit, f .index-fit)
+
+  pairs-fit : (n : Progress) (t : Tables) → FitsAll (sizesOf n) t → 256 * countHalf (n .leads) ≤ length (t .pairs)
+  unfolding sizesOf
+  pairs-fit n t f = f .pairs-fit
+
+  lead-kept : (k : ℕ) (n : Progress) (t : Tables) (b : ℕ) → b < 256 → k ≡ 258 + b → isLead (entryAt (p .classes) b) ≡ true → 256 * leadsBelow (p .classes) b + 256 ≤ length (t .pairs) → leadBlock n b ≡ leadsBelow (p .classes) b → Pairs p k t
       → (u : Tables) → u .pairs ≡ filled (t .pairs) (256 * leadBlock n b) 256 0xFFFF → Pairs p (k + 1) u
   lead-kept k n t b small at on long block held u change l c h m lead trail less =
       ap (λ (x : List ℕ). entryAt x (pairPlace p l c)) (change ∙ ap (λ (x : ℕ). filled (t .pairs) (256 * x) 256 0xFFFF) block)
@@ -137,14 +141,14 @@ module _ (p : CodePage) (good : GoodShape p) where
       by-lead true q =
           let same : l ≡ b = eqb-true l b q in
           ap (λ (x : ℕ). entryAt (filled (t .pairs) (256 * leadsBelow (p .classes) b) 256 0xFFFF) (pairPlace p x c)) same
-          ∙ filled-in (t .pairs) (256 * leadsBelow (p .classes) b) 256 0xFFFF c m (omega (arith, few-below b small on))
+          ∙ filled-in (t .pairs) (256 * leadsBelow (p .classes) b) 256 0xFFFF c m long
       by-lead false q =
           let lower : l < b = omega (arith, eqb-false l b q) in
           filled-out (t .pairs) (256 * leadsBelow (p .classes) b) 256 0xFFFF (pairPlace p l c) (omega (arith, leads-rise p good l b lower (omega arith) lead))
           ∙ held l c h m lead trail (omega arith)
           ∙ ap (λ (x : Bool). pick x (entryAt (p .pairs) (pairPlace p l c)) 0xFFFF) (le-ltb (770 + (256 * l + c)) k (omega arith))
 
-  pair-kept : (k : ℕ) (t u : Tables) (a d : ℕ) → a < 256 → d < 256 → k ≡ 770 + (256 * a + d) → isLead (entryAt (p .classes) a) ≡ true → 32768 ≤ length (t .pairs) → Pairs p k t
+  pair-kept : (k : ℕ) (t u : Tables) (a d : ℕ) → a < 256 → d < 256 → k ≡ 770 + (256 * a + d) → isLead (entryAt (p .classes) a) ≡ true → 256 * leadsBelow (p .classes) a + 256 ≤ length (t .pairs) → Pairs p k t
       → u .pairs ≡ set (t .pairs) (pairPlace p a d) (entryAt (p .pairs) (pairPlace p a d)) → Pairs p (k + 1) u
   pair-kept k t u a d x y at on long held change l c h m lead trail less =
       ap (λ (z : List ℕ). entryAt z (pairPlace p l c)) change ∙ by-code (eqb l a) refl (eqb c d) refl
@@ -165,14 +169,14 @@ module _ (p : CodePage) (good : GoodShape p) where
           let equal : c ≡ d = eqb-true c d r in
           let place : pairPlace p l c ≡ pairPlace p a d = ap₂ (pairPlace p) same equal in
           ap (λ (z : ℕ). getD (set (t .pairs) (pairPlace p a d) (entryAt (p .pairs) (pairPlace p a d))) z 0) place
-          ∙ getD-set-same (t .pairs) (pairPlace p a d) (entryAt (p .pairs) (pairPlace p a d)) 0 (omega (arith, few-below a x on))
+          ∙ getD-set-same (t .pairs) (pairPlace p a d) (entryAt (p .pairs) (pairPlace p a d)) 0 (omega arith)
           ∙ ap (entryAt (p .pairs)) (sym place)
           ∙ sym (ap (λ (z : Bool). pick z (entryAt (p .pairs) (pairPlace p l c)) 0xFFFF) (lt-ltb (770 + (256 * l + c)) (k + 1) (omega arith)))
       by-code true q false r = let same : l ≡ a = eqb-true l a q in apart (λ e. eqb-false c d r (omega (arith, ap (leadsBelow (p .classes)) same))) (λ e. eqb-false c d r (omega arith))
       by-code false q w r = apart (by-order (ltb l a) refl (eqb-false l a q)) (λ e. eqb-false l a q (omega arith))
 
   -- ---- every record
-  module _ (m : InWidths p) (k : ℕ) (s : Progress) (t : Tables) (late : 2 ≤ k) (most : k < 131842) (b : Before p k s) (sound : Sound s t) (large : LargeEnough t) (held : Pairs p k t) (q : isRecord (recordAt p k) ≡ true) where
+  module _ (m : InWidths p) (k : ℕ) (s : Progress) (t : Tables) (late : 2 ≤ k) (most : k < 131842) (b : Before p k s) (sound : Sound s t) (fits : FitsAll (sizesOf (after s (recordAt p k))) t) (held : Pairs p k t) (q : isRecord (recordAt p k) ≡ true) where
     accepted : accepts s (recordAt p k) ≡ true
     accepted = fine p good m k s b late most .0 q .1 .0
 
@@ -184,9 +188,10 @@ module _ (p : CodePage) (good : GoodShape p) where
     at-l d h e true on =
         let here : recordAt p k ≡ Lead d = ap (recordAt p) e ∙ lead-here d h on in
         let before : Before p (k + 1) (after s (Lead d)) = subst (λ (r : Record). Before p (k + 1) (after s r)) here next in
-        let low : Holds (after s (Lead d)) (changeOf s (Lead d) t) = hold-record s t sound (Lead d) h (ap (accepts s) (sym here) ∙ accepted) (large .classes) (large .index) in
+        let low : Holds (after s (Lead d)) (changeOf s (Lead d) t) = hold-record s t sound (Lead d) h (ap (accepts s) (sym here) ∙ accepted) (whole-front (after s (recordAt p k)) t fits .0) (whole-front (after s (recordAt p k)) t fits .1) in
         let block : leadBlock (after s (Lead d)) d ≡ leadsBelow (p .classes) d = same-block p good (k + 1) (after s (Lead d)) before (low .low-word) d (high-lead d on) h (omega arith) in
-        lead-kept k (after s (Lead d)) t d h e on (large .pairs) block held (changeOf s (recordAt p k) t) (ap (λ (r : Record). changeOf s r t .pairs) here)
+        let listed : isListedLead (after s (Lead d) .leads) d ≡ true = before .leads d h ∙ ap₂ (λ (x y : Bool). x && y) (lt-ltb (258 + d) (k + 1) (omega arith)) on in
+        lead-kept k (after s (Lead d)) t d h e on (block-fits (after s (Lead d)) t d listed block (pairs-fit (after s (Lead d)) t (subst (λ (r : Record). FitsAll (sizesOf (after s r)) t) here fits))) block held (changeOf s (recordAt p k) t) (ap (λ (r : Record). changeOf s r t .pairs) here)
     at-l d h e false on =
         let none : recordAt p k ≡ NoRecord = ap (recordAt p) e ∙ at-lead d h ∙ rw on in
         absurd (false≢true (sym (ap isRecord none) ∙ q))
@@ -200,7 +205,8 @@ module _ (p : CodePage) (good : GoodShape p) where
         let x : (256 * a + d) / 256 ≡ a = omega arith in
         let y : (256 * a + d) % 256 ≡ d = omega arith in
         let place : 256 * leadBlock s ((256 * a + d) / 256) + (256 * a + d) % 256 ≡ pairPlace p a d = ap₂ (λ (i j : ℕ). 256 * leadBlock s i + j) x y ∙ ap (λ (n : ℕ). 256 * n + d) block in
-        pair-kept k t (changeOf s (recordAt p k) t) a d h l e on (large .pairs) held
+        let listed : isListedLead (s .leads) a ≡ true = b .leads a h ∙ ap₂ (λ (x y : Bool). x && y) (lt-ltb (258 + a) k (omega arith)) on in
+        pair-kept k t (changeOf s (recordAt p k) t) a d h l e on (block-fits s t a listed block (pairs-fit (after s (Pair (256 * a + d) (entryAt (p .pairs) (pairPlace p a d)))) t (subst (λ (r : Record). FitsAll (sizesOf (after s r)) t) here fits))) held
         (ap (λ (r : Record). changeOf s r t .pairs) here ∙ ap (λ (n : ℕ). set (t .pairs) n (entryAt (p .pairs) (pairPlace p a d))) place)
     at-m a d h l e true on true trail true some =
         let none : recordAt p k ≡ NoRecord = ap (recordAt p) e ∙ pair-here a d h l on trail ∙ rw some in
@@ -252,7 +258,7 @@ module _ (p : CodePage) (good : GoodShape p) where
 pub pairs-keep : (p : CodePage) → GoodShape p → InWidths p → Keeps p (Pairs p)
 pairs-keep p good m =
     record {
-      starts = λ s page t large l c h k lead trail less. absurd (omega arith);
-      record-kept = λ k s t l h b sound large held q. pairs-record p good m k s t l h b sound large held q;
+      starts = λ s page t fits l c h k lead trail less. absurd (omega arith);
+      record-kept = λ k s t l h b sound fits held q. pairs-record p good m k s t l h b sound fits held q;
       none-kept = λ k t l h held q. pairs-none p good k t held q;
     }

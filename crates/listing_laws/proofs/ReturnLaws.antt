@@ -1,12 +1,12 @@
--- READ AFTER WRITE: the whole listing of a good table set, read into tables large enough, is accepted, and gives a table set of good
--- shape with the same page, defaults, classes, characters and codes.
+-- READ AFTER WRITE: the whole listing of a good table set, read into tables that have the sizes needed, is accepted, and gives a table set of
+-- good shape with the same page, defaults, classes, characters and codes.
 use mathlib.Core.Bool.{Bool, true, false}
 use mathlib.Core.List.{List}
-use mathlib.Core.Path.{_≡_, refl, sym, ap, ap₂, _∙_}
+use mathlib.Core.Path.{_≡_, refl, sym, ap, ap₂, _∙_, subst}
 use Prim.Native.Nat.{ℕ, _+_, _-_, _*_, _/_, _%_, _≤_, _<_}
 use native.Mathlib.Omega.{arith}
 use lib.Dec.{leb, ltb}
-use lib.ListN.{length, take}
+use lib.ListN.{length, take, replicate, length-replicate}
 use lib.Seq.{length-take-le, getD-take}
 use borrow.Author.Tests.{le-leb, lt-ltb}
 use Rattle.codepage.specs.CodePage.{CodePage, GoodShape, pick, entryAt, isSingle, isLead, isTrail, leadsBelow}
@@ -16,14 +16,17 @@ use Rattle.codepage_lookup.specs.Profile.{unitEntry}
 use Rattle.listing.specs.declared.Progress.{Progress}
 use Rattle.listing.specs.declared.Ended.the-variants.{Whole}
 use Rattle.listing.specs.Order.{nothingRead, rank, sizesOf, blockCount}
-use Rattle.listing.specs.Tables.{Tables, endOf}
+use Rattle.listing.specs.declared.Read.the-variants.{Accepted}
+use Rattle.listing.specs.Tables.{Tables, tables, fit, reading, endOf}
+use Rattle.listing.specs.Whole.{readAll}
 use Rattle.lister.proofs.PlaceLaws.{pairs-inside}
 use Rattle.listing_laws.specs.Cut.{cutSet}
-use Rattle.listing_laws.specs.Round.{wholeListing}
+use Rattle.listing_laws.specs.Round.{linesFrom, wholeListing, progressAfter, neededSizes}
 use Rattle.listing_laws.specs.Claims.{InWidths, LargeEnough, SameMeaning, Returned}
 use Rattle.listing_laws.proofs.BitLaws.{tally, tally-same}
 use Rattle.listing_laws.proofs.WholeLaws.{Kept, leads-tally, good-shape}
-use Rattle.listing_laws.proofs.RoundLaws.{Keeps, Arrived, listing-accepted, same-classes}
+use Rattle.listing_laws.proofs.RoundLaws.{Keeps, Arrived, large-fits, by-size, by-acceptance, listing-accepted, same-classes}
+use Rattle.listing_laws.proofs.RoomLaws.{accepted-too, progress-as}
 use Rattle.listing_laws.proofs.SingleLaws.{Singles, singles-keep, same-singles}
 use Rattle.listing_laws.proofs.PairLaws.{Pairs, pairPlace, pairs-keep}
 use Rattle.listing_laws.proofs.UnitLaws.{Codes, codeIn, codes-keep}
@@ -32,8 +35,8 @@ use Rattle.listing_laws.proofs.UnitLaws.{Codes, codeIn, codes-keep}
 both-keep : (p : CodePage) (Q R : ℕ → Tables → Type 0) → Keeps p Q → Keeps p R → Keeps p (λ k t. Q k t × R k t)
 both-keep p Q R x y =
     record {
-      starts = λ s page t large. (x .starts s page t large, y .starts s page t large);
-      record-kept = λ k s t l h b sound large held q. (x .record-kept k s t l h b sound large (held .0) q, y .record-kept k s t l h b sound large (held .1) q);
+      starts = λ s page t fits. (x .starts s page t fits, y .starts s page t fits);
+      record-kept = λ k s t l h b sound fits held q. (x .record-kept k s t l h b sound fits (held .0) q, y .record-kept k s t l h b sound fits (held .1) q);
       none-kept = λ k t l h held q. (x .none-kept k t l h (held .0) q, y .none-kept k t l h (held .1) q);
     }
 
@@ -135,9 +138,49 @@ module _ (p : CodePage) (good : GoodShape p) {t : Tables} (a : Arrived p (AllKep
             };
       }
 
-pub listing-returns : (p : CodePage) → GoodShape p → InWidths p → (t : Tables) → LargeEnough t → Returned p t
-listing-returns p good m t large =
-    arrived p good
-    (listing-accepted p good m (AllKept p)
-    (both-keep p (λ k u. Singles p k u × Pairs p k u) (Codes p) (both-keep p (Singles p) (Pairs p) (singles-keep p) (pairs-keep p good m)) (codes-keep p good m))
-    nothingRead t refl large)
+-- ---- any tables with the sizes that the listing needs
+-- nothing asked of the tables
+nothing-keeps : (p : CodePage) → Keeps p (λ k t. Unit {0})
+nothing-keeps p = record { starts = λ s page t fits. tt; record-kept = λ k s t l h b sound fits held q. tt; none-kept = λ k t l h held q. tt }
+
+same-size : (n : ℕ) → n ≡ 65536 → LargeEnough (tables (replicate n 0) (replicate n 0) (replicate n 0) (replicate n 0) (replicate n 0))
+same-size n e =
+    let long : length {A = ℕ} (replicate n 0) ≡ n = length-replicate {A = ℕ} n 0 in
+    record { classes = omega (arith, long); singles = omega (arith, long); pairs = omega (arith, long); index = omega (arith, long); blocks = omega (arith, long) }
+
+most : (n : ℕ) × (n ≡ 65536)
+most = (65536, refl)
+
+all-lines : (p : CodePage) (t : Tables) (s′ : Progress) (t′ : Tables) → readAll nothingRead (wholeListing p) t ≡ reading (Accepted s′) t′ → (n : ℕ) → n ≡ 131842 → readAll nothingRead (linesFrom p n 0) t ≡ reading (Accepted s′) t′
+unfolding wholeListing
+all-lines p t s′ t′ e n same = ap (λ (c : ℕ). readAll nothingRead (linesFrom p c 0) t) same ∙ e
+
+module _ (p : CodePage) (good : GoodShape p) (m : InWidths p) where
+  -- read into tables large enough for every listing
+  in-large : (t : Tables) → LargeEnough t → Arrived p (λ k u. Unit {0}) nothingRead (wholeListing p) t
+  in-large t large = listing-accepted p good m (λ k u. Unit {0}) (nothing-keeps p) (λ count k n u. LargeEnough u) (by-size p) nothingRead t refl (λ n e. large)
+
+  once : Arrived p (λ k u. Unit {0}) nothingRead (wholeListing p) (tables (replicate (most .0) 0) (replicate (most .0) 0) (replicate (most .0) 0) (replicate (most .0) 0) (replicate (most .0) 0))
+  once = in-large (tables (replicate (most .0) 0) (replicate (most .0) 0) (replicate (most .0) 0) (replicate (most .0) 0) (replicate (most .0) 0)) (same-size (most .0) (most .1))
+
+  -- what its end reports is what it needs
+  once-needs : once .state ≡ progressAfter nothingRead (wholeListing p)
+  once-needs = progress-as (wholeListing p) nothingRead (tables (replicate (most .0) 0) (replicate (most .0) 0) (replicate (most .0) 0) (replicate (most .0) 0) (replicate (most .0) 0)) (once .state) (once .lent) (once .accepted)
+
+  keeps-all : Keeps p (AllKept p)
+  keeps-all = both-keep p (λ k u. Singles p k u × Pairs p k u) (Codes p) (both-keep p (Singles p) (Pairs p) (singles-keep p) (pairs-keep p good m)) (codes-keep p good m)
+
+  pub listing-returns : (t : Tables) → fit (neededSizes (wholeListing p)) t ≡ true → Returned p t
+  listing-returns t room = arrived p good (listing-accepted p good m (AllKept p) keeps-all (λ count k n u. readAll n (linesFrom p count k) u ≡ reading (Accepted (once .state)) (too .0)) (by-acceptance p (once .state) (too .0)) nothingRead t refl (all-lines p t (once .state) (too .0) (too .1)))
+    where
+      too : (u : Tables) × (readAll nothingRead (wholeListing p) t ≡ reading (Accepted (once .state)) u)
+      too =
+          accepted-too (wholeListing p) nothingRead (tables (replicate (most .0) 0) (replicate (most .0) 0) (replicate (most .0) 0) (replicate (most .0) 0) (replicate (most .0) 0)) t (λ h. absurd (omega arith)) (once .state) (once .lent) (once .accepted)
+          (subst (λ (n : Progress). fit (sizesOf n) t ≡ true) (sym once-needs) room)
+
+  -- tables of the largest sizes have room for every listing
+  pub large-enough : (t : Tables) → LargeEnough t → fit (neededSizes (wholeListing p)) t ≡ true
+  large-enough t large =
+      let a : Arrived p (λ k u. Unit {0}) nothingRead (wholeListing p) t = in-large t large in
+      subst (λ (n : Progress). fit (sizesOf n) t ≡ true) (progress-as (wholeListing p) nothingRead t (a .state) (a .lent) (a .accepted))
+      (large-fits (a .state) (a .lent) t (a .sound (omega (arith, a .before .late)) .holds) large)

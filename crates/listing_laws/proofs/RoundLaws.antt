@@ -21,7 +21,11 @@ use Rattle.listing.specs.declared.Record.the-variants.{Page, Defaults, Single, 
 use Rattle.listing.specs.Sets.{inBytes, addToBytes, inHalf, addToHalf, countHalf}
 use Rattle.listing.specs.Order.{rank, follows, isListedLead, withLead, accepts, after}
 use Rattle.listing.proofs.SetLaws.{half-with}
-use Rattle.listing.specs.declared.Read.the-variants.{Accepted}
+use Rattle.listing.specs.declared.Sizes.{Sizes}
+use Rattle.listing.specs.declared.Refusal.the-variants.{TooSmall}
+use Rattle.listing.specs.declared.Read.the-variants.{Accepted, Refused}
+use Rattle.listing.specs.Steps.{Fits}
+use Rattle.listing.proofs.ChangeLaws.{fit-known}
 use Rattle.listing.specs.Form.{recordOf, unlessNone}
 use Rattle.listing.specs.Order.{blockCount, sizesOf, afterPage, classOf}
 use Rattle.listing.specs.Tables.{Tables, tables, changeOf, fit, Reading, reading, readRecord, readOf}
@@ -32,7 +36,7 @@ use Rattle.listing_laws.specs.Round.{linesFrom, wholeListing}
 use Rattle.listing_laws.specs.Claims.{InWidths, LargeEnough}
 use Rattle.listing_laws.proofs.BoundLaws.{Bounded, bounded}
 use Rattle.listing_laws.proofs.HoldLaws.{Holds, lead-none}
-use Rattle.listing_laws.proofs.WholeLaws.{Kept, Sound, SameSizes, same-sizes, hold-record, step}
+use Rattle.listing_laws.proofs.WholeLaws.{Kept, Sound, SameSizes, same-sizes, hold-record, step, reading-same, refused-not}
 use Rattle.listing_laws.proofs.LineLaws.{read-page, read-defaults, read-single, read-lead, read-trail, read-pair, read-code}
 use Rattle.listing_laws.proofs.BitLaws.{bytes-none, bytes-other, lead-other}
 
@@ -378,6 +382,10 @@ module _ (p : CodePage) (good : GoodShape p) (m : InWidths p) (k : ℕ) (s : Pro
       by-size false q false r false t false u = rw (zero-not, one-not, q, r, t, u) (fine-code (k - 66306) (omega arith) (omega (arith, ltb-false k 66306 u)))
 
 -- ---- all lines
+-- the tables have the sizes needed
+abbrev pub FitsAll : Sizes → Tables → Type 0
+FitsAll n t = Fits n (t .classes) (t .singles) (t .pairs) (t .index) (t .blocks)
+
 large-after : (s : Progress) (r : Record) (t : Tables) → LargeEnough t → LargeEnough (changeOf s r t)
 large-after s r t l =
     record {
@@ -388,7 +396,7 @@ large-after s r t l =
       blocks = omega (arith, l .blocks, same-sizes s r t .blocks);
     }
 
-large-fits : (n : Progress) (u t : Tables) → Holds n u → LargeEnough t → fit (sizesOf n) t ≡ true
+pub large-fits : (n : Progress) (u t : Tables) → Holds n u → LargeEnough t → fit (sizesOf n) t ≡ true
 unfolding fit sizesOf countHalf blockCount
 large-fits n u t h l =
     both
@@ -402,35 +410,77 @@ large-fits n u t h l =
     by-case true = omega arith
     by-case false = omega (arith, h .block)
 
-read-as : (s : Progress) (r : Record) (t : Tables) → recordOf (recordLine r) ≡ r → accepts s r ≡ true → fit (sizesOf (after s r)) t ≡ true → readOf s (recordLine r) t ≡ reading (Accepted (after s r)) (changeOf s r t)
+pub read-as : (s : Progress) (r : Record) (t : Tables) → recordOf (recordLine r) ≡ r → accepts s r ≡ true → fit (sizesOf (after s r)) t ≡ true → readOf s (recordLine r) t ≡ reading (Accepted (after s r)) (changeOf s r t)
 unfolding readOf readRecord
 read-as s r t back accepted roomy = ap (λ (q : Record). readRecord s q t) back ∙ rw (accepted, roomy, readRecord)
+
+read-small : (s : Progress) (r : Record) (t : Tables) → recordOf (recordLine r) ≡ r → accepts s r ≡ true → fit (sizesOf (after s r)) t ≡ false → readOf s (recordLine r) t ≡ reading (Refused TooSmall) t
+unfolding readOf readRecord
+read-small s r t back accepted small = ap (λ (q : Record). readRecord s q t) back ∙ rw (accepted, small, readRecord)
 
 -- one line
 record Took (s : Progress) (r : Record) (t : Tables) : Type 0 where
   reads : readOf s (recordLine r) t ≡ reading (Accepted (after s r)) (changeOf s r t)
   sound : Sound (after s r) (changeOf s r t)
-  large : LargeEnough (changeOf s r t)
+  fits : FitsAll (sizesOf (after s r)) t
 
-take : (s : Progress) (r : Record) (t : Tables) → Sound s t → LargeEnough t → recordOf (recordLine r) ≡ r → accepts s r ≡ true → Took s r t
-take s r t sound large back accepted = record { reads = reads; sound = kept; large = large-after s r t large }
+take : (s : Progress) (r : Record) (t : Tables) → Sound s t → fit (sizesOf (after s r)) t ≡ true → recordOf (recordLine r) ≡ r → accepts s r ≡ true → Took s r t
+take s r t sound roomy back accepted = record { reads = reads; sound = kept; fits = fit-known (sizesOf (after s r)) (t .classes) (t .singles) (t .pairs) (t .index) (t .blocks) roomy }
   where
-    bound : Bounded r
-    bound = subst Bounded back (bounded (recordLine r))
-
-    roomy : fit (sizesOf (after s r)) t ≡ true
-    roomy = large-fits (after s r) (changeOf s r t) t (hold-record s t sound r bound accepted (large .classes) (large .index)) large
-
     reads : readOf s (recordLine r) t ≡ reading (Accepted (after s r)) (changeOf s r t)
     reads = read-as s r t back accepted roomy
 
     kept : Sound (after s r) (changeOf s r t)
     kept = subst (λ (u : Tables). Sound (after s r) u) (ap (λ (x : Reading). x .lent) reads) (step s t sound (recordLine r) (after s r) (ap (λ (x : Reading). x .answer) reads))
 
+-- where the room for each line comes from: what is known at a place, with so many places left
+pub record Supply (p : CodePage) (G : (count k : ℕ) → Progress → Tables → Type 0) : Type 0 where
+  pub line : (count k : ℕ) (s : Progress) (t : Tables) (r : Record) → r ≡ recordAt p k → G (suc count) k s t → isRecord r ≡ true → recordOf (recordLine r) ≡ r → accepts s r ≡ true → Sound s t
+      → (fit (sizesOf (after s r)) t ≡ true) × G count (suc k) (after s r) (changeOf s r t)
+  pub skip : (count k : ℕ) (s : Progress) (t : Tables) → G (suc count) k s t → isRecord (recordAt p k) ≡ false → G count (suc k) s t
+
+-- from tables large enough for every listing
+pub by-size : (p : CodePage) → Supply p (λ count k s t. LargeEnough t)
+by-size p =
+    record {
+      line = λ count k s t r e large q back accepted sound.
+          (large-fits (after s r) (changeOf s r t) t (hold-record s t sound r (subst Bounded back (bounded (recordLine r))) accepted (large .classes) (large .index)) large, large-after s r t large);
+      skip = λ count k s t large q. large;
+    }
+
+-- from an acceptance of the lines that are left
+pub by-acceptance : (p : CodePage) (s′ : Progress) (t′ : Tables) → Supply p (λ count k s t. readAll s (linesFrom p count k) t ≡ reading (Accepted s′) t′)
+unfolding readAll linesFrom
+by-acceptance p s′ t′ =
+    record {
+      line = λ count k s t r e acc q back accepted sound. by-fit count k s t r e acc q back accepted (fit (sizesOf (after s r)) t) refl;
+      skip = λ count k s t acc q. sym (rw q) ∙ acc;
+    }
+  where
+    first : (count k : ℕ) (s : Progress) (t : Tables) (r : Record) → r ≡ recordAt p k → isRecord r ≡ true → pick (isRecord (recordAt p k)) (recordLine (recordAt p k) ∷ linesFrom p count (suc k)) (linesFrom p count (suc k)) ≡ recordLine r ∷ linesFrom p count (suc k)
+    first count k s t r e q = ap (λ (x : Record). pick (isRecord x) (recordLine x ∷ linesFrom p count (suc k)) (linesFrom p count (suc k))) (sym e) ∙ rw q
+
+    by-fit : (count k : ℕ) (s : Progress) (t : Tables) (r : Record) → r ≡ recordAt p k
+        → readAll s (pick (isRecord (recordAt p k)) (recordLine (recordAt p k) ∷ linesFrom p count (suc k)) (linesFrom p count (suc k))) t ≡ reading (Accepted s′) t′
+        → isRecord r ≡ true → recordOf (recordLine r) ≡ r → accepts s r ≡ true → (b : Bool) → fit (sizesOf (after s r)) t ≡ b
+        → (fit (sizesOf (after s r)) t ≡ true) × (readAll (after s r) (linesFrom p count (suc k)) (changeOf s r t) ≡ reading (Accepted s′) t′)
+    by-fit count k s t r e acc q back accepted true w = (
+      w,
+      sym (ap (λ (x : Reading). thenRead (x .answer) (x .lent) (λ n u. readAll n (linesFrom p count (suc k)) u)) (read-as s r t back accepted w))
+          ∙ sym (ap (λ (l : List (List ℕ)). readAll s l t) (first count k s t r e q))
+          ∙ acc,
+    )
+    by-fit count k s t r e acc q back accepted false w =
+        absurd (refused-not (reading-same (
+        sym (ap (λ (x : Reading). thenRead (x .answer) (x .lent) (λ n u. readAll n (linesFrom p count (suc k)) u)) (read-small s r t back accepted w))
+        ∙ sym (ap (λ (l : List (List ℕ)). readAll s l t) (first count k s t r e q))
+        ∙ acc
+        ) .0))
+
 -- what is asked of the tables at a place, kept by every record and where there is none
 pub record Keeps (p : CodePage) (Q : ℕ → Tables → Type 0) : Type 0 where
-  pub starts : (s : Progress) (page : ℕ) (t : Tables) → LargeEnough t → Q 2 (changeOf s (Page page) t)
-  pub record-kept : (k : ℕ) (s : Progress) (t : Tables) → 2 ≤ k → k < 131842 → Before p k s → Sound s t → LargeEnough t → Q k t → isRecord (recordAt p k) ≡ true → Q (k + 1) (changeOf s (recordAt p k) t)
+  pub starts : (s : Progress) (page : ℕ) (t : Tables) → FitsAll (sizesOf (afterPage page)) t → Q 2 (changeOf s (Page page) t)
+  pub record-kept : (k : ℕ) (s : Progress) (t : Tables) → 2 ≤ k → k < 131842 → Before p k s → Sound s t → FitsAll (sizesOf (after s (recordAt p k))) t → Q k t → isRecord (recordAt p k) ≡ true → Q (k + 1) (changeOf s (recordAt p k) t)
   pub none-kept : (k : ℕ) (t : Tables) → 2 ≤ k → k < 131842 → Q k t → isRecord (recordAt p k) ≡ false → Q (k + 1) t
 
 -- what a whole reading arrives at
@@ -442,7 +492,7 @@ pub record Arrived (p : CodePage) (Q : ℕ → Tables → Type 0) (s : Progress)
   pub sound : Sound state lent
   pub kept : Q places lent
 
-module _ (p : CodePage) (good : GoodShape p) (m : InWidths p) (Q : ℕ → Tables → Type 0) (keeps : Keeps p Q) where
+module _ (p : CodePage) (good : GoodShape p) (m : InWidths p) (Q : ℕ → Tables → Type 0) (keeps : Keeps p Q) (G : (count k : ℕ) → Progress → Tables → Type 0) (supply : Supply p G) where
   arrive-line : (s : Progress) (r : Record) (lines : List (List ℕ)) (t : Tables) → Took s r t → Arrived p Q (after s r) lines (changeOf s r t) → Arrived p Q s (recordLine r ∷ lines) t
   unfolding readAll
   arrive-line s r lines t took a =
@@ -455,29 +505,41 @@ module _ (p : CodePage) (good : GoodShape p) (m : InWidths p) (Q : ℕ → Table
         kept = a .kept;
       }
 
-  pub every-place : (count k : ℕ) (s : Progress) (t : Tables) → count + k ≡ 131842 → 2 ≤ k → Before p k s → Sound s t → LargeEnough t → Q k t → Arrived p Q s (linesFrom p count k) t
+  next-place : (k : ℕ) (n : Progress) → Before p (k + 1) n → Before p (suc k) n
+  next-place k n x = subst (λ (i : ℕ). Before p i n) (add-one k) x
+
+  line-arrives : (count k : ℕ) (s : Progress) (t : Tables) → 2 ≤ k → k < 131842 → Before p k s → Sound s t → G (suc count) k s t → Q k t → isRecord (recordAt p k) ≡ true
+      → ((n : Progress) (u : Tables) → Before p (suc k) n → Sound n u → G count (suc k) n u → Q (suc k) u → Arrived p Q n (linesFrom p count (suc k)) u) → Arrived p Q s (recordLine (recordAt p k) ∷ linesFrom p count (suc k)) t
+  line-arrives count k s t l h b sound g here q more =
+      arrive-line s r (linesFrom p count (suc k)) t took
+      (more (after s r) (changeOf s r t) (next-place k (after s r) (known .1 .1)) (took .sound) (room .1) (subst (λ (i : ℕ). Q i (changeOf s r t)) (add-one k) (keeps .record-kept k s t l h b sound (took .fits) here q)))
+    where
+      r : Record
+      r = recordAt p k
+
+      known : (recordOf (recordLine (recordAt p k)) ≡ recordAt p k) × ((accepts s (recordAt p k) ≡ true) × Before p (k + 1) (after s (recordAt p k)))
+      known = fine p good m k s b l h .0 q
+
+      room : (fit (sizesOf (after s (recordAt p k))) t ≡ true) × G count (suc k) (after s (recordAt p k)) (changeOf s (recordAt p k) t)
+      room = supply .line count k s t (recordAt p k) refl g q (known .0) (known .1 .0) sound
+
+      took : Took s (recordAt p k) t
+      took = take s (recordAt p k) t sound (room .0) (known .0) (known .1 .0)
+
+  pub every-place : (count k : ℕ) (s : Progress) (t : Tables) → count + k ≡ 131842 → 2 ≤ k → Before p k s → Sound s t → G count k s t → Q k t → Arrived p Q s (linesFrom p count k) t
   unfolding linesFrom readAll
-  every-place zero k s t e l b sound large here =
+  every-place zero k s t e l b sound g here =
       record { state = s; lent = t; accepted = refl; before = subst (λ (n : ℕ). Before p n s) same b; kept = subst (λ (n : ℕ). Q n t) same here; sound = sound }
     where
       same : k ≡ 131842
       same = omega arith
-  every-place (suc count) k s t e l b sound large here =
+  every-place (suc count) k s t e l b sound g here =
       by-record (λ n u x y z w. every-place count (suc k) n u (omega arith) (omega arith) x y z w) (isRecord (recordAt p k)) refl
     where
-      f : Fine p k s (recordAt p k)
-      f = fine p good m k s b l (omega arith)
-
-      next : (n : Progress) → Before p (k + 1) n → Before p (suc k) n
-      next n x = subst (λ (i : ℕ). Before p i n) (add-one k) x
-
-      by-record : ((n : Progress) (u : Tables) → Before p (suc k) n → Sound n u → LargeEnough u → Q (suc k) u → Arrived p Q n (linesFrom p count (suc k)) u)
+      by-record : ((n : Progress) (u : Tables) → Before p (suc k) n → Sound n u → G count (suc k) n u → Q (suc k) u → Arrived p Q n (linesFrom p count (suc k)) u)
           → (x : Bool) → isRecord (recordAt p k) ≡ x → Arrived p Q s (linesFrom p (suc count) k) t
-      by-record more true q =
-          let known = f .0 q in
-          let took : Took s (recordAt p k) t = take s (recordAt p k) t sound large (known .0) (known .1 .0) in
-          rw q (arrive-line s (recordAt p k) (linesFrom p count (suc k)) t took (more (after s (recordAt p k)) (changeOf s (recordAt p k) t) (next (after s (recordAt p k)) (known .1 .1)) (took .sound) (took .large) (subst (λ (i : ℕ). Q i (changeOf s (recordAt p k) t)) (add-one k) (keeps .record-kept k s t l (omega arith) b sound large here q))))
-      by-record more false q = rw q (more s t (next s (f .1 q)) sound large (subst (λ (i : ℕ). Q i t) (add-one k) (keeps .none-kept k t l (omega arith) here q)))
+      by-record more true q = rw q (line-arrives count k s t l (omega arith) b sound g here q more)
+      by-record more false q = rw q (more s t (next-place k s (fine p good m k s b l (omega arith) .1 q)) sound (supply .skip count k s t g q) (subst (λ (i : ℕ). Q i t) (add-one k) (keeps .none-kept k t l (omega arith) here q)))
 
   -- ---- the first two lines
   first-place : (page byte unit : ℕ) (s : Progress) → page ≡ p .page → byte ≡ p .defaultByte → unit ≡ p .defaultUnit → Before p 2 (after (afterPage page) (Defaults byte unit))
@@ -493,15 +555,15 @@ module _ (p : CodePage) (good : GoodShape p) (m : InWidths p) (Q : ℕ → Table
         unit = g;
       }
 
-  begin : (n : ℕ) → n + 2 ≡ 131842 → (s : Progress) (t : Tables) → s .letter ≡ Start → LargeEnough t → Arrived p Q s (linesFrom p (suc (suc n)) 0) t
+  begin : (n : ℕ) → n + 2 ≡ 131842 → (s : Progress) (t : Tables) → s .letter ≡ Start → G (suc (suc n)) 0 s t → Arrived p Q s (linesFrom p (suc (suc n)) 0) t
   unfolding linesFrom recordAt
-  begin n e s t start large =
+  begin n e s t start g =
       arrive-line s (Page (p .page)) (recordLine (Defaults (p .defaultByte) (p .defaultUnit)) ∷ linesFrom p n 2) t first
       (arrive-line (afterPage (p .page)) (Defaults (p .defaultByte) (p .defaultUnit)) (linesFrom p n 2) (changeOf s (Page (p .page)) t) second
       (every-place n 2 (after (afterPage (p .page)) (Defaults (p .defaultByte) (p .defaultUnit))) (changeOf (afterPage (p .page)) (Defaults (p .defaultByte) (p .defaultUnit)) (changeOf s (Page (p .page)) t)) e (omega arith)
       (first-place (p .page) (p .defaultByte) (p .defaultUnit) s refl refl refl)
       (second .sound)
-      (second .large) (keeps .starts s (p .page) t large)))
+      (room₂ .1) (keeps .starts s (p .page) t (first .fits))))
     where
       some-page : 1 ≤ p .page
       some-page = by-page (p .page) (good .page)
@@ -510,21 +572,31 @@ module _ (p : CodePage) (good : GoodShape p) (m : InWidths p) (Q : ℕ → Table
           by-page zero ne = absurd (ne refl)
           by-page (suc n) ne = omega arith
 
+      none-yet : Sound s t
+      none-yet h = absurd (omega (arith, ap rank start))
+
+      room₁ : (fit (sizesOf (afterPage (p .page))) t ≡ true) × G (suc n) 1 (afterPage (p .page)) (changeOf s (Page (p .page)) t)
+      room₁ = supply .line (suc n) 0 s t (Page (p .page)) refl g refl (read-page (p .page) some-page (m .page)) (eq-eqb (rank (s .letter)) 0 (ap rank start)) none-yet
+
       first : Took s (Page (p .page)) t
-      first = take s (Page (p .page)) t (λ h. absurd (omega (arith, ap rank start))) large (read-page (p .page) some-page (m .page)) (eq-eqb (rank (s .letter)) 0 (ap rank start))
+      first = take s (Page (p .page)) t none-yet (room₁ .0) (read-page (p .page) some-page (m .page)) (eq-eqb (rank (s .letter)) 0 (ap rank start))
+
+      room₂ : (fit (sizesOf (after (afterPage (p .page)) (Defaults (p .defaultByte) (p .defaultUnit)))) (changeOf s (Page (p .page)) t) ≡ true)
+          × G n 2 (after (afterPage (p .page)) (Defaults (p .defaultByte) (p .defaultUnit))) (changeOf s (Page (p .page)) t)
+      room₂ = supply .line n 1 (afterPage (p .page)) (changeOf s (Page (p .page)) t) (Defaults (p .defaultByte) (p .defaultUnit)) refl (room₁ .1) refl (read-defaults (p .defaultByte) (p .defaultUnit) (m .byte) (m .unit)) refl (first .sound)
 
       second : Took (afterPage (p .page)) (Defaults (p .defaultByte) (p .defaultUnit)) (changeOf s (Page (p .page)) t)
-      second = take (afterPage (p .page)) (Defaults (p .defaultByte) (p .defaultUnit)) (changeOf s (Page (p .page)) t) (first .sound) (first .large) (read-defaults (p .defaultByte) (p .defaultUnit) (m .byte) (m .unit)) refl
+      second = take (afterPage (p .page)) (Defaults (p .defaultByte) (p .defaultUnit)) (changeOf s (Page (p .page)) t) (first .sound) (room₂ .0) (read-defaults (p .defaultByte) (p .defaultUnit) (m .byte) (m .unit)) refl
 
   two-more : (n : ℕ) × (n + 2 ≡ 131842)
   two-more = (131840, omega arith)
 
-  -- A whole listing of a good table set is accepted, line by line, into tables large enough.
-  pub listing-accepted : (s : Progress) (t : Tables) → s .letter ≡ Start → LargeEnough t → Arrived p Q s (wholeListing p) t
+  -- A whole listing of a good table set is accepted, line by line, into tables with room for each line.
+  pub listing-accepted : (s : Progress) (t : Tables) → s .letter ≡ Start → ((n : ℕ) → n ≡ 131842 → G n 0 s t) → Arrived p Q s (wholeListing p) t
   unfolding wholeListing
-  listing-accepted s t start large =
+  listing-accepted s t start g =
       let all : suc (suc (two-more .0)) ≡ 131842 = omega (arith, two-more .1) in
-      subst (λ (n : ℕ). Arrived p Q s (linesFrom p n 0) t) all (begin (two-more .0) (two-more .1) s t start large)
+      subst (λ (n : ℕ). Arrived p Q s (linesFrom p n 0) t) all (begin (two-more .0) (two-more .1) s t start (g (suc (suc (two-more .0))) all))
 
 -- ---- the same page, defaults and classes
 class-back : (c : ℕ) → isKnown c ≡ true → pick (isTrail c) (4 + pick (isLead c) 2 (pick (isSingle c) 1 0)) (pick (isLead c) 2 (pick (isSingle c) 1 0)) ≡ c

@@ -15,11 +15,11 @@ use Rattle.listing.specs.declared.Letter.the-variants.{Start}
 use Rattle.listing.specs.declared.Record.{Record}
 use Rattle.listing.specs.declared.Record.the-variants.{Page, Defaults, Single, Lead, Trail, Pair, Code, NoRecord}
 use Rattle.listing.specs.Form.{unlessNone}
+use Rattle.listing.specs.Order.{after, sizesOf}
 use Rattle.listing.specs.Tables.{Tables, changeOf}
 use Rattle.lister.specs.Lister.{places, singleAt, leadAt, trailAt, pairAt, codeAt, recordAt, isRecord}
 use Rattle.listing_laws.specs.Round.{wholeListing}
-use Rattle.listing_laws.specs.Claims.{}
-use Rattle.listing_laws.proofs.RoundLaws.{Before, Keeps, Arrived, listing-accepted}
+use Rattle.listing_laws.proofs.RoundLaws.{Before, FitsAll, Keeps}
 
 -- the singles before a place have their characters
 abbrev pub Singles : CodePage → ℕ → Tables → Type 0
@@ -79,11 +79,16 @@ single-kept p k s t l long held q c h less on = by-part (ltb k 258) refl
     by-part true w = by-class (k - 2) (omega arith) (omega (arith, ltb-true k 258 w)) (isSingle (entryAt (p .classes) (k - 2))) refl
     by-part false w = ap (λ (x : List ℕ). entryAt x c) (later-leaves p s t k (ltb-false k 258 w)) ∙ held c h (omega (arith, ltb-false k 258 w)) on
 
+-- tables that fit have all singles
+wide : (n : Progress) (t : Tables) → FitsAll (sizesOf n) t → 256 ≤ length (t .singles)
+unfolding sizesOf
+wide n t f = f .singles-fit
+
 pub singles-keep : (p : CodePage) → Keeps p (Singles p)
 singles-keep p =
     record {
-      starts = λ s page t large c h less on. absurd (omega arith);
-      record-kept = λ k s t l h b sound large held q. single-kept p k s t l (large .singles) held q;
+      starts = λ s page t fits c h less on. absurd (omega arith);
+      record-kept = λ k s t l h b sound fits held q. single-kept p k s t l (wide (after s (recordAt p k)) t fits) held q;
       none-kept = λ k t l h held q c small less on. by-place p k t held q c small less on (eqb (2 + c) k) refl;
     }
   where

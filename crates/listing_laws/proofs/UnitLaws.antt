@@ -12,15 +12,17 @@ use Rattle.codepage_lookup.specs.Profile.{unitEntry}
 use Rattle.listing.specs.declared.Progress.{Progress}
 use Rattle.listing.specs.declared.Record.{Record}
 use Rattle.listing.specs.declared.Record.the-variants.{Page, Code, NoRecord}
-use Rattle.listing.specs.Order.{accepts, isNewHigh, codeBlock}
+use Rattle.listing.specs.Order.{accepts, afterPage, after, blockCount, sizesOf}
+use Rattle.listing.specs.Steps.{Ready}
+use Rattle.listing.proofs.ChangeLaws.{code-room}
 use Rattle.listing.specs.Tables.{Tables, filled, changeOf}
 use Rattle.lister.specs.Lister.{singleAt, leadAt, trailAt, pairAt, codeAt, recordAt, isRecord}
-use Rattle.listing_laws.specs.Claims.{InWidths, LargeEnough}
+use Rattle.listing_laws.specs.Claims.{InWidths}
 use Rattle.listing_laws.proofs.FilledLaws.{filled-front}
 use Rattle.listing_laws.proofs.CodeLaws.{OneCode, CodePut, code-put}
 use Rattle.listing_laws.proofs.WholeLaws.{Sound}
 use Rattle.listing_laws.proofs.HoldLaws.{Holds}
-use Rattle.listing_laws.proofs.RoundLaws.{Before, Keeps, Arrived, fine, ltb-more}
+use Rattle.listing_laws.proofs.RoundLaws.{Before, FitsAll, Keeps, fine, ltb-more}
 
 -- the code of a unit in a table set
 abbrev pub codeIn : CodePage → (unit : ℕ) → ℕ
@@ -30,14 +32,14 @@ codeIn p unit = unitEntry (p .index) (p .blocks) unit
 abbrev pub Codes : CodePage → ℕ → Tables → Type 0
 Codes p k t = (u : ℕ) → u < 65536 → unitEntry (t .index) (t .blocks) u ≡ pick (ltb (66306 + u) k) (codeIn p u) 0xFFFF
 
--- a block's number is a byte
-code-block-small : (s : Progress) (unit : ℕ) → s .block ≤ 255 → codeBlock s unit ≤ 255
-unfolding codeBlock
-code-block-small s unit h = by-half (isNewHigh s unit)
-  where
-    by-half : (x : Bool) → pick x ((s .block + 1) % 256) (s .block) ≤ 255
-    by-half true = omega arith
-    by-half false = h
+-- tables that fit have the whole index, and the block of a code
+wide-index : (n : Progress) (t : Tables) → FitsAll (sizesOf n) t → 256 ≤ length (t .index)
+unfolding sizesOf
+wide-index n t f = f .index-fit
+
+one-block : (page : ℕ) (t : Tables) → FitsAll (sizesOf (afterPage page)) t → 256 ≤ length (t .blocks)
+unfolding sizesOf blockCount
+one-block page t f = f .blocks-fit
 
 module _ (p : CodePage) where
   pub at-code : (c : ℕ) → recordAt p (66306 + c) ≡ codeAt (p .index) (p .blocks) c
@@ -92,7 +94,7 @@ module _ (p : CodePage) where
       (leaves-pick s t (isLead (entryAt (p .classes) ((k - 770) / 256)) && isTrail (entryAt (p .classes) ((k - 770) % 256))) _ _
       (leaves-pick s t (eqb (entryAt (p .pairs) (256 * leadsBelow (p .classes) ((k - 770) / 256) + (k - 770) % 256)) 0xFFFF) _ _ (refl, refl) (refl, refl)) (refl, refl)))))
 
-  module _ (good : GoodShape p) (m : InWidths p) (k : ℕ) (s : Progress) (t : Tables) (late : 2 ≤ k) (most : k < 131842) (b : Before p k s) (sound : Sound s t) (large : LargeEnough t) (held : Codes p k t) (q : isRecord (recordAt p k) ≡ true) where
+  module _ (good : GoodShape p) (m : InWidths p) (k : ℕ) (s : Progress) (t : Tables) (late : 2 ≤ k) (most : k < 131842) (b : Before p k s) (sound : Sound s t) (fits : FitsAll (sizesOf (after s (recordAt p k))) t) (held : Codes p k t) (q : isRecord (recordAt p k) ≡ true) where
     early-kept : k < 66306 → Codes p (k + 1) (changeOf s (recordAt p k) t)
     early-kept h u k₁ =
         let same = early-leaves s t k late h in
@@ -111,8 +113,14 @@ module _ (p : CodePage) where
         accepted : accepts s (Code c (codeIn p c)) ≡ true
         accepted = ap (accepts s) (sym here) ∙ fine p good m k s b late most .0 q .1 .0
 
+        fits-code : FitsAll (sizesOf (after s (Code c (codeIn p c)))) t
+        fits-code = subst (λ (r : Record). FitsAll (sizesOf (after s r)) t) here fits
+
+        ready : Ready s (after s (Code c (codeIn p c))) (Code c (codeIn p c)) (t .classes) (t .singles) (t .pairs) (t .index) (t .blocks)
+        ready = record { accepted = accepted; next = refl; fits = fits-code }
+
         put : CodePut s t c (codeIn p c)
-        put = code-put s t (sound (omega (arith, b .late)) .numbers) c (codeIn p c) h accepted (large .index) (omega (arith, large .blocks, code-block-small s c (sound (omega (arith, b .late)) .holds .block)))
+        put = code-put s t (sound (omega (arith, b .late)) .numbers) c (codeIn p c) h accepted (wide-index (after s (Code c (codeIn p c))) t fits-code) (code-room ready c (codeIn p c) refl)
 
         by-unit : (x : Bool) → eqb u c ≡ x → pick (eqb u c) (codeIn p c) (unitEntry (t .index) (t .blocks) u) ≡ pick (ltb (66306 + u) (k + 1)) (codeIn p u) 0xFFFF
         by-unit true o =
@@ -130,18 +138,18 @@ module _ (p : CodePage) where
         by-size false w = code-kept (k - 66306) (omega (arith, ltb-false k 66306 w)) (omega (arith, ltb-false k 66306 w)) (eqb (codeIn p (k - 66306)) 0xFFFF) refl
 
   -- once `P` was read no unit has a code
-  codes-start : (s : Progress) (page : ℕ) (t : Tables) → LargeEnough t → Codes p 2 (changeOf s (Page page) t)
-  codes-start s page t large u h =
-      let zero-there : entryAt (filled (t .index) 0 256 0) (u / 256) ≡ 0 = filled-front (t .index) 256 0 (u / 256) (omega arith) (large .index) in
+  codes-start : (s : Progress) (page : ℕ) (t : Tables) → FitsAll (sizesOf (afterPage page)) t → Codes p 2 (changeOf s (Page page) t)
+  codes-start s page t fits u h =
+      let zero-there : entryAt (filled (t .index) 0 256 0) (u / 256) ≡ 0 = filled-front (t .index) 256 0 (u / 256) (omega arith) (wide-index (afterPage page) t fits) in
       let place : 256 * entryAt (filled (t .index) 0 256 0) (u / 256) + u % 256 ≡ u % 256 = omega (arith, zero-there) in
       ap (entryAt (filled (t .blocks) 0 256 0xFFFF)) place
-      ∙ filled-front (t .blocks) 256 0xFFFF (u % 256) (omega arith) (omega (arith, large .blocks))
+      ∙ filled-front (t .blocks) 256 0xFFFF (u % 256) (omega arith) (one-block page t fits)
       ∙ sym (ap (λ (x : Bool). pick x (codeIn p u) 0xFFFF) (le-ltb (66306 + u) 2 (omega arith)))
 
   pub codes-keep : GoodShape p → InWidths p → Keeps p (Codes p)
   codes-keep good m =
       record {
         starts = codes-start;
-        record-kept = λ k s t l h b sound large held q. codes-record good m k s t l h b sound large held q;
+        record-kept = λ k s t l h b sound fits held q. codes-record good m k s t l h b sound fits held q;
         none-kept = λ k t l h held q. codes-none k t held q;
       }

@@ -34,7 +34,7 @@ pub record InWidths (p : CodePage) : Type 0 where
   pub pairs : (i : ℕ) → entryAt (p .pairs) i < 65536
   pub blocks : (i : ℕ) → entryAt (p .blocks) i < 65536
 
--- Tables large enough for every listing: 256 pairs for each of 128 leads, and 256 blocks.
+-- Tables large enough for every listing: 256 pairs for each of 128 leads, and 256 blocks. (What one listing needs: `neededSizes`.)
 pub record LargeEnough (t : Tables) : Type 0 where
   pub classes : 256 ≤ length (t .classes)
   pub singles : 256 ≤ length (t .singles)
