@@ -20,3 +20,5 @@ pub mod PutLaws
 pub mod RecordLaws
 pub mod AgainLaws
 pub mod EdgeRow
+pub mod ExampleAgain
+pub mod PageLaws
