@@ -15,6 +15,7 @@ hexByte value = pick (ltb value 10) (0x30 + value) (0x41 + (value - 10))
 abbrev pub byteText : ℕ → List ℕ
 byteText byte = hexByte (byte / 16) ∷ hexByte (byte % 16) ∷ []
 
+-- units and codes have four digits
 abbrev pub unitText : ℕ → List ℕ
 unitText unit = byteText (unit / 256) ++ byteText (unit % 256)
 
@@ -36,6 +37,7 @@ pageText page =
 abbrev pub line : (letter : ℕ) → List ℕ → List ℕ
 line letter field = letter ∷ tab ∷ (field ++ (lineFeed ∷ []))
 
+-- a letter and two fields
 abbrev pub line₂ : (letter : ℕ) → List ℕ → List ℕ → List ℕ
 line₂ letter left right = letter ∷ tab ∷ (left ++ (tab ∷ (right ++ (lineFeed ∷ []))))
 
@@ -43,6 +45,7 @@ line₂ letter left right = letter ∷ tab ∷ (left ++ (tab ∷ (right ++ (line
 unfoldable pub singleText : (unit : ℕ) → List ℕ
 singleText unit = pick (eqb unit 0xFFFF) (0x2D ∷ []) (unitText unit)
 
+-- THE LINE OF A RECORD.
 abbrev pub recordLine : Record → List ℕ
 recordLine (Page page) = line 0x50 (pageText page)
 recordLine (Defaults byte unit) = line₂ 0x44 (byteText byte) (unitText unit)

@@ -1,8 +1,8 @@
 -- Document 02, CR 3: the writer, line by line.
 use mathlib.Core.Bool.{Bool, true, false, not, _&&_}
-use mathlib.Core.List.{List, [], _∷_}
+use mathlib.Core.List.{List, []}
 use mathlib.Core.Path.{_≡_}
-use Prim.Native.Nat.{ℕ, zero, suc, _+_, _-_, _*_, _/_, _%_, _≤_}
+use Prim.Native.Nat.{ℕ, zero, suc, _+_, _-_, _*_, _/_, _%_}
 use lib.Dec.{leb, ltb, eqb}
 use lib.ListN.{length}
 use Rattle.codepage.specs.CodePage.{CodePage, pick, entryAt, isSingle, isLead, isTrail, leadsBelow, firstFault, isGood}
@@ -21,9 +21,11 @@ use Rattle.lister.specs.Lines.{recordLine}
 unfoldable pub singleAt : (classes singles : List ℕ) → (byte : ℕ) → Record
 singleAt classes singles byte = pick (isSingle (entryAt classes byte)) (Single byte (entryAt singles byte)) NoRecord
 
+-- the record `L` of a byte, if it is a lead
 unfoldable pub leadAt : (classes : List ℕ) → (byte : ℕ) → Record
 leadAt classes byte = pick (isLead (entryAt classes byte)) (Lead byte) NoRecord
 
+-- the record `T` of a byte, if it may be second
 unfoldable pub trailAt : (classes : List ℕ) → (byte : ℕ) → Record
 trailAt classes byte = pick (isTrail (entryAt classes byte)) (Trail byte) NoRecord
 
@@ -46,6 +48,7 @@ codeAt index blocks unit = withEntry (entryAt blocks (256 * entryAt index (unit 
 abbrev pub places : ℕ
 places = 131842
 
+-- THE RECORD OF A PLACE, in the order of the listing.
 unfoldable pub recordAt : CodePage → (place : ℕ) → Record
 recordAt p place =
     pick (eqb place 0) (Page (p .page))
@@ -56,6 +59,7 @@ recordAt p place =
     (pick (ltb place 66306) (pairAt (p .classes) (p .pairs) (place - 770))
     (codeAt (p .index) (p .blocks) (place - 66306)))))))
 
+-- whether there is a record
 abbrev pub isRecord : Record → Bool
 isRecord (Page page) = true
 isRecord (Defaults byte unit) = true
@@ -90,9 +94,11 @@ pub record NextLine : Type 0 where
   pub answer : Listed
   pub line : List ℕ
 
+-- an answer without a line
 abbrev pub unwritten : Listed → NextLine
 unwritten answer = record { answer = answer; line = [] }
 
+-- the line of a record, if it fits the room; the cursor goes behind its place
 unfoldable pub listRecord : Record → (place room : ℕ) → NextLine
 listRecord r place room =
     pick (ltb room (length (recordLine r))) (unwritten (Refused NoRoom))

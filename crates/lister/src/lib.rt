@@ -1,4 +1,9 @@
-// A table set written as a table listing, line by line. (Document 02, CR 3.)
+// A table set written as a table listing, line by line. (Document 02, CR 3; docs/RULES.md, "Listings".) Each call writes the next line to the
+// front of the output and gives back the cursor for the one after it; 12 bytes are room for every line.
+//
+//     let mut cursor = Cursor::new();
+//     let listed = lister::write_line(numbers, classes, singles, pairs, index, blocks, cursor, out);
+//     // Listed::Line(length, next): out[..length] is the line, cursor = next; Listed::Done; or Listed::Refused(why): why.number()
 mod lines;
 mod records;
 

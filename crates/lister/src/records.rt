@@ -14,6 +14,7 @@ use listing::form;
 // `P`, `D`, 256 places for each of `S`, `L` and `T`, 65,536 for each of `M` and `W`.
 pub const PLACES: usize = 131842;
 
+// Whether a place has a record.
 fn is_record(item: Record) -> bool
     ensures { λ r. ⌜ r ≡ isRecord item ⌝ }
 {
@@ -29,6 +30,7 @@ fn is_record(item: Record) -> bool
     }
 }
 
+// The record `S` of a byte, if it is a single.
 fn single_at(classes: &[u8], singles: &[u16], byte: u8) -> Record
     requires { ⌜ (length (now classes) ≡ 256) × (length (now singles) ≡ 256) ⌝ }
     ensures { λ r. ⌜ r ≡ singleAt (now (classes .entry)) (now (singles .entry)) byte ⌝ }
@@ -39,6 +41,7 @@ fn single_at(classes: &[u8], singles: &[u16], byte: u8) -> Record
     Record::NoRecord
 }
 
+// The record `L` of a byte, if it is a lead.
 fn lead_at(classes: &[u8], byte: u8) -> Record
     requires { ⌜ length (now classes) ≡ 256 ⌝ }
     ensures { λ r. ⌜ r ≡ leadAt (now (classes .entry)) byte ⌝ }
@@ -49,6 +52,7 @@ fn lead_at(classes: &[u8], byte: u8) -> Record
     Record::NoRecord
 }
 
+// The record `T` of a byte, if it may be second.
 fn trail_at(classes: &[u8], byte: u8) -> Record
     requires { ⌜ length (now classes) ≡ 256 ⌝ }
     ensures { λ r. ⌜ r ≡ trailAt (now (classes .entry)) byte ⌝ }
@@ -88,6 +92,7 @@ fn pair_at(classes: &[u8], pairs: &[u16], code: u16) -> Record
     form::unless_none(unit, Record::Pair(code, unit))
 }
 
+// The record `W` of a unit, if it has a code.
 fn code_at(index: &[u8], blocks: &[u16], unit: u16) -> Record
     requires { ⌜ length (now index) ≡ 256 ⌝ }
     requires { ⌜ ((high : ℕ) → high < 256 → 256 * entryAt (now index) high + 256 ≤ length (now blocks)) ⌝ }

@@ -1,26 +1,25 @@
 -- Laws of the changes to the tables, record by record.
 use mathlib.Core.Bool.{Bool, true, false, not, _&&_}
-use mathlib.Core.List.{List, [], _∷_}
+use mathlib.Core.List.{List}
 use mathlib.Core.Path.{_≡_, refl, sym, ap, ap₂, _∙_}
-use Prim.Native.Nat.{ℕ, zero, suc, _+_, _-_, _*_, _/_, _%_, _≤_, _<_}
+use Prim.Native.Nat.{ℕ, _+_, _-_, _*_, _/_, _%_, _≤_}
 use native.Mathlib.Omega.{arith}
-use lib.Dec.{leb, ltb, eqb}
+use lib.Dec.{leb, eqb}
 use lib.ListN.{length, set}
 use borrow.Author.Tests.{leb-true, le-leb, le-ltb, eqb-true}
 use Rattle.codepage.specs.CodePage.{pick}
-use Rattle.listing.specs.declared.Half.{Half}
 use Rattle.listing.specs.declared.Progress.{Progress}
 use Rattle.listing.specs.declared.Sizes.{Sizes}
 use Rattle.listing.specs.declared.Record.{Record}
-use Rattle.listing.specs.declared.Record.the-variants.{Page, Defaults, Single, Lead, Trail, Pair, Code, NoRecord}
+use Rattle.listing.specs.declared.Record.the-variants.{Page, Single, Lead, Trail, Pair, Code}
 use Rattle.listing.specs.declared.Letter.the-variants.{L, M}
-use Rattle.listing.specs.Sets.{inHalf, addToHalf, inBytes, countHalf}
-use Rattle.listing.specs.Order.{rank, follows, isListedLead, withLead, accepts, after, isNewHigh, codeBlock, blockCount, sizesOf, classOf}
+use Rattle.listing.specs.Sets.{inBytes, countHalf}
+use Rattle.listing.specs.Order.{rank, follows, isListedLead, withLead, accepts, after, codeBlock, blockCount, sizesOf, classOf}
 use Rattle.listing.specs.declared.Refusal.the-variants.{BadLine, TooSmall}
 use Rattle.listing.specs.declared.Read.the-variants.{Accepted, Refused}
 use Rattle.listing.specs.Form.{recordOf}
 use Rattle.listing.specs.Steps.{Fits, Ready}
-use Rattle.listing.specs.Tables.{Tables, tables, filled, leadBlock, opened, changeOf, fit, reading, readRecord, readOf}
+use Rattle.listing.specs.Tables.{Tables, tables, filled, leadBlock, changeOf, fit, reading, readRecord, readOf}
 use Rattle.listing.proofs.SetLaws.{half-with}
 use Rattle.codepage.proofs.ShapeLaws.{and-left, and-right}
 
@@ -33,6 +32,7 @@ some-block s = by-case (eqb (rank (s .letter)) 7 && eqb (s .block) 0)
     by-case true = omega arith
     by-case false = omega arith
 
+-- what the test of the sizes says of each table
 pub fit-known : (n : Sizes) (classes singles pairs index blocks : List ℕ) → fit n (tables classes singles pairs index blocks) ≡ true → Fits n classes singles pairs index blocks
 unfolding fit
 fit-known n classes singles pairs index blocks e =
@@ -123,6 +123,7 @@ module _ (s : Progress) (r : Record) (line : List ℕ) (t : Tables) (a : Bool) (
   unfolding readOf
   as-record = ap (λ (q : Record). readRecord s q t) (sym record-is)
 
+  -- 22
   pub refused-line : a ≡ false → reading (Refused BadLine) t ≡ readOf s line t
   unfolding readRecord
   refused-line e = sym (as-record ∙ rw (sym accepted-is ∙ e, readRecord))
@@ -131,16 +132,19 @@ module _ (s : Progress) (r : Record) (line : List ℕ) (t : Tables) (a : Bool) (
     room-all : fit (sizesOf (after s r)) t ≡ room
     room-all = sym (room-is ∙ ap (λ (z : Sizes). fit z t) (size-is ∙ ap sizesOf next-is))
 
+    -- 23
     pub refused-room : room ≡ false → reading (Refused TooSmall) t ≡ readOf s line t
     unfolding readRecord
     refused-room e = sym (as-record ∙ rw (sym accepted-is ∙ agreed, room-all ∙ e, readRecord))
 
+    -- an accepted line
     pub accepted-line : (after-call : Tables) → room ≡ true → after-call ≡ changeOf s r t → reading (Accepted n) after-call ≡ readOf s line t
     unfolding readRecord
     accepted-line after-call e f =
         ap₂ (λ (m : Progress) (u : Tables). reading (Accepted m) u) next-is f
         ∙ sym (as-record ∙ rw (sym accepted-is ∙ agreed, room-all ∙ e, readRecord))
 
+-- what the change of the tables may rely on
 pub ready-of : (s : Progress) (r : Record) (a : Bool) (n : Progress) (size : Sizes) (room : Bool) (classes singles pairs index blocks : List ℕ) → a ≡ accepts s r → a ≡ true → n ≡ after s r → size ≡ sizesOf n → room ≡ fit size (tables classes singles pairs index blocks) → room ≡ true → Ready s n r classes singles pairs index blocks
 ready-of s r a n size room classes singles pairs index blocks accepted-is agreed next-is size-is room-is fits-all =
     record {

@@ -1,7 +1,6 @@
 -- Document 02, CR 3: the whole example, read.
 use mathlib.Core.Path.{_≡_, refl}
 use lib.Count.{ones, onesIn}
-use Rattle.listing.specs.declared.Progress.{Progress}
 use Rattle.listing.specs.declared.Read.{Read}
 use Rattle.listing.specs.declared.Read.the-variants.{Accepted, Refused}
 use Rattle.listing.specs.declared.Ended.{Ended}
@@ -17,10 +16,12 @@ abbrev endAfter : Read → Ended
 endAfter (Accepted s) = endOf s
 endAfter (Refused why) = ended.Refused why
 
+-- THE EXAMPLE: the tables after it.
 pub example-tables : readAll nothingRead exampleLines exampleRoom .lent ≡ exampleTables
 unfolding ones onesIn withBit bitsBelow inHalf addToHalf countHalf belowInHalf inBytes addToBytes isDigit isCapital digit byteAt unitAt decimalAt fits hasForm pageOf recordOf follows isListedLead isNewHigh codeBlock withLead blockCount sizesOf filled leadBlock opened fit readRecord readOf endOf readAll exampleLines exampleRoom exampleTables exampleEnd
 example-tables = refl
 
+-- Its end: page, defaults and sizes.
 pub example-end : endAfter (readAll nothingRead exampleLines exampleRoom .answer) ≡ exampleEnd
 unfolding ones onesIn withBit bitsBelow inHalf addToHalf countHalf belowInHalf inBytes addToBytes isDigit isCapital digit byteAt unitAt decimalAt fits hasForm pageOf recordOf follows isListedLead isNewHigh codeBlock withLead blockCount sizesOf filled leadBlock opened fit readRecord readOf endOf readAll exampleLines exampleRoom exampleTables exampleEnd
 example-end = refl

@@ -1,15 +1,14 @@
 -- Laws of the sets of bytes.
 use mathlib.Core.Bool.{Bool, true, false}
 use mathlib.Core.Path.{_≡_, refl, sym, ap, _∙_}
-use Prim.Native.Nat.{ℕ, zero, suc, _+_, _-_, _*_, _/_, _%_, _^_, _≤_, _<_}
+use Prim.Native.Nat.{ℕ, _+_, _-_, _*_, _/_, _%_, _^_, _≤_, _<_}
 use native.Mathlib.Nat.{mod-lt, mul-comm, mul-one}
 use native.Mathlib.Omega.{arith}
 use lib.Bits.{bitOr, or-step, or-shr, and-mask, bitAnd}
-use lib.Count.{ones, ones-step, ones-cat, ones-le}
+use lib.Count.{ones, ones-step, ones-cat}
 use lib.Pow.{pow-pos, split, shl-exact, shl-shr}
-use lib.Dec.{ltb, eqb, lit<}
-use borrow.Author.Tests.{eqb-true, eq-eqb, lt-ltb, le-ltb, ltb-true, ltb-false}
-use Rattle.codepage.specs.CodePage.{pick}
+use lib.Dec.{ltb, lit<}
+use borrow.Author.Tests.{eqb-true, eq-eqb}
 use Rattle.listing.specs.declared.Half.{Half}
 use Rattle.listing.specs.Sets.{bit, withBit, bitsBelow, inHalf, addToHalf, countHalf, belowInHalf}
 
@@ -17,9 +16,11 @@ use Rattle.listing.specs.Sets.{bit, withBit, bitsBelow, inHalf, addToHal
 pub shifted : (k : ℕ) → k < 64 → 1 * 2 ^ k % 18446744073709551616 ≡ 2 ^ k
 shifted k h = shl-exact {a = 1} 1 k 64 (lit< tt) (omega arith) ∙ mul-comm 1 (2 ^ k) ∙ mul-one (2 ^ k)
 
+-- a word cut by a mask of ones
 pub masked : (word k : ℕ) → k < 64 → bitAnd word (1 * 2 ^ k % 18446744073709551616 - 1) ≡ word % 2 ^ k
 masked word k h = ap (λ (n : ℕ). bitAnd word (n - 1)) (shifted k h) ∙ and-mask word k
 
+-- the mask has a one above it
 pub mask-positive : (k : ℕ) → k < 64 → 1 ≤ 1 * 2 ^ k % 18446744073709551616
 mask-positive k h = omega (arith, shifted k h, pow-pos k)
 
@@ -32,6 +33,7 @@ bit-below word place e =
     ap ones (sym (split word place)) ∙ ones-cat place (word / 2 ^ place) (word % 2 ^ place) (mod-lt word (pow-pos place)) in
     omega (arith, whole, ones-step (word / 2 ^ place), odd)
 
+-- fewer are below a place that is in the set than there are
 pub half-below : (h : Half) (place : ℕ) → inHalf h place ≡ true → belowInHalf h place + 1 ≤ countHalf h
 unfolding inHalf belowInHalf countHalf
 half-below h place e = by-word (ltb place 64) refl
@@ -54,6 +56,7 @@ bit-with word place = eq-eqb (bitOr word (2 ^ place) / 2 ^ place % 2) 1 odd
     odd : bitOr word (2 ^ place) / 2 ^ place % 2 ≡ 1
     odd = omega (arith, apart, or-step (word / 2 ^ place) 1)
 
+-- a place that was added is in the set
 pub half-with : (h : Half) (place : ℕ) → inHalf (addToHalf h place) place ≡ true
 unfolding inHalf addToHalf
 half-with h place = by-word (ltb place 64) refl

@@ -2,7 +2,6 @@
 use mathlib.Core.List.{List, [], _∷_}
 use Prim.Native.Nat.{ℕ}
 use lib.ListN.{replicate, set}
-use Rattle.listing.specs.declared.Sizes.{Sizes}
 use Rattle.listing.specs.declared.Ended.{Ended}
 use Rattle.listing.specs.declared.Ended.the-variants.{Whole}
 use Rattle.listing.specs.Tables.{Tables, tables}
@@ -34,5 +33,6 @@ exampleTables =
     (set (set (replicate 256 0) 0 1) 0x30 2)
     (set (set (replicate 768 0xFFFF) 256 0) 512 0x8140)
 
+-- what its end answers: page, defaults and the sizes needed
 unfoldable pub exampleEnd : Ended
 exampleEnd = Whole (record { page = 9; «default_byte» = 0x3F; «default_unit» = 0x30FB }) (record { classes = 256; singles = 256; pairs = 256; index = 256; blocks = 768 })

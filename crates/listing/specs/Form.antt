@@ -1,8 +1,8 @@
 -- Document 02, CR 3: the record of a line.
 use mathlib.Core.Bool.{Bool, true, false, not, _&&_, _||_}
 use mathlib.Core.List.{List, [], _∷_}
-use Prim.Native.Nat.{ℕ, zero, suc, _+_, _-_, _*_, _<_}
-use lib.Dec.{leb, ltb, eqb}
+use Prim.Native.Nat.{ℕ, zero, suc, _+_, _-_, _*_}
+use lib.Dec.{leb, eqb}
 use Rattle.codepage.specs.CodePage.{pick, entryAt}
 use Rattle.listing.specs.declared.Record.{Record}
 use Rattle.listing.specs.declared.Record.the-variants.{Page, Defaults, Single, Lead, Trail, Pair, Code, NoRecord}
@@ -11,6 +11,7 @@ use Rattle.listing.specs.declared.Record.the-variants.{Page, Defaults, S
 unfoldable pub isDigit : ℕ → Bool
 isDigit byte = leb 0x30 byte && leb byte 0x39
 
+-- `A` to `F`
 unfoldable pub isCapital : ℕ → Bool
 isCapital byte = leb 0x41 byte && leb byte 0x46
 
@@ -22,6 +23,7 @@ digit byte = pick (isDigit byte) (byte - 0x30) (pick (isCapital byte) (byte - 0x
 unfoldable pub byteAt : (line : List ℕ) → (place : ℕ) → ℕ
 byteAt line place = 16 * digit (entryAt line place) + digit (entryAt line (place + 1))
 
+-- a unit or a code of four digits
 unfoldable pub unitAt : (line : List ℕ) → (place : ℕ) → ℕ
 unitAt line place = 256 * byteAt line place + byteAt line (place + 2)
 
@@ -35,6 +37,7 @@ decimalAt (suc count) line place = 10 * decimalAt count line place + digit (entr
 abbrev pub hexSymbol : ℕ
 hexSymbol = 0x23
 
+-- a decimal digit
 abbrev pub decimalSymbol : ℕ
 decimalSymbol = 0x30
 
@@ -42,12 +45,15 @@ decimalSymbol = 0x30
 abbrev pub firstSymbol : ℕ
 firstSymbol = 0x31
 
+-- what parts the fields
 abbrev pub tab : ℕ
 tab = 0x09
 
+-- what closes a line
 abbrev pub lineFeed : ℕ
 lineFeed = 0x0A
 
+-- whether a byte is what a symbol stands for
 unfoldable pub fits : (symbol byte : ℕ) → Bool
 fits symbol byte =
     pick (eqb symbol hexSymbol) (isDigit byte || isCapital byte)
@@ -55,6 +61,7 @@ fits symbol byte =
     (pick (eqb symbol firstSymbol) (isDigit byte && not (eqb byte 0x30))
     (eqb byte symbol)))
 
+-- whether a line has a form, byte by byte
 unfoldable pub hasForm : (form line : List ℕ) → Bool
 hasForm [] [] = true
 hasForm [] (byte ∷ line) = false
@@ -103,6 +110,7 @@ pageForm more = 0x50 ∷ tab ∷ firstSymbol ∷ digitsForm more
 abbrev pub unlessNone : (right : ℕ) → Record → Record
 unlessNone right r = pick (eqb right 0xFFFF) NoRecord r
 
+-- a page of 16 bits
 abbrev pub smallPage : ℕ → Record
 smallPage page = pick (leb page 65535) (Page page) NoRecord
 

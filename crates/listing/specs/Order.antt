@@ -1,10 +1,8 @@
 -- Document 02, CR 3: the order of the records, and what has been read of a listing.
-use mathlib.Core.Bool.{Bool, true, false, not, _&&_, _||_}
-use mathlib.Core.List.{List}
-use Prim.Native.Nat.{ℕ, zero, suc, _+_, _-_, _*_, _/_, _%_}
+use mathlib.Core.Bool.{Bool, false, not, _&&_, _||_}
+use Prim.Native.Nat.{ℕ, _+_, _-_, _*_, _/_, _%_}
 use lib.Dec.{leb, ltb, eqb}
 use Rattle.codepage.specs.CodePage.{pick}
-use Rattle.codepage.specs.declared.Numbers.{Numbers}
 use Rattle.listing.specs.declared.Record.{Record}
 use Rattle.listing.specs.declared.Record.the-variants.{Page, Defaults, Single, Lead, Trail, Pair, Code, NoRecord}
 use Rattle.listing.specs.declared.Letter.{Letter}
@@ -75,6 +73,7 @@ onlyPage letter page =
 abbrev pub nothingRead : Progress
 nothingRead = onlyPage Start 0
 
+-- behind `P`: all sets are empty again
 abbrev pub afterPage : (page : ℕ) → Progress
 afterPage page = onlyPage P page
 

@@ -1,12 +1,10 @@
 -- Document 02, CR 3: the reader, line by line.
-use mathlib.Core.Bool.{Bool, true, false, not, _&&_}
+use mathlib.Core.Bool.{Bool, not, _&&_}
 use mathlib.Core.List.{List}
-use mathlib.Core.Path.{_≡_}
-use Prim.Native.Nat.{ℕ, zero, suc, _+_, _-_, _*_, _/_, _%_, _≤_}
-use lib.Dec.{leb, ltb, eqb}
+use Prim.Native.Nat.{ℕ, zero, suc, _+_, _-_, _*_, _/_, _%_}
+use lib.Dec.{leb, eqb}
 use lib.ListN.{length, set}
 use Rattle.codepage.specs.CodePage.{pick}
-use Rattle.codepage.specs.declared.Numbers.{Numbers}
 use Rattle.listing.specs.declared.Record.{Record}
 use Rattle.listing.specs.declared.Record.the-variants.{Page, Defaults, Single, Lead, Trail, Pair, Code, NoRecord}
 use Rattle.listing.specs.declared.Progress.{Progress}
@@ -29,6 +27,7 @@ pub record Tables : Type 0 where
   pub index : List ℕ
   pub blocks : List ℕ
 
+-- five lent tables as one
 abbrev pub tables : (classes singles pairs index blocks : List ℕ) → Tables
 tables classes singles pairs index blocks =
     record { classes = classes; singles = singles; pairs = pairs; index = index; blocks = blocks }
@@ -102,6 +101,7 @@ pub record Reading : Type 0 where
   pub answer : Read
   pub lent : Tables
 
+-- an answer with the tables after it
 abbrev pub reading : Read → Tables → Reading
 reading answer lent = record { answer = answer; lent = lent }
 
@@ -113,6 +113,7 @@ readRecord s r t =
     (pick (not (fit (sizesOf (after s r)) t)) (reading (Refused TooSmall) t)
     (reading (Accepted (after s r)) (changeOf s r t)))
 
+-- READING A LINE: that of its record.
 unfoldable pub readOf : Progress → (line : List ℕ) → Tables → Reading
 readOf s line t = readRecord s (recordOf line) t
 

@@ -24,6 +24,7 @@ fn fill_bytes(table: &mut [u8], at: usize, count: usize, value: u8)
     }
 }
 
+// The same in a table of units.
 fn fill_units(table: &mut [u16], at: usize, count: usize, value: u16)
     requires { ⌜ at + count ≤ length (now table) ⌝ }
     ensures { λ _. ⌜ now (table .exit) ≡ filled (now (table .entry)) at count value ⌝ }

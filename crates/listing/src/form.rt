@@ -1,4 +1,4 @@
-// The record of a line.
+// The record of a line. These are no public calls.
 ghost use mathlib.Core.Path.{_≡_};
 ghost use Prim.Native.Nat.{ℕ, _+_, _≤_, _<_};
 ghost use lib.ListN.{length};
@@ -30,6 +30,7 @@ const PAGE_4: [u8; 7] = *b"P\t1000\n";
 
 const PAGE_5: [u8; 8] = *b"P\t10000\n";
 
+// `0` to `9`.
 fn is_digit(byte: u8) -> bool
     ensures { λ r. ⌜ r ≡ isDigit byte ⌝ }
 {
@@ -39,6 +40,7 @@ fn is_digit(byte: u8) -> bool
     byte <= b'9'
 }
 
+// `A` to `F`.
 fn is_capital(byte: u8) -> bool
     ensures { λ r. ⌜ r ≡ isCapital byte ⌝ }
 {
@@ -149,6 +151,7 @@ fn page_at(line: &[u8], count: usize) -> Record
     Record::NoRecord
 }
 
+// The record `P` of a line: a page of one to five digits.
 fn page_of(line: &[u8]) -> Record
     ensures { λ r. ⌜ r ≡ pageOf (now (line .entry)) ⌝ }
 {

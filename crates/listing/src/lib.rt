@@ -1,4 +1,13 @@
-// A table listing, read line by line into lent tables. (Document 02, CR 3.)
+// A table listing, a table set as a text with one record a line, read line by line into lent tables. (Document 02, CR 3; docs/RULES.md,
+// "Listings".) Keep what `read_line` gives back, and give it to the next line; a refused line changes nothing, and another may be tried. The
+// end gives page, defaults and the sizes to cut the tables to.
+//
+//     let mut progress = Progress::new();
+//     // for each line, with its line feed:
+//     let read = listing::read_line(progress, line, classes, singles, pairs, index, blocks);
+//     // Read::Accepted(next): progress = next; or Read::Refused(why): why.number()
+//     let ended = listing::end(progress);
+//     // Ended::Whole(numbers, sizes), or Ended::Refused(why)
 mod change;
 pub mod form;
 mod order;

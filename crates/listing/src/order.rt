@@ -56,6 +56,7 @@ fn is_listed_lead(leads: Half, byte: u8) -> bool
     sets::in_half(leads, byte - 0x80)
 }
 
+// Whether an `L` may come next.
 fn accepts_lead(progress: Progress, byte: u8) -> bool
     ensures { λ r. ⌜ r ≡ accepts progress (Record.Lead byte) ⌝ }
 {
@@ -69,6 +70,7 @@ fn accepts_lead(progress: Progress, byte: u8) -> bool
     !sets::in_bytes(singles, byte)
 }
 
+// Whether an `M` may come next.
 fn accepts_pair(progress: Progress, code: u16, unit: u16) -> bool
     ensures { λ r. ⌜ r ≡ accepts progress (Record.Pair code unit) ⌝ }
 {

@@ -38,6 +38,7 @@ fn bits_below(word: u64, place: u8) -> usize
     ones_of(word & ((1u64 << place) - 1))
 }
 
+// Whether a place is in the set.
 pub fn in_half(half: Half, place: u8) -> bool
     requires { ⌜ place < 128 ⌝ }
     ensures { λ r. ⌜ r ≡ inHalf half place ⌝ }
@@ -48,6 +49,7 @@ pub fn in_half(half: Half, place: u8) -> bool
     bit_of(half.high, place - 64)
 }
 
+// The set with one place more.
 pub fn add_to_half(half: Half, place: u8) -> Half
     requires { ⌜ place < 128 ⌝ }
     ensures { λ r. ⌜ r ≡ addToHalf half place ⌝ }
@@ -82,6 +84,7 @@ pub fn below_in_half(half: Half, place: u8) -> usize
     ones_of(half.low) + bits_below(half.high, place - 64)
 }
 
+// Whether a byte is in the set.
 pub fn in_bytes(set: Bytes, byte: u8) -> bool
     ensures { λ r. ⌜ r ≡ inBytes set byte ⌝ }
 {
@@ -93,6 +96,7 @@ pub fn in_bytes(set: Bytes, byte: u8) -> bool
     in_half(high, byte - 0x80)
 }
 
+// The set with one byte more.
 pub fn add_to_bytes(set: Bytes, byte: u8) -> Bytes
     ensures { λ r. ⌜ r ≡ addToBytes set byte ⌝ }
 {

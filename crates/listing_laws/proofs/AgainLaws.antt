@@ -1,36 +1,34 @@
 -- WRITE AFTER READ: a whole listing that is accepted, written again, is the same lines.
-use mathlib.Core.Bool.{Bool, true, false, not, _&&_, false≢true, true≢false}
+use mathlib.Core.Bool.{Bool, true, false, false≢true, true≢false}
 use mathlib.Core.List.{List, [], _∷_, _++_, append-assoc, append-nil}
 use mathlib.Core.Path.{_≡_, refl, sym, ap, ap₂, _∙_, subst}
 use Prim.Native.Nat.{ℕ, zero, suc, _+_, _-_, _*_, _/_, _%_, _≤_, _<_}
 use native.Mathlib.Omega.{arith}
-use lib.Dec.{leb, ltb, eqb}
-use lib.ListN.{length, take}
+use lib.Dec.{ltb, eqb}
+use lib.ListN.{length}
 use lib.Seq.{length-take-le, getD-take}
-use borrow.Author.Tests.{leb-true, lt-ltb, le-ltb, ltb-true, ltb-false, eqb-true, eqb-false, ne-eqb, le-leb}
-use Rattle.codepage.specs.CodePage.{CodePage, GoodShape, codePage, pick, entryAt, isSingle, isLead, isTrail, leadsBelow}
+use borrow.Author.Tests.{ltb-true, ltb-false, eqb-true, ne-eqb}
+use Rattle.codepage.specs.CodePage.{CodePage, GoodShape, pick, entryAt, isSingle, isLead, isTrail, leadsBelow}
 use Rattle.codepage.specs.declared.Numbers.{Numbers}
 use Rattle.codepage_lookup.specs.Profile.{unitEntry}
 use Rattle.listing.specs.declared.Progress.{Progress}
 use Rattle.listing.specs.declared.Sizes.{Sizes}
 use Rattle.listing.specs.declared.Letter.{Letter}
 use Rattle.listing.specs.declared.Letter.the-variants.{Start, P, D, S, L, T, M, W}
-use Rattle.listing.specs.declared.Refusal.{Refusal}
-use Rattle.listing.specs.declared.Refusal.the-variants.{BadLine, TooSmall}
 use Rattle.listing.specs.declared.Read.{Read}
 use Rattle.listing.specs.declared.Read.the-variants.{Accepted, Refused}
 use Rattle.listing.specs.declared.Ended.the-variants as ended
 use Rattle.listing.specs.declared.Record.{Record}
 use Rattle.listing.specs.declared.Record.the-variants.{Page, Defaults, Single, Lead, Trail, Pair, Code, NoRecord}
 use Rattle.listing.specs.Sets.{countHalf}
-use Rattle.listing.specs.Form.{unlessNone, recordOf}
-use Rattle.listing.specs.Order.{nothingRead, rank, accepts, afterPage, after, sizesOf, blockCount, isListedLead}
+use Rattle.listing.specs.Form.{recordOf}
+use Rattle.listing.specs.Order.{nothingRead, rank, accepts, afterPage, after, sizesOf, blockCount}
 use Rattle.listing.specs.Steps.{Fits, Ready}
 use Rattle.listing.specs.Tables.{Tables, Reading, reading, filled, leadBlock, changeOf, fit, readOf, endOf}
 use Rattle.listing.specs.Whole.{readAll, thenRead}
 use Rattle.listing.proofs.ChangeLaws.{fit-known, code-room}
 use Rattle.lister.specs.Lines.{recordLine}
-use Rattle.lister.specs.Lister.{places, singleAt, leadAt, trailAt, pairAt, codeAt, recordAt, isRecord}
+use Rattle.lister.specs.Lister.{singleAt, leadAt, trailAt, pairAt, codeAt, recordAt, isRecord}
 use Rattle.lister.proofs.PlaceLaws.{pairs-inside}
 use Rattle.listing_laws.specs.Cut.{cutSet}
 use Rattle.listing_laws.specs.Round.{linesFrom, wholeListing}

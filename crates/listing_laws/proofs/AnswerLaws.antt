@@ -1,6 +1,6 @@
 -- Each answer of the reader and of the writer exactly in its case; a refused line leaves the tables as they were.
-use mathlib.Core.Bool.{Bool, true, false, not, false≢true, true≢false}
-use mathlib.Core.List.{List, []}
+use mathlib.Core.Bool.{Bool, true, false, true≢false}
+use mathlib.Core.List.{List}
 use mathlib.Core.Logic.{_⊎_, inl, inr, _↔_}
 use mathlib.Core.Path.{_≡_, refl, sym, ap, _∙_, subst}
 use Prim.Native.Nat.{ℕ, _+_, _≤_, _<_}
@@ -8,7 +8,7 @@ use native.Mathlib.Omega.{arith}
 use lib.Dec.{leb, ltb}
 use lib.ListN.{length}
 use borrow.Author.Tests.{le-leb, lt-leb, lt-ltb, le-ltb, leb-true, leb-false, ltb-true, ltb-false}
-use Rattle.codepage.specs.CodePage.{CodePage, GoodShape, pick, firstFault, isGood}
+use Rattle.codepage.specs.CodePage.{CodePage, GoodShape, firstFault, isGood}
 use Rattle.codepage.proofs.ShapeLaws.{shape-exact}
 use Rattle.codepage.specs.declared.Numbers.{Numbers}
 use Rattle.listing.specs.declared.Progress.{Progress}

@@ -4,9 +4,9 @@ use mathlib.Core.List.{List, [], _∷_, _++_}
 use mathlib.Core.Path.{_≡_, refl, sym, ap, ap₂, _∙_}
 use Prim.Native.Nat.{ℕ, zero, suc, _+_, _-_, _*_, _/_, _%_, _≤_, _<_}
 use native.Mathlib.Omega.{arith}
-use lib.Dec.{leb, ltb, eqb}
+use lib.Dec.{leb, eqb}
 use lib.ListN.{length}
-use borrow.Author.Tests.{lt-ltb, le-ltb, ltb-true, ltb-false, leb-true, le-leb, lt-leb, ne-eqb, eq-eqb, eqb-true, eqb-false, not-true}
+use borrow.Author.Tests.{lt-ltb, le-ltb, leb-true, le-leb, lt-leb, eqb-true}
 use Rattle.codepage.specs.CodePage.{pick, entryAt}
 use Rattle.codepage.proofs.ShapeLaws.{and-left, and-right}
 use Rattle.listing.specs.declared.Record.{Record}
@@ -273,6 +273,7 @@ unit-under line place = omega (arith, byte-under line place, byte-under line (pl
 right-page : (page : ℕ) → RightSome (smallPage page)
 right-page page = right-either (leb page 65535) (Page page) NoRecord tt tt
 
+-- what stands on the right of the record of a line
 pub right-some : (text : List ℕ) → RightSome (recordOf text)
 unfolding recordOf pageOf
 right-some text =

@@ -1,22 +1,19 @@
 -- Laws of the sets of bytes: what a set has after a byte was added, and how many it has.
-use mathlib.Core.Bool.{Bool, true, false, true≢false, false≢true}
-use mathlib.Core.Logic.{_⊎_, inl, inr}
+use mathlib.Core.Bool.{Bool, true, false}
 use mathlib.Core.Path.{_≡_, refl, sym, ap, ap₂, _∙_}
 use Prim.Native.Nat.{ℕ, zero, suc, _+_, _-_, _*_, _/_, _%_, _^_, _≤_, _<_}
-use native.Mathlib.Nat.{mod-lt, mod-eq-of-lt, div-eq-of-lt, pow-suc, mul-mod-left, add-comm}
-use native.Mathlib.Numerals.{add-one}
+use native.Mathlib.Nat.{mod-lt, mod-eq-of-lt, div-eq-of-lt, pow-suc, mul-mod-left}
 use native.Mathlib.Omega.{arith}
 use lib.Bits.{bitOr, or-step, or-shr, or-lt}
 use lib.Count.{ones, onesIn, ones-cat}
 use lib.Pow.{pow-pos, pow-lt, pow-add, shl-shr, mod-pow-add}
 use lib.Dec.{ltb, leb, eqb}
-use borrow.Author.Tests.{eqb-true, eqb-false, eq-eqb, ne-eqb, lt-ltb, le-ltb, ltb-true, ltb-false, leb-true, le-leb, lt-leb}
+use borrow.Author.Tests.{lt-ltb, le-ltb, ltb-true, ltb-false, leb-true, le-leb, lt-leb}
 use Rattle.codepage.specs.CodePage.{pick}
 use Rattle.listing.specs.declared.Half.{Half}
 use Rattle.listing.specs.declared.Bytes.{Bytes}
 use Rattle.listing.specs.Sets.{bit, withBit, inHalf, addToHalf, countHalf, emptyHalf, inBytes, addToBytes, emptyBytes}
 use Rattle.listing.specs.Order.{isListedLead, withLead}
-use Rattle.listing.proofs.SetLaws.{half-with}
 
 -- ---- another bit than the one that was set
 power-below : (j m : ℕ) → 2 ^ (suc m + j) / 2 ^ j % 2 ≡ 0
@@ -35,6 +32,7 @@ power-other j k ne = by-order (ltb j k) refl
         let less : k < j = omega (arith, ltb-false j k q) in
         ap (λ (n : ℕ). n % 2) (div-eq-of-lt (pow-lt less))
 
+-- a bit that is set changes no other
 pub bit-other : (word k j : ℕ) → (j ≡ k → ⊥) → bit (withBit word k) j ≡ bit word j
 unfolding withBit
 bit-other word k j ne =
@@ -42,9 +40,11 @@ bit-other word k j ne =
     let same : bitOr word (2 ^ k) / 2 ^ j % 2 ≡ word / 2 ^ j % 2 = omega (arith, apart, or-step (word / 2 ^ j) (2 ^ k / 2 ^ j), power-other j k ne) in
     ap (λ (n : ℕ). eqb n 1) same
 
+-- 0 has no bit
 pub bit-none : (k : ℕ) → bit 0 k ≡ false
 bit-none k = ap (λ (n : ℕ). eqb (n % 2) 1) (div-eq-of-lt (pow-pos k))
 
+-- a word with one bit more is a word
 pub with-small : (word k : ℕ) → word < 2 ^ 64 → k < 64 → withBit word k < 2 ^ 64
 unfolding withBit
 with-small word k h l = or-lt 64 word (2 ^ k) h (pow-lt l)
@@ -60,6 +60,7 @@ module _ (h : Half) (place other : ℕ) (ne : other ≡ place → ⊥) where
       by-words false q true r = rw (q, r)
       by-words false q false r = rw (q, r) (bit-other (h .high) (place - 64) (other - 64) (λ e. ne (omega (arith, ltb-false place 64 q, ltb-false other 64 r))))
 
+-- the empty set has no place
 pub half-none : (place : ℕ) → inHalf emptyHalf place ≡ false
 unfolding inHalf
 half-none place = by-word (ltb place 64) refl
@@ -68,6 +69,7 @@ half-none place = by-word (ltb place 64) refl
     by-word true q = rw q (bit-none place)
     by-word false q = rw q (bit-none (place - 64))
 
+-- the empty set has no byte
 pub bytes-none : (byte : ℕ) → inBytes emptyBytes byte ≡ false
 unfolding inBytes
 bytes-none byte = by-half (ltb byte 0x80) refl
@@ -87,6 +89,7 @@ module _ (s : Bytes) (byte other : ℕ) (ne : other ≡ byte → ⊥) where
       by-halves false q true r = rw (q, r)
       by-halves false q false r = rw (q, r) (half-other (s .high) (byte - 0x80) (other - 0x80) (λ e. ne (omega (arith, ltb-false byte 0x80 q, ltb-false other 0x80 r))))
 
+-- a lead that is listed lists no other
 pub lead-other : (leads : Half) (byte other : ℕ) → (other ≡ byte → ⊥) → isListedLead (withLead leads byte) other ≡ isListedLead leads other
 unfolding isListedLead withLead
 lead-other leads byte other ne = by-halves (ltb byte 0x80) refl (leb 0x80 other) refl
@@ -102,16 +105,19 @@ unfoldable pub tally : (ℕ → Bool) → ℕ → ℕ
 tally f zero = 0
 tally f (suc n) = pick (f n) (suc (tally f n)) (tally f n)
 
+-- equal tests are counted alike
 pub tally-same : (f g : ℕ → Bool) (n : ℕ) → ((i : ℕ) → i < n → f i ≡ g i) → tally f n ≡ tally g n
 unfolding tally
 tally-same f g zero e = refl
 tally-same f g (suc n) e = ap₂ (λ (t : Bool) (m : ℕ). pick t (suc m) m) (e n (omega arith)) (tally-same f g n (λ i h. e i (omega arith)))
 
+-- a test that never holds counts none
 pub tally-none : (f : ℕ → Bool) (n : ℕ) → ((i : ℕ) → i < n → f i ≡ false) → tally f n ≡ 0
 unfolding tally
 tally-none f zero e = refl
 tally-none f (suc n) e = rw (e n (omega arith)) (tally-none f n (λ i h. e i (omega arith)))
 
+-- a count is that of its two parts
 pub tally-split : (f : ℕ → Bool) (m n : ℕ) → tally f (m + n) ≡ tally f m + tally (λ i. f (m + i)) n
 unfolding tally
 tally-split f m zero = let e : m + 0 ≡ m = omega arith in let g : tally f m ≡ tally f m + 0 = omega arith in ap (tally f) e ∙ g
@@ -123,6 +129,7 @@ tally-split f m (suc n) =
     by-test true = omega arith
     by-test false = refl
 
+-- a count is at most how many are asked
 pub tally-le : (f : ℕ → Bool) (n : ℕ) → tally f n ≤ n
 unfolding tally
 tally-le f zero = omega arith
@@ -146,6 +153,7 @@ word-more word k =
     ∙ ones-cat k (word / 2 ^ k % 2) (word % 2 ^ k) (mod-lt word (pow-pos k))
     ∙ ap (λ (n : ℕ). n + ones (word % 2 ^ k)) (digit-count (word / 2 ^ k % 2) (omega arith))
 
+-- the ones below a place are its bits, counted
 pub word-tally : (word k : ℕ) → ones (word % 2 ^ k) ≡ tally (bit word) k
 unfolding tally
 word-tally word zero = let e : word % 1 ≡ 0 = omega arith in ap ones e ∙ digit-count 0 (omega arith)
@@ -156,6 +164,7 @@ word-tally word (suc k) = word-more word k ∙ by-digit (word / 2 ^ k % 2) (omeg
     by-digit (suc zero) h e = omega (arith, e)
     by-digit (suc (suc d)) h e = absurd (omega arith)
 
+-- so is a set of 128
 pub half-tally : (h : Half) → h .low < 2 ^ 64 → h .high < 2 ^ 64 → countHalf h ≡ tally (inHalf h) 128
 unfolding countHalf inHalf
 half-tally h l k =
@@ -168,6 +177,7 @@ half-tally h l k =
     shifted : (i : ℕ) → inHalf h (64 + i) ≡ bit (h .high) i
     shifted i = let e : 64 + i - 64 ≡ i = omega arith in rw (le-ltb (64 + i) 64 (omega arith), e)
 
+-- so are the listed leads
 pub lead-tally : (h : Half) → h .low < 2 ^ 64 → h .high < 2 ^ 64 → countHalf h ≡ tally (isListedLead h) 256
 unfolding isListedLead
 lead-tally h l k =

@@ -1,15 +1,13 @@
 -- A lead's block as listed is its block in the table set.
 use mathlib.Core.Bool.{Bool, true, false, _&&_}
-use mathlib.Core.List.{List}
 use mathlib.Core.Path.{_≡_, refl, sym, ap, _∙_}
-use Prim.Native.Nat.{ℕ, zero, suc, _+_, _-_, _*_, _/_, _%_, _^_, _≤_, _<_}
+use Prim.Native.Nat.{ℕ, _+_, _-_, _^_, _≤_, _<_}
 use native.Mathlib.Nat.{mod-eq-of-lt}
 use native.Mathlib.Omega.{arith}
 use lib.Count.{ones}
-use lib.Dec.{ltb, leb, eqb}
-use lib.ListN.{length}
+use lib.Dec.{ltb}
 use borrow.Author.Tests.{lt-ltb, le-ltb, ltb-true, ltb-false, le-leb, lt-leb}
-use Rattle.codepage.specs.CodePage.{CodePage, GoodShape, pick, entryAt, isLead, leadsBelow}
+use Rattle.codepage.specs.CodePage.{CodePage, GoodShape, entryAt, isLead, leadsBelow}
 use Rattle.listing.specs.declared.Half.{Half}
 use Rattle.listing.specs.declared.Progress.{Progress}
 use Rattle.listing.specs.Sets.{bit, bitsBelow, inHalf, belowInHalf}
@@ -19,6 +17,7 @@ use Rattle.listing_laws.proofs.BitLaws.{tally, tally-same, tally-none, 
 use Rattle.listing_laws.proofs.WholeLaws.{leads-tally}
 use Rattle.listing_laws.proofs.RoundLaws.{Before}
 
+-- those below a place, counted
 pub below-tally : (h : Half) → h .low < 2 ^ 64 → (place : ℕ) → belowInHalf h place ≡ tally (inHalf h) place
 unfolding belowInHalf inHalf bitsBelow
 below-tally h small place = by-word (ltb place 64) refl
@@ -37,6 +36,7 @@ below-tally h small place = by-word (ltb place 64) refl
         let whole : 64 + (place - 64) ≡ place = omega (arith, ltb-false place 64 q) in
         rw q (omega (arith, first, word-tally (h .high) (place - 64), rest, tally-split (inHalf h) 64 (place - 64), ap (tally (inHalf h)) whole))
 
+-- the same over all bytes below a lead
 pub listed-tally : (h : Half) (lead : ℕ) → 0x80 ≤ lead → tally (inHalf h) (lead - 0x80) ≡ tally (isListedLead h) lead
 unfolding isListedLead
 listed-tally h lead high =

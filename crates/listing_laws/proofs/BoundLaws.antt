@@ -1,11 +1,10 @@
 -- What is known of the values of every record.
-use mathlib.Core.Bool.{Bool, true, false, not, _&&_, _||_, false≢true}
+use mathlib.Core.Bool.{Bool, true, false, not, _&&_, false≢true}
 use mathlib.Core.List.{List, [], _∷_}
-use mathlib.Core.Path.{_≡_, refl, sym, ap, _∙_}
-use Prim.Native.Nat.{ℕ, zero, suc, _+_, _-_, _*_, _≤_, _<_}
+use mathlib.Core.Path.{_≡_, refl, sym, _∙_}
+use Prim.Native.Nat.{ℕ, zero, suc, _+_, _-_, _≤_, _<_}
 use native.Mathlib.Omega.{arith}
 use lib.Dec.{leb, eqb}
-use lib.ListN.{length, getD}
 use borrow.Author.Tests.{leb-true, eqb-false, not-true}
 use Rattle.codepage.specs.CodePage.{pick, entryAt}
 use Rattle.listing.specs.declared.Record.{Record}
@@ -28,6 +27,7 @@ either : (t : Bool) (a b : Record) → (t ≡ true → Bounded a) → Bounded b 
 either true a b x y = x refl
 either false a b x y = y
 
+-- a digit is below 16
 pub digit-small : (byte : ℕ) → digit byte < 16
 unfolding digit isDigit isCapital
 digit-small byte = by-case (leb 0x30 byte) refl (leb byte 0x39) refl (leb 0x41 byte) refl (leb byte 0x46) refl
@@ -84,6 +84,7 @@ page-bounded line more e =
 none-bounded : (right : ℕ) (r : Record) → Bounded r → Bounded (unlessNone right r)
 none-bounded right r b = either (eqb right 0xFFFF) NoRecord r (λ t. tt) b
 
+-- the record of every line is bounded
 pub bounded : (line : List ℕ) → Bounded (recordOf line)
 unfolding recordOf pageOf
 bounded line =

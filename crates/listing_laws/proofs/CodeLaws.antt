@@ -1,22 +1,18 @@
 -- The codes of units, line by line: blocks are numbered as they come, and a `W` record changes the code of its unit alone.
-use mathlib.Core.Bool.{Bool, true, false, not, _&&_, false≢true, true≢false}
-use mathlib.Core.List.{List}
-use mathlib.Core.Path.{_≡_, refl, sym, ap, ap₂, _∙_, subst}
-use Prim.Native.Nat.{ℕ, zero, suc, _+_, _-_, _*_, _/_, _%_, _≤_, _<_}
+use mathlib.Core.Bool.{Bool, true, false, _&&_, false≢true}
+use mathlib.Core.Path.{_≡_, refl, sym, ap, _∙_, subst}
+use Prim.Native.Nat.{ℕ, _+_, _-_, _*_, _/_, _%_, _≤_, _<_}
 use native.Mathlib.Omega.{arith}
-use lib.Dec.{leb, ltb, eqb}
-use lib.ListN.{length, set}
-use borrow.Author.Tests.{eqb-true, eqb-false, eq-eqb, ne-eqb, not-true}
-use Rattle.codepage.specs.CodePage.{pick, entryAt}
-use Rattle.codepage.proofs.ShapeLaws.{and-left, and-right}
+use lib.Dec.{eqb}
+use lib.ListN.{length}
+use borrow.Author.Tests.{eqb-true, eqb-false, eq-eqb, ne-eqb}
+use Rattle.codepage.specs.CodePage.{pick}
 use Rattle.codepage_lookup.specs.Profile.{unitEntry}
 use Rattle.listing.specs.declared.Progress.{Progress}
-use Rattle.listing.specs.declared.Letter.{Letter}
 use Rattle.listing.specs.declared.Letter.the-variants.{S, L, T, M, W}
 use Rattle.listing.specs.declared.Record.{Record}
 use Rattle.listing.specs.declared.Record.the-variants.{Page, Defaults, Single, Lead, Trail, Pair, Code, NoRecord}
-use Rattle.listing.specs.Sets.{inBytes}
-use Rattle.listing.specs.Order.{rank, follows, isListedLead, accepts, isNewHigh, codeBlock, after}
+use Rattle.listing.specs.Order.{rank, follows, accepts, isNewHigh, codeBlock, after}
 use Rattle.listing.specs.Tables.{Tables, filled, opened, changeOf}
 use Rattle.listing_laws.proofs.FilledLaws.{filled-front}
 use Rattle.listing_laws.proofs.NumberLaws.{Numbered, numbered-on, numbered-none, OneChanged, same-half, same-changed, block-small, new-half, new-changed, last-half, last-changed}
@@ -99,6 +95,7 @@ module _ (s : Progress) (t : Tables) (n : NumberedBy s t) (unit code : ℕ) (sma
       here : Numbered true (unit / 256) (s .block) (t .index) (t .blocks)
       here = subst (λ (x : ℕ). Numbered true x (s .block) (t .index) (t .blocks)) same (subst (λ (x : Bool). Numbered x (s .key / 256) (s .block) (t .index) (t .blocks)) late n)
 
+  -- a `W` record, the first of its high half or not
   pub code-put : CodePut s t unit code
   unfolding isNewHigh
   code-put = by-letter (eqb (rank (s .letter)) 7) refl (eqb (s .key / 256) (unit / 256)) refl
@@ -117,6 +114,7 @@ module _ (s : Progress) (t : Tables) where
   early : (key : ℕ) → rank (s .letter) ≤ 6 → NumberedBy s t → Numbered false key (s .block) (t .index) (t .blocks)
   early key h n = numbered-on (s .key / 256) key (s .block) (t .index) (t .blocks) (subst (λ (x : Bool). Numbered x (s .key / 256) (s .block) (t .index) (t .blocks)) (ne-eqb (rank (s .letter)) 7 (λ e. omega arith)) n)
 
+  -- every record keeps the numbers
   pub number-record : (r : Record) → accepts s r ≡ true → ((1 ≤ rank (s .letter)) → NumberedBy s t) → 256 ≤ length (t .index) → 256 ≤ length (t .blocks)
       → ((unit code : ℕ) → r ≡ Code unit code → (unit < 65536) × (256 * codeBlock s unit + 256 ≤ length (t .blocks))) → NumberedBy (after s r) (changeOf s r t)
   number-record (Page page) e n wide long room = numbered-none 0 (filled (t .index) 0 256 0) (filled (t .blocks) 0 256 0xFFFF) (λ i h. filled-front (t .index) 256 0 i h wide) (λ i h. filled-front (t .blocks) 256 0xFFFF i h long)

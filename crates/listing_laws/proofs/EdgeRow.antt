@@ -1,15 +1,11 @@
 -- The edge of the blocks, worked: 254, 255 and 256 high halves.
-use mathlib.Core.Bool.{Bool, true, false, not, _&&_}
+use mathlib.Core.Bool.{true, false, not}
 use mathlib.Core.Path.{_≡_, refl, sym, ap, _∙_}
-use Prim.Native.Nat.{ℕ, zero, suc, _+_, _*_, _/_, _%_, _≤_, _<_}
+use Prim.Native.Nat.{ℕ, zero, suc, _+_, _*_, _/_, _≤_}
 use native.Mathlib.Omega.{arith}
-use lib.Dec.{eqb}
 use borrow.Author.Tests.{eq-eqb, ne-eqb}
-use Rattle.codepage.specs.CodePage.{pick}
 use Rattle.listing.specs.declared.Progress.{Progress}
-use Rattle.listing.specs.declared.Letter.the-variants.{W}
-use Rattle.listing.specs.declared.Record.the-variants.{Code}
-use Rattle.listing.specs.Order.{rank, after, isNewHigh, codeBlock, blockCount, sizesOf}
+use Rattle.listing.specs.Order.{rank, isNewHigh, codeBlock, blockCount, sizesOf}
 use Rattle.listing_laws.specs.Edge.{halvesRead}
 
 -- each high half is new
@@ -64,6 +60,7 @@ same-FF : codeBlock (halvesRead 256) 0xFF01 ≡ 0
 unfolding codeBlock
 same-FF = rw still-FF last-number
 
+-- The edge holds.
 pub edge : Edge
 edge =
     record {

@@ -1,17 +1,15 @@
 -- Document 02, CR 3: the whole example, read and written again.
-use mathlib.Core.List.{List}
-use mathlib.Core.Path.{_≡_, refl, sym, ap, ap₂, _∙_}
+use mathlib.Core.Path.{_≡_, refl, ap₂}
 use Prim.Native.Nat.{ℕ}
 use native.Mathlib.Omega.{arith}
 use Rattle.codepage.specs.declared.Numbers.{Numbers}
-use Rattle.listing.specs.declared.Progress.{Progress}
 use Rattle.listing.specs.declared.Sizes.{Sizes}
 use Rattle.listing.specs.declared.Refusal.{Refusal}
 use Rattle.listing.specs.declared.Read.{Read}
 use Rattle.listing.specs.declared.Read.the-variants.{Accepted, Refused}
 use Rattle.listing.specs.declared.Ended.the-variants as ended
 use Rattle.listing.specs.Order.{nothingRead}
-use Rattle.listing.specs.Tables.{Tables, Reading, reading, endOf}
+use Rattle.listing.specs.Tables.{reading, endOf}
 use Rattle.listing.specs.Whole.{readAll}
 use Rattle.listing.specs.Example.{exampleLines, exampleRoom, exampleTables, exampleEnd}
 use Rattle.listing.proofs.ExampleRow.{example-tables, example-end}

@@ -12,6 +12,7 @@ use Rattle.codepage.specs.CodePage.{entryAt}
 use Rattle.listing.specs.Tables.{filled}
 use Rattle.listing.proofs.TableLaws.{filled-length}
 
+-- inside the filled part
 pub filled-in : (table : List ℕ) (place count value i : ℕ) → i < count → place + count ≤ length table → entryAt (filled table place count value) (place + i) ≡ value
 unfolding filled
 filled-in table place zero value i h l = absurd (omega arith)
@@ -25,6 +26,7 @@ filled-in table place (suc count) value i h l = by-place (eqb i count) refl (λ 
     by-place false q more =
         getD-set-other (filled table place count value) (place + count) (place + i) value 0 (λ e. eqb-false i count q (omega arith)) ∙ more (omega (arith, eqb-false i count q))
 
+-- before it
 pub filled-out : (table : List ℕ) (place count value i : ℕ) → i < place → entryAt (filled table place count value) i ≡ entryAt table i
 unfolding filled
 filled-out table place zero value i h = refl

@@ -1,27 +1,23 @@
 -- What the tables hold after each accepted line.
 use mathlib.Core.Bool.{Bool, true, false, not, _&&_, _||_, false≢true, true≢false}
-use mathlib.Core.List.{List, [], _∷_}
-use mathlib.Core.Path.{_≡_, refl, sym, ap, ap₂, _∙_, subst}
-use Prim.Native.Nat.{ℕ, zero, suc, _+_, _-_, _*_, _/_, _%_, _^_, _≤_, _<_}
-use native.Mathlib.Nat.{add-zero}
+use mathlib.Core.List.{List}
+use mathlib.Core.Path.{_≡_, refl, sym, ap, _∙_, subst}
+use Prim.Native.Nat.{ℕ, _+_, _-_, _/_, _%_, _^_, _≤_, _<_}
 use native.Mathlib.Omega.{arith}
 use lib.Dec.{leb, ltb, eqb}
-use lib.ListN.{length, getD, set, length-set}
+use lib.ListN.{length, getD, set}
 use lib.Seq.{getD-set-same, getD-set-other}
-use borrow.Author.Tests.{leb-true, ltb-true, eqb-true, eqb-false, eq-eqb, ne-eqb, le-ltb, lt-leb, le-leb, not-true}
+use borrow.Author.Tests.{leb-true, ltb-true, eqb-true, eqb-false, eq-eqb, ne-eqb, le-ltb}
 use Rattle.codepage.specs.CodePage.{pick, entryAt}
-use Rattle.listing.specs.declared.Half.{Half}
 use Rattle.listing.specs.declared.Progress.{Progress}
 use Rattle.listing.specs.declared.Letter.{Letter}
-use Rattle.listing.specs.declared.Letter.the-variants.{Start, P, D, S, L, T, M, W}
-use Rattle.listing.specs.declared.Record.{Record}
-use Rattle.listing.specs.declared.Record.the-variants.{Page, Defaults, Single, Lead, Trail, Pair, Code, NoRecord}
-use Rattle.listing.specs.Sets.{inBytes, addToBytes, inHalf, addToHalf, emptyHalf, emptyBytes}
-use Rattle.listing.specs.Order.{rank, follows, isListedLead, accepts, isNewHigh, codeBlock, withLead, afterPage, after, blockCount, sizesOf, kindOf, classOf}
-use Rattle.listing.specs.Tables.{Tables, tables, filled, opened, leadBlock, changeOf}
+use Rattle.listing.specs.declared.Letter.the-variants.{S, L, T, M, W}
+use Rattle.listing.specs.declared.Record.the-variants.{Page, Defaults, Single, Lead, Trail, Pair, Code}
+use Rattle.listing.specs.Sets.{inBytes, addToHalf, emptyHalf}
+use Rattle.listing.specs.Order.{rank, follows, isListedLead, accepts, isNewHigh, codeBlock, withLead, afterPage, after, blockCount, classOf}
+use Rattle.listing.specs.Tables.{Tables, changeOf}
 use Rattle.codepage.proofs.ShapeLaws.{and-left, and-right}
 use Rattle.listing_laws.proofs.BitLaws.{half-none, bytes-none, bytes-other, lead-other, with-small}
-use Rattle.listing_laws.proofs.BoundLaws.{Bounded}
 use Rattle.listing_laws.proofs.FilledLaws.{filled-front}
 
 -- ---- what holds once `P` was read
@@ -54,10 +50,12 @@ pub count-early : (s : Progress) → (rank (s .letter) ≡ 7 → ⊥) → blockC
 unfolding blockCount
 count-early s ne = rw (ne-eqb (rank (s .letter)) 7 ne)
 
+-- while every high half has a number
 pub count-late : (s : Progress) → rank (s .letter) ≡ 7 → (s .block ≡ 0 → ⊥) → blockCount s ≡ s .block + 1
 unfolding blockCount
 count-late s e ne = rw (eq-eqb (rank (s .letter)) 7 e, ne-eqb (s .block) 0 ne)
 
+-- once the 256th took block 0
 pub count-full : (s : Progress) → rank (s .letter) ≡ 7 → s .block ≡ 0 → blockCount s ≡ 256
 unfolding blockCount
 count-full s e z = rw (eq-eqb (rank (s .letter)) 7 e, eq-eqb (s .block) 0 z)
@@ -77,6 +75,7 @@ or-cases false true true e f = (refl, refl)
 or-cases false true false e f = absurd (false≢true e)
 or-cases false false c e f = absurd (false≢true e)
 
+-- letters come in their order
 pub follows-order : (s : Progress) (letter : Letter) (key : ℕ) → follows s letter key ≡ true → rank (s .letter) ≤ rank letter
 unfolding follows
 follows-order s letter key e = by-order (ltb (rank (s .letter)) (rank letter)) refl
@@ -88,6 +87,7 @@ follows-order s letter key e = by-order (ltb (rank (s .letter)) (rank letter)) r
     by-order true q = omega (arith, ltb-true (rank (s .letter)) (rank letter) q)
     by-order false q = omega (arith, eqb-true (rank (s .letter)) (rank letter) (or-cases (ltb (rank (s .letter)) (rank letter)) (eqb (rank (s .letter)) (rank letter)) (ltb (s .key) key) rest q .0))
 
+-- keys rise within a letter
 pub follows-key : (s : Progress) (letter : Letter) (key : ℕ) → follows s letter key ≡ true → rank (s .letter) ≡ rank letter → s .key < key
 unfolding follows
 follows-key s letter key e same = ltb-true (s .key) key (or-cases (ltb (rank (s .letter)) (rank letter)) (eqb (rank (s .letter)) (rank letter)) (ltb (s .key) key) rest (le-ltb (rank (s .letter)) (rank letter) (omega arith)) .1)
@@ -99,6 +99,7 @@ follows-key s letter key e same = ltb-true (s .key) key (or-cases (ltb (rank (s 
 pub lead-follows : (s : Progress) (byte : ℕ) → accepts s (Lead byte) ≡ true → follows s L byte ≡ true
 lead-follows s byte e = and-left (follows s L byte) (leb 0x80 byte) (and-left (follows s L byte && leb 0x80 byte) (not (inBytes (s .singles) byte)) e)
 
+-- the same of a pair
 pub pair-follows : (s : Progress) (code unit : ℕ) → accepts s (Pair code unit) ≡ true → follows s M code ≡ true
 pair-follows s code unit e = and-left (follows s M code) (isListedLead (s .leads) (code / 256)) (and-left (follows s M code && isListedLead (s .leads) (code / 256)) (inBytes (s .trails) (code % 256)) e)
 
@@ -114,6 +115,7 @@ lead-none byte = ap (λ (t : Bool). leb 0x80 byte && t) (half-none (byte - 0x80)
 no-class : (page byte : ℕ) → classOf (afterPage page) byte ≡ 0
 no-class page byte = rw (bytes-none byte, lead-none byte)
 
+-- `P`
 pub hold-page : (s : Progress) (page : ℕ) (t : Tables) → (page ≡ 0 → ⊥) → 256 ≤ length (t .classes) → 256 ≤ length (t .index) → Holds (afterPage page) (changeOf s (Page page) t)
 unfolding blockCount
 hold-page s page t ne long wide =
@@ -145,22 +147,26 @@ module _ (s n : Progress) (t u : Tables) (held : Holds s t) (early : rank (s .le
       }
 
 module _ (s : Progress) (t : Tables) (held : Holds s t) where
+  -- `D`
   pub hold-defaults : (byte unit : ℕ) → accepts s (Defaults byte unit) ≡ true → Holds (after s (Defaults byte unit)) (changeOf s (Defaults byte unit) t)
   hold-defaults byte unit e =
       plain s (after s (Defaults byte unit)) t t held (omega (arith, eqb-true (rank (s .letter)) 1 e)) (omega arith) refl refl refl (held .classes) (held .low-word) (held .high-word)
 
+  -- `S`
   pub hold-single : (byte unit : ℕ) → byte < 256 → 256 ≤ length (t .classes) → accepts s (Single byte unit) ≡ true → Holds (after s (Single byte unit)) (changeOf s (Single byte unit) t)
   hold-single byte unit small long e =
       plain s (after s (Single byte unit)) t (changeOf s (Single byte unit) t) held (omega (arith, follows-order s S byte e)) (omega arith) refl refl refl
       (classes-set (t .classes) long s (after s (Single byte unit)) byte small (held .classes) (λ b ne. rw (bytes-other (s .singles) byte b ne)))
       (held .low-word) (held .high-word)
 
+  -- `T`
   pub hold-trail : (byte : ℕ) → byte < 256 → 256 ≤ length (t .classes) → accepts s (Trail byte) ≡ true → Holds (after s (Trail byte)) (changeOf s (Trail byte) t)
   hold-trail byte small long e =
       plain s (after s (Trail byte)) t (changeOf s (Trail byte) t) held (omega (arith, follows-order s T byte e)) (omega arith) refl refl refl
       (classes-set (t .classes) long s (after s (Trail byte)) byte small (held .classes) (λ b ne. rw (bytes-other (s .trails) byte b ne)))
       (held .low-word) (held .high-word)
 
+  -- `M`
   pub hold-pair : (code unit : ℕ) → accepts s (Pair code unit) ≡ true → Holds (after s (Pair code unit)) (changeOf s (Pair code unit) t)
   hold-pair code unit e =
       plain s (after s (Pair code unit)) t (changeOf s (Pair code unit) t) held (omega (arith, follows-order s M code (pair-follows s code unit e))) (omega arith) refl refl refl (held .classes) (held .low-word) (held .high-word)
@@ -174,6 +180,7 @@ module _ (s : Progress) (t : Tables) (held : Holds s t) where
       by-half false q true r = rw (q, r) (with-small (s .leads .low) (byte - 0x80) (held .low-word) (ltb-true (byte - 0x80) 64 r), held .high-word)
       by-half false q false r = rw (q, r) (held .low-word, with-small (s .leads .high) (byte - 0x80 - 64) (held .high-word) (omega arith))
 
+  -- `L`
   pub hold-lead : (byte : ℕ) → byte < 256 → 256 ≤ length (t .classes) → accepts s (Lead byte) ≡ true → Holds (after s (Lead byte)) (changeOf s (Lead byte) t)
   hold-lead byte small long e =
       plain s (after s (Lead byte)) t (changeOf s (Lead byte) t) held (omega (arith, follows-order s L byte (lead-follows s byte e))) (omega arith) refl refl refl
@@ -239,6 +246,7 @@ module _ (s : Progress) (t : Tables) (held : Holds s t) where
           during = λ w. (λ z. omega (arith, held .during seven .0 z, same), omega (arith, held .during seven .1, same));
         })
 
+    -- `W`
     pub hold-code : Holds (after s (Code unit code)) (changeOf s (Code unit code) t)
     unfolding isNewHigh
     hold-code = by-letter (eqb (rank (s .letter)) 7) refl (eqb (s .key / 256) (unit / 256)) refl

@@ -1,16 +1,13 @@
 -- Each line is read back as its record.
-use mathlib.Core.Bool.{Bool, true, false, not, _&&_, _||_}
-use mathlib.Core.List.{List, [], _∷_, _++_}
-use mathlib.Core.Path.{_≡_, refl, sym, ap, ap₂, _∙_}
-use Prim.Native.Nat.{ℕ, zero, suc, _+_, _-_, _*_, _/_, _%_, _≤_, _<_}
+use mathlib.Core.Bool.{Bool, true, false, _&&_}
+use mathlib.Core.List.{List, [], _∷_}
+use mathlib.Core.Path.{_≡_, refl, ap, _∙_}
+use Prim.Native.Nat.{ℕ, _+_, _-_, _*_, _/_, _%_, _≤_, _<_}
 use native.Mathlib.Omega.{arith}
 use lib.Dec.{leb, ltb, eqb}
-use lib.ListN.{length}
-use borrow.Author.Tests.{lt-ltb, le-ltb, ltb-true, ltb-false, le-leb, lt-leb, ne-eqb, eq-eqb, eqb-true, eqb-false}
-use Rattle.codepage.specs.CodePage.{pick, entryAt}
-use Rattle.listing.specs.declared.Record.{Record}
-use Rattle.listing.specs.declared.Record.the-variants.{Page, Defaults, Single, Lead, Trail, Pair, Code, NoRecord}
-use Rattle.listing.specs.Form.{isDigit, isCapital, digit, byteAt, unitAt, decimalAt, fits, hasForm, digitsForm, pageForm, codeForm, pairForm, singleForm, bareForm, trailForm, leadForm, defaultsForm, unlessNone, smallPage, pageOf, recordOf}
+use borrow.Author.Tests.{ltb-true, ltb-false, le-leb, lt-leb, ne-eqb, eq-eqb, eqb-true}
+use Rattle.listing.specs.declared.Record.the-variants.{Page, Defaults, Single, Lead, Trail, Pair, Code}
+use Rattle.listing.specs.Form.{isDigit, isCapital, digit, byteAt, unitAt, decimalAt, fits, hasForm, pageForm, codeForm, pairForm, singleForm, bareForm, trailForm, leadForm, defaultsForm, smallPage, pageOf, recordOf}
 use Rattle.listing.proofs.FormLaws.{form-other}
 use Rattle.lister.proofs.LineLaws.{page-1, page-2, page-3, page-4, page-5}
 use Rattle.lister.specs.Lines.{hexByte, byteText, unitText, decimalText, pageText, singleText, line, line₂, recordLine}
@@ -102,6 +99,7 @@ read-code unit code h k ne =
     let form : hasForm codeForm (recordLine (Code unit code)) ≡ true = with-letter 0x57 _ _ (itself 0x57 refl refl refl) (unit-form _ _ unit h (with-tab _ _ (unit-form _ _ code k closed))) in
     rw (form, unit-value code k, unit-value unit h, ne-eqb code 0xFFFF ne)
 
+-- `M` is read back
 pub read-pair : (code unit : ℕ) → code < 65536 → unit < 65536 → (unit ≡ 0xFFFF → ⊥) → recordOf (recordLine (Pair code unit)) ≡ Pair code unit
 unfolding recordOf unitAt byteAt
 read-pair code unit h k ne =
@@ -109,6 +107,7 @@ read-pair code unit h k ne =
     let a : hasForm codeForm (recordLine (Pair code unit)) ≡ false = other 0x57 0x4D _ _ refl refl refl refl in
     rw (a, form, unit-value unit k, unit-value code h, ne-eqb unit 0xFFFF ne)
 
+-- `S` is read back
 pub read-single : (byte unit : ℕ) → byte < 256 → unit < 65536 → recordOf (recordLine (Single byte unit)) ≡ Single byte unit
 unfolding recordOf unitAt byteAt singleText
 read-single byte unit h k = by-unit (eqb unit 0xFFFF) refl
@@ -126,6 +125,7 @@ read-single byte unit h k = by-unit (eqb unit 0xFFFF) refl
         let b : hasForm pairForm (line₂ 0x53 (byteText byte) (unitText unit)) ≡ false = other 0x4D 0x53 _ _ refl refl refl refl in
         rw (q, a, b, form, unit-value unit k, byte-value byte h, q)
 
+-- `T` is read back
 pub read-trail : (byte : ℕ) → byte < 256 → recordOf (recordLine (Trail byte)) ≡ Trail byte
 unfolding recordOf byteAt
 read-trail byte h =
@@ -136,6 +136,7 @@ read-trail byte h =
     let d : hasForm bareForm (recordLine (Trail byte)) ≡ false = other 0x53 0x54 _ _ refl refl refl refl in
     rw (a, b, c, d, form, byte-value byte h)
 
+-- `L` is read back
 pub read-lead : (byte : ℕ) → byte < 256 → recordOf (recordLine (Lead byte)) ≡ Lead byte
 unfolding recordOf byteAt
 read-lead byte h =
@@ -147,6 +148,7 @@ read-lead byte h =
     let e : hasForm trailForm (recordLine (Lead byte)) ≡ false = other 0x54 0x4C _ _ refl refl refl refl in
     rw (a, b, c, d, e, form, byte-value byte h)
 
+-- `D` is read back
 pub read-defaults : (byte unit : ℕ) → byte < 256 → unit < 65536 → recordOf (recordLine (Defaults byte unit)) ≡ Defaults byte unit
 unfolding recordOf unitAt byteAt
 read-defaults byte unit h k =
@@ -245,6 +247,7 @@ module _ (page : ℕ) (most : page ≤ 65535) where
       let value : decimalAt 5 (line 0x50 (decimalText 5 page)) 2 ≡ page = omega (arith, dec-known (page / 10 / 10 / 10 / 10 % 10) (omega arith) .1, dec-known (page / 10 / 10 / 10 % 10) (omega arith) .1, dec-known (page / 10 / 10 % 10) (omega arith) .1, dec-known (page / 10 % 10) (omega arith) .1, dec-known (page % 10) (omega arith) .1) in
       rw (a, b, c, d, form) (ap smallPage value ∙ small)
 
+-- `P` is read back
 pub read-page : (page : ℕ) → 1 ≤ page → page ≤ 65535 → recordOf (recordLine (Page page)) ≡ Page page
 read-page page l h = page-only (pageText page) ∙ by-size (ltb page 10) refl (ltb page 100) refl (ltb page 1000) refl (ltb page 10000) refl
   where

@@ -1,11 +1,11 @@
 -- The blocks of the high halves of `W` units, as they are numbered, and what one more `W` record changes.
-use mathlib.Core.Bool.{Bool, true, false, not, _&&_, false≢true, true≢false}
+use mathlib.Core.Bool.{Bool, true, false, not, _&&_, false≢true}
 use mathlib.Core.List.{List}
-use mathlib.Core.Path.{_≡_, refl, sym, ap, ap₂, _∙_, subst}
-use Prim.Native.Nat.{ℕ, zero, suc, _+_, _-_, _*_, _/_, _%_, _≤_, _<_}
+use mathlib.Core.Path.{_≡_, refl, sym, ap, _∙_}
+use Prim.Native.Nat.{ℕ, zero, suc, _+_, _-_, _*_, _≤_, _<_}
 use native.Mathlib.Omega.{arith}
-use lib.Dec.{leb, ltb, eqb}
-use lib.ListN.{length, getD, set}
+use lib.Dec.{ltb, eqb}
+use lib.ListN.{length, set}
 use lib.Seq.{getD-set-same, getD-set-other}
 use borrow.Author.Tests.{ltb-true, ltb-false, eqb-true, eqb-false, eq-eqb, ne-eqb, not-true}
 use Rattle.codepage.specs.CodePage.{pick, entryAt}
@@ -23,6 +23,7 @@ tally-upto f m n h none =
     let whole : m + (n - m) ≡ n = omega arith in
     omega (arith, tally-split f m (n - m), ap (tally f) whole, tally-none (λ i. f (m + i)) (n - m) (λ i k. none (m + i) (omega arith) (omega arith)))
 
+-- one that holds is counted
 pub tally-next : (f : ℕ → Bool) (n : ℕ) → f n ≡ true → tally f (suc n) ≡ suc (tally f n)
 unfolding tally
 tally-next f n e = rw e
@@ -128,6 +129,7 @@ module _ (h b : ℕ) (index blocks : List ℕ) (n : Numbered true h b index bloc
           some-number index g (n .full refl z .1 g (omega (arith, n .full refl z .0))) (e ∙ z)
       by-zero false q = by-order (eqb-false b 0 q) (ltb g h) refl
 
+  -- the numbers stay
   pub same-half : Numbered true h b index (set blocks (256 * b + l) code)
   same-half =
       record {
@@ -139,6 +141,7 @@ module _ (h b : ℕ) (index blocks : List ℕ) (n : Numbered true h b index bloc
         full = n .full;
       }
 
+  -- and one entry is changed
   pub same-changed : OneChanged index blocks index (set blocks (256 * b + l) code) h l code
   same-changed g c k m = by-place (eqb g h) refl (eqb c l) refl
     where
@@ -177,6 +180,7 @@ module _ (late : Bool) (last block : ℕ) (index blocks : List ℕ) (n : Numbere
       by-number true q = omega (arith, eqb-true (entryAt index g) 0 q)
       by-number false q = omega (arith, n .counted g k (ap not q), n .number free, tally-rise (numbered index) (suc g) 256 (omega arith))
 
+  -- there are no more blocks than high halves before it
   pub block-small : block ≤ h
   block-small = omega (arith, met-below, tally-le (numbered index) h)
 
@@ -217,6 +221,7 @@ module _ (late : Bool) (last block : ℕ) (index blocks : List ℕ) (n : Numbere
             ∙ sym (tally-same (numbered (set index h b)) (numbered index) (suc i) (λ j m. below-same j (omega arith)))
         by-place false q false w = absurd (some-number (set index h b) i on (above-zero i (omega (arith, eqb-false i h q, ltb-false i h w)) k))
 
+    -- the numbers go on
     pub new-half : Numbered true h b (set index h b) (set (filled blocks (256 * b) 256 0xFFFF) (256 * b + l) code)
     new-half =
         record {
@@ -228,6 +233,7 @@ module _ (late : Bool) (last block : ℕ) (index blocks : List ℕ) (n : Numbere
           full = λ e z. absurd (omega arith);
         }
 
+    -- and one entry is changed
     pub new-changed : OneChanged index blocks (set index h b) (set (filled blocks (256 * b) 256 0xFFFF) (256 * b + l) code) h l code
     new-changed g c k m = by-place (eqb g h) refl (eqb c l) refl
       where
@@ -274,6 +280,7 @@ module _ (late : Bool) (last block : ℕ) (index blocks : List ℕ) (n : Numbere
     on-same : (g : ℕ) → numbered (set index h 0) g ≡ numbered index g
     on-same g = ap (λ (x : ℕ). not (eqb x 0)) (index-same g)
 
+    -- every number is given
     pub last-half : Numbered true h 0 (set index h 0) (set blocks (256 * 0 + l) code)
     last-half =
         record {
@@ -285,6 +292,7 @@ module _ (late : Bool) (last block : ℕ) (index blocks : List ℕ) (n : Numbere
           full = λ e z. (omega (arith, top), λ i k. on-same i ∙ each i k);
         }
 
+    -- and one entry is changed
     pub last-changed : OneChanged index blocks (set index h 0) (set blocks (256 * 0 + l) code) h l code
     last-changed g c k m = ap (λ (x : ℕ). entryAt (set blocks (256 * 0 + l) code) (256 * x + c)) (index-same g) ∙ by-place (eqb g h) refl (eqb c l) refl
       where

@@ -2,16 +2,16 @@
 use mathlib.Core.Bool.{Bool, true, false, _&&_, false≢true, true≢false}
 use mathlib.Core.List.{List}
 use mathlib.Core.Path.{_≡_, refl, sym, ap, ap₂, _∙_, subst}
-use Prim.Native.Nat.{ℕ, zero, suc, _+_, _-_, _*_, _/_, _%_, _^_, _≤_, _<_}
+use Prim.Native.Nat.{ℕ, suc, _+_, _-_, _*_, _/_, _%_, _≤_, _<_}
 use native.Mathlib.Omega.{arith}
 use lib.Dec.{ltb, eqb}
-use lib.ListN.{length, getD, set, length-set}
+use lib.ListN.{length, getD, set}
 use lib.Seq.{getD-set-same, getD-set-other}
 use borrow.Author.Tests.{lt-ltb, le-ltb, ltb-true, ltb-false, eqb-true, eqb-false, ne-eqb}
 use Rattle.codepage.specs.CodePage.{CodePage, GoodShape, pick, entryAt, isSingle, isLead, isTrail, leadsBelow}
 use Rattle.listing.specs.declared.Progress.{Progress}
 use Rattle.listing.specs.declared.Record.{Record}
-use Rattle.listing.specs.declared.Record.the-variants.{Page, Defaults, Single, Lead, Trail, Pair, Code, NoRecord}
+use Rattle.listing.specs.declared.Record.the-variants.{Lead, Pair, NoRecord}
 use Rattle.listing.specs.Tables.{Tables, filled, changeOf}
 use Rattle.listing.specs.Form.{unlessNone}
 use Rattle.listing.specs.Order.{accepts, after, isListedLead, sizesOf}
@@ -20,16 +20,12 @@ use Rattle.listing.specs.Sets.{countHalf}
 use Rattle.listing.specs.Tables.{leadBlock}
 use Rattle.lister.specs.Lister.{singleAt, leadAt, trailAt, recordAt, isRecord, pairAt, codeAt}
 use Rattle.listing_laws.specs.Claims.{InWidths}
-use Rattle.listing_laws.proofs.BitLaws.{tally, tally-none, tally-split, tally-le}
+use Rattle.listing_laws.proofs.BitLaws.{tally, tally-split}
 use Rattle.listing_laws.proofs.WholeLaws.{Sound, hold-record, leads-tally}
-use Rattle.listing_laws.proofs.RoundLaws.{Before, FitsAll, Keeps, Arrived, fine, ltb-more}
+use Rattle.listing_laws.proofs.RoundLaws.{Before, FitsAll, Keeps, fine, ltb-more}
 use Rattle.listing_laws.proofs.BlockLaws.{same-block}
 use Rattle.listing_laws.proofs.HoldLaws.{Holds}
-use Rattle.listing_laws.proofs.BoundLaws.{Bounded, bounded}
-use Rattle.listing_laws.proofs.SingleLaws.{singles-keep}
-use Rattle.lister.specs.Lines.{recordLine}
 use Rattle.listing_laws.proofs.FilledLaws.{filled-in, filled-out}
-use Rattle.codepage.proofs.ShapeLaws.{below-le}
 
 -- ---- the blocks of leads rise
 pub leads-rise : (p : CodePage) → GoodShape p → (lead other : ℕ) → lead < other → other ≤ 256 → isLead (entryAt (p .classes) lead) ≡ true → leadsBelow (p .classes) lead + 1 ≤ leadsBelow (p .classes) other
@@ -77,6 +73,7 @@ module _ (p : CodePage) (good : GoodShape p) where
   pick-same true v e = e
   pick-same false v e = refl
 
+  -- where there is no record
   pub pairs-none : (k : ℕ) (t : Tables) → Pairs p k t → isRecord (recordAt p k) ≡ false → Pairs p (k + 1) t
   pairs-none k t held q l c h m lead trail less = by-lead (eqb (258 + l) k) refl
     where
@@ -243,6 +240,7 @@ module _ (p : CodePage) (good : GoodShape p) where
     unfolding recordAt codeAt
     same-code x y z w = rw (zero-not, one-not, x, y, z, w) (leaves-pick (eqb (entryAt (p .blocks) (256 * entryAt (p .index) ((k - 66306) / 256) + (k - 66306) % 256)) 0xFFFF) _ _ refl refl)
 
+    -- where there is one
     pub pairs-record : Pairs p (k + 1) (changeOf s (recordAt p k) t)
     pairs-record = by-size (ltb k 258) refl (ltb k 514) refl (ltb k 770) refl (ltb k 66306) refl
       where
@@ -255,6 +253,7 @@ module _ (p : CodePage) (good : GoodShape p) where
             (isLead (entryAt (p .classes) ((k - 770) / 256))) refl (isTrail (entryAt (p .classes) ((k - 770) % 256))) refl (eqb (entryAt (p .pairs) (pairPlace p ((k - 770) / 256) ((k - 770) % 256))) 0xFFFF) refl
         by-size false x false y false z false w = outside k t (changeOf s (recordAt p k) t) (same-code x y z w) (λ l h e. omega (arith, ltb-false k 66306 w)) (λ c h e. omega (arith, ltb-false k 66306 w)) held
 
+-- the characters of pairs are kept
 pub pairs-keep : (p : CodePage) → GoodShape p → InWidths p → Keeps p (Pairs p)
 pairs-keep p good m =
     record {

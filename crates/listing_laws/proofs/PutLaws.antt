@@ -1,15 +1,13 @@
 -- A record that is accepted is the record of its place afterwards, and no other place has another record than before.
-use mathlib.Core.Bool.{Bool, true, false, not, _&&_, false≢true, true≢false}
+use mathlib.Core.Bool.{Bool, true, false, not, _&&_, false≢true}
 use mathlib.Core.List.{List}
-use mathlib.Core.Path.{_≡_, refl, sym, ap, ap₂, _∙_, subst}
-use Prim.Native.Nat.{ℕ, zero, suc, _+_, _-_, _*_, _/_, _%_, _^_, _≤_, _<_}
+use mathlib.Core.Path.{_≡_, refl, sym, ap, _∙_}
+use Prim.Native.Nat.{ℕ, _+_, _-_, _*_, _/_, _%_, _≤_, _<_}
 use native.Mathlib.Omega.{arith}
 use lib.Dec.{leb, ltb, eqb}
-use lib.ListN.{length, set}
-use lib.Seq.{getD-set-same, getD-set-other}
-use borrow.Author.Tests.{leb-true, lt-ltb, le-ltb, ltb-true, ltb-false, eqb-true, eqb-false, eq-eqb, ne-eqb, not-true}
+use lib.ListN.{length}
+use borrow.Author.Tests.{leb-true, lt-ltb, le-ltb, ltb-true, ltb-false, ne-eqb}
 use Rattle.codepage.specs.CodePage.{CodePage, codePage, pick, entryAt, isSingle, isLead, isTrail, leadsBelow}
-use Rattle.codepage.proofs.ShapeLaws.{and-left, and-right}
 use Rattle.codepage_lookup.specs.Profile.{unitEntry}
 use Rattle.listing.specs.declared.Half.{Half}
 use Rattle.listing.specs.declared.Progress.{Progress}
@@ -17,22 +15,15 @@ use Rattle.listing.specs.declared.Letter.{Letter}
 use Rattle.listing.specs.declared.Letter.the-variants.{Start, P, D, S, L, T, M, W}
 use Rattle.listing.specs.declared.Record.{Record}
 use Rattle.listing.specs.declared.Record.the-variants.{Page, Defaults, Single, Lead, Trail, Pair, Code, NoRecord}
-use Rattle.listing.specs.Sets.{inBytes, addToBytes}
-use Rattle.listing.specs.Form.{unlessNone}
-use Rattle.listing.specs.Order.{rank, follows, isListedLead, withLead, accepts, after, classOf, codeBlock, sizesOf}
-use Rattle.listing.specs.Steps.{Fits}
-use Rattle.listing.specs.Tables.{Tables, filled, leadBlock, changeOf}
-use Rattle.lister.specs.Lister.{singleAt, leadAt, trailAt, pairAt, codeAt, recordAt, isRecord}
-use Rattle.listing_laws.proofs.BitLaws.{tally, tally-same, tally-split, bytes-other, lead-other}
-use Rattle.listing_laws.proofs.FilledLaws.{filled-in, filled-out}
-use Rattle.listing_laws.proofs.NumberLaws.{tally-rise}
-use Rattle.listing_laws.proofs.HoldLaws.{Holds, follows-late, follows-order, follows-key, lead-follows, pair-follows}
-use Rattle.listing_laws.proofs.CodeLaws.{OneCode}
+use Rattle.listing.specs.Sets.{inBytes}
+use Rattle.listing.specs.Order.{rank, isListedLead, classOf}
+use Rattle.listing.specs.Tables.{Tables, leadBlock}
+use Rattle.lister.specs.Lister.{singleAt, leadAt, trailAt, pairAt, codeAt, recordAt}
+use Rattle.listing_laws.proofs.BitLaws.{tally-same}
+use Rattle.listing_laws.proofs.HoldLaws.{Holds}
 use Rattle.listing_laws.proofs.WholeLaws.{class-lead, leads-tally}
-use Rattle.listing_laws.proofs.RoundLaws.{placeBy, bytes-with, lead-with, lead-not-single}
-use Rattle.listing_laws.proofs.SingleLaws.{at-single}
+use Rattle.listing_laws.proofs.RoundLaws.{placeBy}
 use Rattle.listing_laws.proofs.BlockLaws.{below-tally, listed-tally}
-use Rattle.listing_laws.proofs.UnitLaws.{at-code}
 
 -- the table set as it stands
 abbrev pub setOf : Progress → Tables → CodePage
@@ -64,6 +55,7 @@ KeyIn T key = key < 256
 KeyIn M key = key < 65536
 KeyIn W key = key < 65536
 
+-- an `S` comes behind the last place
 pub order-S : (l : Letter) (last key : ℕ) → KeyIn l last → 2 ≤ rank l → rank l ≤ 3 → (rank l ≡ 3 → last < key) → placeBy l last < 2 + key
 order-S Start last key small late most g = absurd (omega arith)
 order-S P last key small late most g = absurd (omega arith)
@@ -74,6 +66,7 @@ order-S T last key small late most g = absurd (omega arith)
 order-S M last key small late most g = absurd (omega arith)
 order-S W last key small late most g = absurd (omega arith)
 
+-- so does an `L`
 pub order-L : (l : Letter) (last key : ℕ) → KeyIn l last → 2 ≤ rank l → rank l ≤ 4 → (rank l ≡ 4 → last < key) → placeBy l last < 258 + key
 order-L Start last key small late most g = absurd (omega arith)
 order-L P last key small late most g = absurd (omega arith)
@@ -84,6 +77,7 @@ order-L T last key small late most g = absurd (omega arith)
 order-L M last key small late most g = absurd (omega arith)
 order-L W last key small late most g = absurd (omega arith)
 
+-- so does a `T`
 pub order-T : (l : Letter) (last key : ℕ) → KeyIn l last → 2 ≤ rank l → rank l ≤ 5 → (rank l ≡ 5 → last < key) → placeBy l last < 514 + key
 order-T Start last key small late most g = absurd (omega arith)
 order-T P last key small late most g = absurd (omega arith)
@@ -94,6 +88,7 @@ order-T T last key small late most g = omega (arith, g refl)
 order-T M last key small late most g = absurd (omega arith)
 order-T W last key small late most g = absurd (omega arith)
 
+-- so does an `M`
 pub order-M : (l : Letter) (last key : ℕ) → KeyIn l last → 2 ≤ rank l → rank l ≤ 6 → (rank l ≡ 6 → last < key) → placeBy l last < 770 + key
 order-M Start last key small late most g = absurd (omega arith)
 order-M P last key small late most g = absurd (omega arith)
@@ -104,6 +99,7 @@ order-M T last key small late most g = omega arith
 order-M M last key small late most g = omega (arith, g refl)
 order-M W last key small late most g = absurd (omega arith)
 
+-- so does a `W`
 pub order-W : (l : Letter) (last key : ℕ) → KeyIn l last → 2 ≤ rank l → rank l ≤ 7 → (rank l ≡ 7 → last < key) → placeBy l last < 66306 + key
 order-W Start last key small late most g = absurd (omega arith)
 order-W P last key small late most g = absurd (omega arith)
@@ -116,18 +112,21 @@ order-W W last key small late most g = omega (arith, g refl)
 
 -- ---- the record of a place
 module _ (p : CodePage) where
+  -- the places of leads
   pub at-lead : (c : ℕ) → c < 256 → recordAt p (258 + c) ≡ leadAt (p .classes) c
   unfolding recordAt
   at-lead c h =
       let e : 258 + c - 258 ≡ c = omega arith in
       rw (ne-eqb (258 + c) 0 (λ x. omega arith), ne-eqb (258 + c) 1 (λ x. omega arith), le-ltb (258 + c) 258 (omega arith), lt-ltb (258 + c) 514 (omega arith), e)
 
+  -- the places of second bytes
   pub at-trail : (c : ℕ) → c < 256 → recordAt p (514 + c) ≡ trailAt (p .classes) c
   unfolding recordAt
   at-trail c h =
       let e : 514 + c - 514 ≡ c = omega arith in
       rw (ne-eqb (514 + c) 0 (λ x. omega arith), ne-eqb (514 + c) 1 (λ x. omega arith), le-ltb (514 + c) 258 (omega arith), le-ltb (514 + c) 514 (omega arith), lt-ltb (514 + c) 770 (omega arith), e)
 
+  -- the places of pairs
   pub at-pair : (c : ℕ) → c < 65536 → recordAt p (770 + c) ≡ pairAt (p .classes) (p .pairs) c
   unfolding recordAt
   at-pair c h =
@@ -142,6 +141,7 @@ pub record PartsBut (p q : CodePage) (k : ℕ) : Type 0 where
   pub pairs : (c : ℕ) → c < 65536 → (770 + c ≡ k → ⊥) → pairAt (q .classes) (q .pairs) c ≡ pairAt (p .classes) (p .pairs) c
   pub codes : (c : ℕ) → c < 65536 → (66306 + c ≡ k → ⊥) → codeAt (q .index) (q .blocks) c ≡ codeAt (p .index) (p .blocks) c
 
+-- equal parts are equal records
 pub by-parts : (p q : CodePage) (k : ℕ) → PartsBut p q k → (i : ℕ) → 2 ≤ i → i < 131842 → (i ≡ k → ⊥) → recordAt q i ≡ recordAt p i
 unfolding recordAt
 by-parts p q k parts i l h ne = by-size (ltb i 258) refl (ltb i 514) refl (ltb i 770) refl (ltb i 66306) refl
@@ -185,12 +185,15 @@ class-single s byte = by-case (inBytes (s .trails) byte) (isListedLead (s .leads
     by-case false false false = refl
 
 module _ (s : Progress) (t : Tables) (held : Holds s t) where
+  -- a lead is a byte listed as one
   pub lead-test : (c : ℕ) → c < 256 → isLead (entryAt (t .classes) c) ≡ isListedLead (s .leads) c
   lead-test c h = ap isLead (held .classes c h) ∙ class-lead s c
 
+  -- a second byte is a byte listed as one
   pub trail-test : (c : ℕ) → c < 256 → isTrail (entryAt (t .classes) c) ≡ inBytes (s .trails) c
   trail-test c h = ap isTrail (held .classes c h) ∙ class-trail s c
 
+  -- a single is a byte listed as one, and not as a lead
   pub single-test : (c : ℕ) → c < 256 → isSingle (entryAt (t .classes) c) ≡ (not (isListedLead (s .leads) c) && inBytes (s .singles) c)
   single-test c h = ap isSingle (held .classes c h) ∙ class-single s c
 
@@ -203,6 +206,7 @@ module _ (s : Progress) (t : Tables) (held : Holds s t) where
       ∙ tally-same (isListedLead (s .leads)) (λ i. isLead (entryAt (t .classes) i)) lead (λ i m. sym (lead-test i (omega arith)))
       ∙ sym (leads-tally (t .classes) lead (omega arith))
 
+-- no listed lead is below 80
 pub listed-from-80 : (leads : Half) (byte : ℕ) → isListedLead leads byte ≡ true → 0x80 ≤ byte
 unfolding isListedLead
 listed-from-80 leads byte e = by-high (leb 0x80 byte) refl
@@ -216,10 +220,12 @@ pub single-part : (classes singles classes′ singles′ : List ℕ) (c : ℕ) �
 unfolding singleAt
 single-part classes singles classes′ singles′ c e f = rw (e, f)
 
+-- a lead is listed as before
 pub lead-part : (classes classes′ : List ℕ) (c : ℕ) → isLead (entryAt classes′ c) ≡ isLead (entryAt classes c) → leadAt classes′ c ≡ leadAt classes c
 unfolding leadAt
 lead-part classes classes′ c e = rw e
 
+-- so is a second byte
 pub trail-part : (classes classes′ : List ℕ) (c : ℕ) → isTrail (entryAt classes′ c) ≡ isTrail (entryAt classes c) → trailAt classes′ c ≡ trailAt classes c
 unfolding trailAt
 trail-part classes classes′ c e = rw e
@@ -254,6 +260,7 @@ pair-empty classes pairs c e = by-lead (isLead (entryAt classes (c / 256))) refl
     by-lead true q false w = rw (q, w)
     by-lead false q d w = rw q
 
+-- so is the code of a unit
 pub code-part : (index blocks index′ blocks′ : List ℕ) (c : ℕ) → unitEntry index′ blocks′ c ≡ unitEntry index blocks c → codeAt index′ blocks′ c ≡ codeAt index blocks c
 unfolding codeAt
 code-part index blocks index′ blocks′ c e = rw e

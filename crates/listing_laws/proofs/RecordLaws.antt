@@ -1,33 +1,32 @@
 -- Each record that is accepted from `S` on: the record of its place is it, and no other place changes.
-use mathlib.Core.Bool.{Bool, true, false, not, _&&_, false≢true, true≢false}
+use mathlib.Core.Bool.{Bool, true, false, not, _&&_, true≢false}
 use mathlib.Core.List.{List}
-use mathlib.Core.Path.{_≡_, refl, sym, ap, ap₂, _∙_, subst}
-use Prim.Native.Nat.{ℕ, zero, suc, _+_, _-_, _*_, _/_, _%_, _^_, _≤_, _<_}
+use mathlib.Core.Path.{_≡_, refl, sym, ap, _∙_}
+use Prim.Native.Nat.{ℕ, suc, _+_, _-_, _*_, _/_, _%_, _≤_, _<_}
 use native.Mathlib.Omega.{arith}
 use lib.Dec.{leb, ltb, eqb}
-use lib.ListN.{length, set}
+use lib.ListN.{length}
 use lib.Seq.{getD-set-same, getD-set-other}
-use borrow.Author.Tests.{leb-true, lt-ltb, le-ltb, ltb-true, ltb-false, eqb-true, eqb-false, eq-eqb, ne-eqb, not-true}
-use Rattle.codepage.specs.CodePage.{CodePage, codePage, pick, entryAt, isSingle, isLead, isTrail, leadsBelow}
+use borrow.Author.Tests.{leb-true, ltb-true, ltb-false, eqb-true, eqb-false, eq-eqb, ne-eqb, not-true}
+use Rattle.codepage.specs.CodePage.{entryAt, isSingle, isLead, isTrail, leadsBelow}
 use Rattle.codepage.proofs.ShapeLaws.{and-left, and-right}
 use Rattle.codepage_lookup.specs.Profile.{unitEntry}
 use Rattle.listing.specs.declared.Progress.{Progress}
-use Rattle.listing.specs.declared.Letter.the-variants.{Start, P, D, S, L, T, M, W}
+use Rattle.listing.specs.declared.Letter.the-variants.{S, L, T, M, W}
 use Rattle.listing.specs.declared.Record.{Record}
-use Rattle.listing.specs.declared.Record.the-variants.{Page, Defaults, Single, Lead, Trail, Pair, Code, NoRecord}
-use Rattle.listing.specs.Sets.{inBytes, addToBytes, countHalf}
-use Rattle.listing.specs.Form.{unlessNone}
+use Rattle.listing.specs.declared.Record.the-variants.{Single, Lead, Trail, Pair, Code, NoRecord}
+use Rattle.listing.specs.Sets.{inBytes, countHalf}
 use Rattle.listing.specs.Order.{rank, follows, isListedLead, withLead, accepts, after}
-use Rattle.listing.specs.Tables.{Tables, filled, leadBlock, changeOf}
+use Rattle.listing.specs.Tables.{Tables, leadBlock, changeOf}
 use Rattle.listing.proofs.TableLaws.{listed-below}
 use Rattle.lister.specs.Lister.{singleAt, leadAt, trailAt, pairAt, codeAt, recordAt, isRecord}
 use Rattle.listing_laws.proofs.BitLaws.{tally, tally-same, bytes-other, lead-other}
 use Rattle.listing_laws.proofs.FilledLaws.{filled-in, filled-out}
 use Rattle.listing_laws.proofs.NumberLaws.{tally-rise, tally-next}
-use Rattle.listing_laws.proofs.HoldLaws.{Holds, follows-late, follows-order, follows-key, lead-follows, pair-follows}
+use Rattle.listing_laws.proofs.HoldLaws.{Holds, follows-order, follows-key, lead-follows, pair-follows}
 use Rattle.listing_laws.proofs.CodeLaws.{OneCode}
-use Rattle.listing_laws.proofs.WholeLaws.{leads-tally, SameSizes, same-sizes}
-use Rattle.listing_laws.proofs.RoundLaws.{placeBy, bytes-with, lead-with}
+use Rattle.listing_laws.proofs.WholeLaws.{leads-tally, same-sizes}
+use Rattle.listing_laws.proofs.RoundLaws.{bytes-with, lead-with}
 use Rattle.listing_laws.proofs.SingleLaws.{at-single}
 use Rattle.listing_laws.proofs.BlockLaws.{below-tally, listed-tally}
 use Rattle.listing_laws.proofs.UnitLaws.{at-code}
@@ -146,6 +145,7 @@ module _ (s : Progress) (t : Tables) (held : Holds s t) (st : Standing s t) (lon
           codes = λ c h ne. refl;
         }
 
+    -- an `S` is put at its place
     pub put-single : Put s t (Single byte unit)
     put-single = record { order = single-order; others = by-parts (setOf s t) (setOf s₁ t₁) (2 + byte) single-parts; here = single-here }
 
@@ -202,6 +202,7 @@ module _ (s : Progress) (t : Tables) (held : Holds s t) (st : Standing s t) (lon
           codes = λ c h ne. refl;
         }
 
+    -- a `T` is put at its place
     pub put-trail : Put s t (Trail byte)
     put-trail = record { order = trail-order; others = by-parts (setOf s t) (setOf s₂ t₂) (514 + byte) trail-parts; here = trail-here }
 
@@ -256,6 +257,7 @@ module _ (s : Progress) (t : Tables) (held : Holds s t) (st : Standing s t) (lon
           codes = λ c h ne. refl;
         }
 
+    -- an `L` is put at its place
     pub put-lead : Put s t (Lead byte)
     put-lead = record { order = lead-order; others = by-parts (setOf s t) (setOf s₃ t₃) (258 + byte) lead-parts; here = lead-here }
 
@@ -264,6 +266,7 @@ module _ (s : Progress) (t : Tables) (held : Holds s t) (st : Standing s t) (lon
     unfolding leadBlock
     count-as n u x l h = below-tally (n .leads) (x .low-word) (l - 0x80) ∙ listed-tally (n .leads) l h
 
+    -- the pairs of every listed lead are empty behind an `L`
     pub empty-lead : 256 * countHalf (s₃ .leads) ≤ length (t .pairs) → (l c : ℕ) → l < 256 → c < 256 → isListedLead (s₃ .leads) l ≡ true → entryAt (t₃ .pairs) (256 * leadBlock s₃ l + c) ≡ 0xFFFF
     unfolding leadBlock
     empty-lead room l c h k listed = by-byte (eqb l byte) refl
@@ -340,6 +343,7 @@ module _ (s : Progress) (t : Tables) (held : Holds s t) (st : Standing s t) (lon
           codes = λ c h ne. refl;
         }
 
+    -- an `M` is put at its place
     pub put-pair : Put s t (Pair code unit)
     put-pair = record { order = pair-order; others = by-parts (setOf s t) (setOf s₄ t₄) (770 + code) pair-parts; here = pair-here }
 
@@ -371,5 +375,6 @@ module _ (s : Progress) (t : Tables) (held : Holds s t) (st : Standing s t) (lon
           codes = λ c h ne. code-part (t .index) (t .blocks) (t₅ .index) (t₅ .blocks) c (one c h ∙ rw (ne-eqb c unit (λ x. ne (omega arith))));
         }
 
+    -- a `W` is put at its place
     pub put-code : Put s t (Code unit code)
     put-code = record { order = code-order; others = by-parts (setOf s t) (setOf s₅ t₅) (66306 + unit) code-parts; here = code-there }

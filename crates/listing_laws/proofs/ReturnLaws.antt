@@ -1,29 +1,27 @@
 -- READ AFTER WRITE: the whole listing of a good table set, read into tables that have the sizes needed, is accepted, and gives a table set of
 -- good shape with the same page, defaults, classes, characters and codes.
 use mathlib.Core.Bool.{Bool, true, false}
-use mathlib.Core.List.{List}
-use mathlib.Core.Path.{_≡_, refl, sym, ap, ap₂, _∙_, subst}
-use Prim.Native.Nat.{ℕ, _+_, _-_, _*_, _/_, _%_, _≤_, _<_}
+use mathlib.Core.Path.{_≡_, refl, sym, ap, _∙_, subst}
+use Prim.Native.Nat.{ℕ, _+_, _-_, _*_, _/_, _%_, _<_}
 use native.Mathlib.Omega.{arith}
-use lib.Dec.{leb, ltb}
-use lib.ListN.{length, take, replicate, length-replicate}
+use lib.ListN.{length, replicate, length-replicate}
 use lib.Seq.{length-take-le, getD-take}
 use borrow.Author.Tests.{le-leb, lt-ltb}
 use Rattle.codepage.specs.CodePage.{CodePage, GoodShape, pick, entryAt, isSingle, isLead, isTrail, leadsBelow}
-use Rattle.codepage.specs.Reading.{byteAlone, bytePair, unitCode, lookup}
+use Rattle.codepage.specs.Reading.{bytePair, unitCode, lookup}
 use Rattle.codepage.specs.declared.Kind.the-variants.{UndefinedSingle, UndefinedPair}
 use Rattle.codepage_lookup.specs.Profile.{unitEntry}
 use Rattle.listing.specs.declared.Progress.{Progress}
 use Rattle.listing.specs.declared.Ended.the-variants.{Whole}
-use Rattle.listing.specs.Order.{nothingRead, rank, sizesOf, blockCount}
+use Rattle.listing.specs.Order.{nothingRead, rank, sizesOf}
 use Rattle.listing.specs.declared.Read.the-variants.{Accepted}
 use Rattle.listing.specs.Tables.{Tables, tables, fit, reading, endOf}
 use Rattle.listing.specs.Whole.{readAll}
 use Rattle.lister.proofs.PlaceLaws.{pairs-inside}
 use Rattle.listing_laws.specs.Cut.{cutSet}
 use Rattle.listing_laws.specs.Round.{linesFrom, wholeListing, progressAfter, neededSizes}
-use Rattle.listing_laws.specs.Claims.{InWidths, LargeEnough, SameMeaning, Returned}
-use Rattle.listing_laws.proofs.BitLaws.{tally, tally-same}
+use Rattle.listing_laws.specs.Claims.{InWidths, LargeEnough, Returned}
+use Rattle.listing_laws.proofs.BitLaws.{tally-same}
 use Rattle.listing_laws.proofs.WholeLaws.{Kept, leads-tally, good-shape}
 use Rattle.listing_laws.proofs.RoundLaws.{Keeps, Arrived, large-fits, by-size, by-acceptance, listing-accepted, same-classes}
 use Rattle.listing_laws.proofs.RoomLaws.{accepted-too, progress-as}

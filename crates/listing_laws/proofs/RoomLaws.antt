@@ -1,18 +1,17 @@
 -- The sizes needed never fall, so tables that have the sizes of a listing's end have room for each of its lines.
 use mathlib.Core.Bool.{Bool, true, false, not, _&&_, false≢true, true≢false}
 use mathlib.Core.List.{List, [], _∷_}
-use mathlib.Core.Path.{_≡_, refl, sym, ap, ap₂, _∙_, subst}
+use mathlib.Core.Path.{_≡_, refl, sym, ap, _∙_, subst}
 use Prim.Native.Nat.{ℕ, zero, suc, _+_, _-_, _*_, _/_, _%_, _≤_, _<_}
 use native.Mathlib.Omega.{arith}
-use lib.Dec.{leb, ltb, eqb}
+use lib.Dec.{leb, eqb}
 use lib.ListN.{length}
-use borrow.Author.Tests.{le-leb, leb-true, eqb-true, eqb-false, eq-eqb, ne-eqb}
+use borrow.Author.Tests.{le-leb, leb-true, eqb-true, eqb-false}
 use Rattle.codepage.specs.CodePage.{pick}
 use Rattle.codepage.proofs.ShapeLaws.{and-left, and-right}
 use Rattle.listing.specs.declared.Progress.{Progress}
 use Rattle.listing.specs.declared.Sizes.{Sizes}
 use Rattle.listing.specs.declared.Letter.the-variants.{S, L, T, M, W}
-use Rattle.listing.specs.declared.Refusal.{Refusal}
 use Rattle.listing.specs.declared.Read.{Read}
 use Rattle.listing.specs.declared.Read.the-variants.{Accepted, Refused}
 use Rattle.listing.specs.declared.Record.{Record}
@@ -27,8 +26,8 @@ use Rattle.listing.proofs.ChangeLaws.{fit-known}
 use Rattle.listing_laws.specs.Round.{progressAfter}
 use Rattle.listing_laws.proofs.BitLaws.{tally, lead-tally, lead-other}
 use Rattle.listing_laws.proofs.BoundLaws.{Bounded, bounded}
-use Rattle.listing_laws.proofs.HoldLaws.{Holds, follows-late, follows-order, follows-key, lead-follows, pair-follows, count-early, count-late, count-full}
-use Rattle.listing_laws.proofs.WholeLaws.{Kept, Sound, SameSizes, same-sizes, hold-record, step, accepted-same, reading-same, refused-not}
+use Rattle.listing_laws.proofs.HoldLaws.{Holds, follows-order, follows-key, lead-follows, pair-follows, count-early, count-late, count-full}
+use Rattle.listing_laws.proofs.WholeLaws.{Sound, SameSizes, same-sizes, hold-record, step, accepted-same, reading-same, refused-not}
 use Rattle.listing_laws.proofs.RoundLaws.{lead-with}
 use Rattle.listing_laws.proofs.AnswerLaws.{read-passes, read-accepted-exact}
 

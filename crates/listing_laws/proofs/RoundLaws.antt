@@ -1,16 +1,15 @@
 -- A whole listing of a good table set is accepted, line by line.
 use mathlib.Core.Bool.{Bool, true, false, not, _&&_, _||_, false≢true, true≢false}
-use mathlib.Core.List.{List, [], _∷_}
+use mathlib.Core.List.{List, _∷_}
 use mathlib.Core.Path.{_≡_, refl, sym, ap, ap₂, _∙_, subst}
-use Prim.Native.Nat.{ℕ, zero, suc, _+_, _-_, _*_, _/_, _%_, _^_, _≤_, _<_}
+use Prim.Native.Nat.{ℕ, zero, suc, _+_, _-_, _*_, _/_, _%_, _≤_, _<_}
 use native.Mathlib.Numerals.{add-one}
 use native.Mathlib.Omega.{arith}
 use lib.Count.{ones, ones-le}
 use lib.Dec.{leb, ltb, eqb}
 use lib.ListN.{length}
-use borrow.Author.Tests.{leb-true, lt-ltb, le-ltb, ltb-true, ltb-false, le-leb, lt-leb, eqb-true, eqb-false, eq-eqb, ne-eqb}
+use borrow.Author.Tests.{lt-ltb, le-ltb, ltb-true, ltb-false, le-leb, lt-leb, eqb-true, eqb-false, eq-eqb, ne-eqb}
 use Rattle.codepage.specs.CodePage.{CodePage, GoodShape, pick, entryAt, isKnown, isSingle, isLead, isTrail, leadsBelow}
-use Rattle.codepage.specs.declared.Numbers.{Numbers}
 use Rattle.listing.specs.declared.Half.{Half}
 use Rattle.listing.specs.declared.Bytes.{Bytes}
 use Rattle.listing.specs.declared.Progress.{Progress}
@@ -18,7 +17,7 @@ use Rattle.listing.specs.declared.Letter.{Letter}
 use Rattle.listing.specs.declared.Letter.the-variants.{Start, P, D, S, L, T, M, W}
 use Rattle.listing.specs.declared.Record.{Record}
 use Rattle.listing.specs.declared.Record.the-variants.{Page, Defaults, Single, Lead, Trail, Pair, Code, NoRecord}
-use Rattle.listing.specs.Sets.{inBytes, addToBytes, inHalf, addToHalf, countHalf}
+use Rattle.listing.specs.Sets.{inBytes, addToBytes, countHalf}
 use Rattle.listing.specs.Order.{rank, follows, isListedLead, withLead, accepts, after}
 use Rattle.listing.proofs.SetLaws.{half-with}
 use Rattle.listing.specs.declared.Sizes.{Sizes}
@@ -28,7 +27,7 @@ use Rattle.listing.specs.Steps.{Fits}
 use Rattle.listing.proofs.ChangeLaws.{fit-known}
 use Rattle.listing.specs.Form.{recordOf, unlessNone}
 use Rattle.listing.specs.Order.{blockCount, sizesOf, afterPage, classOf}
-use Rattle.listing.specs.Tables.{Tables, tables, changeOf, fit, Reading, reading, readRecord, readOf}
+use Rattle.listing.specs.Tables.{Tables, changeOf, fit, Reading, reading, readRecord, readOf}
 use Rattle.listing.specs.Whole.{readAll, thenRead}
 use Rattle.lister.specs.Lines.{recordLine}
 use Rattle.lister.specs.Lister.{places, singleAt, leadAt, trailAt, pairAt, codeAt, recordAt, isRecord}
@@ -36,7 +35,7 @@ use Rattle.listing_laws.specs.Round.{linesFrom, wholeListing}
 use Rattle.listing_laws.specs.Claims.{InWidths, LargeEnough}
 use Rattle.listing_laws.proofs.BoundLaws.{Bounded, bounded}
 use Rattle.listing_laws.proofs.HoldLaws.{Holds, lead-none}
-use Rattle.listing_laws.proofs.WholeLaws.{Kept, Sound, SameSizes, same-sizes, hold-record, step, reading-same, refused-not}
+use Rattle.listing_laws.proofs.WholeLaws.{Sound, same-sizes, hold-record, step, reading-same, refused-not}
 use Rattle.listing_laws.proofs.LineLaws.{read-page, read-defaults, read-single, read-lead, read-trail, read-pair, read-code}
 use Rattle.listing_laws.proofs.BitLaws.{bytes-none, bytes-other, lead-other}
 
@@ -109,6 +108,7 @@ later-W W last key small late h = lt-ltb last key (omega arith)
 abbrev Listed : (base place : ℕ) → (test has : ℕ → Bool) → Type 0
 Listed base place test has = (c : ℕ) → c < 256 → has c ≡ (ltb (base + c) place && test c)
 
+-- a place behind another one is passed by neither
 pub ltb-more : (x k : ℕ) → (x ≡ k → ⊥) → ltb x (k + 1) ≡ ltb x k
 ltb-more x k ne = by-case (ltb x k) refl
   where
@@ -152,6 +152,7 @@ pub record Before (p : CodePage) (k : ℕ) (s : Progress) : Type 0 where
   pub byte : s .numbers .«default_byte» ≡ p .defaultByte
   pub unit : s .numbers .«default_unit» ≡ p .defaultUnit
 
+-- a byte that was added is in the set
 pub bytes-with : (s : Bytes) (byte : ℕ) → inBytes (addToBytes s byte) byte ≡ true
 unfolding inBytes addToBytes
 bytes-with s byte = by-half (ltb byte 0x80) refl
@@ -160,6 +161,7 @@ bytes-with s byte = by-half (ltb byte 0x80) refl
     by-half true q = rw q (half-with (s .low) byte)
     by-half false q = rw q (half-with (s .high) (byte - 0x80))
 
+-- a lead that was listed is listed
 pub lead-with : (leads : Half) (byte : ℕ) → 0x80 ≤ byte → isListedLead (withLead leads byte) byte ≡ true
 unfolding isListedLead withLead
 lead-with leads byte h = rw (le-ltb byte 0x80 h, le-leb 0x80 byte h) (half-with leads (byte - 0x80))
@@ -167,6 +169,7 @@ lead-with leads byte h = rw (le-ltb byte 0x80 h, le-leb 0x80 byte h) (half-with 
 both : {a b : Bool} → a ≡ true → b ≡ true → (a && b) ≡ true
 both {a} {b} x y = rw (x, y)
 
+-- a lead is no single
 pub lead-not-single : (class : ℕ) → isLead class ≡ true → isSingle class ≡ false
 unfolding isLead isSingle
 lead-not-single class e = by-two (eqb class 2) refl
@@ -364,6 +367,7 @@ module _ (p : CodePage) (good : GoodShape p) (m : InWidths p) (k : ℕ) (s : Pro
       by-class true x false y = rw (x, y) (fine-none (omega arith))
       by-class false x u y = rw x (fine-none (omega arith))
 
+  -- every record of a table set is read back and accepted at its place
   pub fine : 2 ≤ k → k < 131842 → Fine p k s (recordAt p k)
   unfolding recordAt
   fine l h = by-size (ltb k 258) refl (ltb k 514) refl (ltb k 770) refl (ltb k 66306) refl
@@ -396,6 +400,7 @@ large-after s r t l =
       blocks = omega (arith, l .blocks, same-sizes s r t .blocks);
     }
 
+-- large tables fit what has been read
 pub large-fits : (n : Progress) (u t : Tables) → Holds n u → LargeEnough t → fit (sizesOf n) t ≡ true
 unfolding fit sizesOf countHalf blockCount
 large-fits n u t h l =
@@ -410,6 +415,7 @@ large-fits n u t h l =
     by-case true = omega arith
     by-case false = omega (arith, h .block)
 
+-- a record that is read back, accepted, in tables that fit
 pub read-as : (s : Progress) (r : Record) (t : Tables) → recordOf (recordLine r) ≡ r → accepts s r ≡ true → fit (sizesOf (after s r)) t ≡ true → readOf s (recordLine r) t ≡ reading (Accepted (after s r)) (changeOf s r t)
 unfolding readOf readRecord
 read-as s r t back accepted roomy = ap (λ (q : Record). readRecord s q t) back ∙ rw (accepted, roomy, readRecord)
@@ -526,6 +532,7 @@ module _ (p : CodePage) (good : GoodShape p) (m : InWidths p) (Q : ℕ → Table
       took : Took s (recordAt p k) t
       took = take s (recordAt p k) t sound (room .0) (known .0) (known .1 .0)
 
+  -- from place to place
   pub every-place : (count k : ℕ) (s : Progress) (t : Tables) → count + k ≡ 131842 → 2 ≤ k → Before p k s → Sound s t → G count k s t → Q k t → Arrived p Q s (linesFrom p count k) t
   unfolding linesFrom readAll
   every-place zero k s t e l b sound g here =
@@ -627,5 +634,6 @@ module _ (p : CodePage) (good : GoodShape p) {Q : ℕ → Tables → Type 0} {s 
       single : inBytes (a .state .singles) c ≡ isSingle (entryAt (p .classes) c)
       single = a .before .singles c h ∙ ap (λ (x : Bool). x && isSingle (entryAt (p .classes) c)) (lt-ltb (2 + c) 131842 (omega arith))
 
+  -- the classes come back
   pub same-classes : (byte : ℕ) → byte < 256 → entryAt (a .lent .classes) byte ≡ entryAt (p .classes) byte
   same-classes byte h = a .sound (omega (arith, a .before .late)) .holds .classes byte h ∙ all-listed byte h

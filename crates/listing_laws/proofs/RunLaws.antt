@@ -1,11 +1,11 @@
 -- THE WRITER'S RUN: the lines of its calls, from the first cursor on, are the whole listing, and then it is done.
-use mathlib.Core.Bool.{Bool, true, false, not}
+use mathlib.Core.Bool.{Bool, true, false}
 use mathlib.Core.List.{List, [], _∷_}
-use mathlib.Core.Path.{_≡_, refl, sym, ap, ap₂, _∙_, subst}
-use Prim.Native.Nat.{ℕ, zero, suc, _+_, _-_, _*_, _≤_, _<_}
+use mathlib.Core.Path.{_≡_, refl, ap, _∙_}
+use Prim.Native.Nat.{ℕ, zero, suc, _+_, _-_, _≤_, _<_}
 use native.Mathlib.Numerals.{add-one}
 use native.Mathlib.Omega.{arith}
-use lib.Dec.{leb, ltb, eqb}
+use lib.Dec.{ltb, eqb}
 use lib.ListN.{length, length-append}
 use borrow.Author.Tests.{le-leb, lt-leb, le-ltb}
 use Rattle.codepage.specs.CodePage.{CodePage, GoodShape, pick, firstFault, isGood}
@@ -15,10 +15,10 @@ use Rattle.listing.specs.declared.Record.the-variants.{Page, Defaults, Single, 
 use Rattle.lister.specs.declared.Cursor.{Cursor}
 use Rattle.lister.specs.declared.Listed.the-variants.{Line, Done}
 use Rattle.lister.specs.Lines.{decimalText, pageText, unitText, singleText, recordLine}
-use Rattle.lister.specs.Lister.{places, recordAt, isRecord, firstOf, nextPlace, NextLine, unwritten, listRecord, listOf, firstLine}
+use Rattle.lister.specs.Lister.{places, recordAt, isRecord, NextLine, unwritten, listRecord, listOf, firstLine}
 use Rattle.lister.proofs.PlaceLaws.{next-end, next-here, next-turn}
 use Rattle.listing_laws.specs.Round.{linesFrom, wholeListing}
-use Rattle.listing_laws.specs.Run.{WriterRun, lineThen, thenWrite, writeAll}
+use Rattle.listing_laws.specs.Run.{lineThen, thenWrite, writeAll}
 
 -- ---- a line has at most 12 bytes
 page-short : (page : ℕ) → length (pageText page) ≤ 5
@@ -40,6 +40,7 @@ single-short unit = by-unit (eqb unit 0xFFFF)
     by-unit true = omega arith
     by-unit false = omega arith
 
+-- a line has at most 12 bytes
 pub line-short : (r : Record) → length (recordLine r) ≤ 12
 line-short (Page page) = omega (arith, page-short page, length-append (pageText page) (10 ∷ []))
 line-short (Defaults byte unit) = omega arith

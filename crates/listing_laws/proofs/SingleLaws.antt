@@ -1,30 +1,28 @@
 -- The characters of single bytes come back.
 use mathlib.Core.Bool.{Bool, true, false, _&&_, false≢true, true≢false}
 use mathlib.Core.List.{List}
-use mathlib.Core.Path.{_≡_, refl, sym, ap, ap₂, _∙_, subst}
-use Prim.Native.Nat.{ℕ, zero, suc, _+_, _-_, _*_, _/_, _%_, _≤_, _<_}
+use mathlib.Core.Path.{_≡_, refl, sym, ap, _∙_}
+use Prim.Native.Nat.{ℕ, _+_, _-_, _*_, _/_, _%_, _≤_, _<_}
 use native.Mathlib.Omega.{arith}
 use lib.Dec.{ltb, eqb}
 use lib.ListN.{length, getD, set}
 use lib.Seq.{getD-set-same, getD-set-other}
 use borrow.Author.Tests.{lt-ltb, le-ltb, ltb-true, ltb-false, eqb-true, eqb-false, ne-eqb}
-use Rattle.codepage.specs.CodePage.{CodePage, GoodShape, pick, entryAt, isSingle, isLead, isTrail, leadsBelow}
+use Rattle.codepage.specs.CodePage.{CodePage, pick, entryAt, isSingle, isLead, isTrail, leadsBelow}
 use Rattle.codepage.specs.Reading.{byteAlone}
 use Rattle.listing.specs.declared.Progress.{Progress}
-use Rattle.listing.specs.declared.Letter.the-variants.{Start}
 use Rattle.listing.specs.declared.Record.{Record}
-use Rattle.listing.specs.declared.Record.the-variants.{Page, Defaults, Single, Lead, Trail, Pair, Code, NoRecord}
-use Rattle.listing.specs.Form.{unlessNone}
+use Rattle.listing.specs.declared.Record.the-variants.{Single, NoRecord}
 use Rattle.listing.specs.Order.{after, sizesOf}
 use Rattle.listing.specs.Tables.{Tables, changeOf}
-use Rattle.lister.specs.Lister.{places, singleAt, leadAt, trailAt, pairAt, codeAt, recordAt, isRecord}
-use Rattle.listing_laws.specs.Round.{wholeListing}
-use Rattle.listing_laws.proofs.RoundLaws.{Before, FitsAll, Keeps}
+use Rattle.lister.specs.Lister.{singleAt, leadAt, trailAt, pairAt, codeAt, recordAt, isRecord}
+use Rattle.listing_laws.proofs.RoundLaws.{FitsAll, Keeps}
 
 -- the singles before a place have their characters
 abbrev pub Singles : CodePage → ℕ → Tables → Type 0
 Singles p k t = (c : ℕ) → c < 256 → 2 + c < k → isSingle (entryAt (p .classes) c) ≡ true → entryAt (t .singles) c ≡ entryAt (p .singles) c
 
+-- the places of singles
 pub at-single : (p : CodePage) (c : ℕ) → c < 256 → recordAt p (2 + c) ≡ singleAt (p .classes) (p .singles) c
 unfolding recordAt
 at-single p c h =
@@ -84,6 +82,7 @@ wide : (n : Progress) (t : Tables) → FitsAll (sizesOf n) t → 256 ≤ length 
 unfolding sizesOf
 wide n t f = f .singles-fit
 
+-- the characters of singles are kept
 pub singles-keep : (p : CodePage) → Keeps p (Singles p)
 singles-keep p =
     record {

@@ -2,7 +2,7 @@
 use mathlib.Core.Bool.{Bool, true, false, _&&_, false≢true, true≢false}
 use mathlib.Core.List.{List}
 use mathlib.Core.Path.{_≡_, refl, sym, ap, ap₂, _∙_, subst}
-use Prim.Native.Nat.{ℕ, zero, suc, _+_, _-_, _*_, _/_, _%_, _≤_, _<_}
+use Prim.Native.Nat.{ℕ, _+_, _-_, _*_, _/_, _%_, _≤_, _<_}
 use native.Mathlib.Omega.{arith}
 use lib.Dec.{ltb, eqb}
 use lib.ListN.{length}
@@ -19,9 +19,8 @@ use Rattle.listing.specs.Tables.{Tables, filled, changeOf}
 use Rattle.lister.specs.Lister.{singleAt, leadAt, trailAt, pairAt, codeAt, recordAt, isRecord}
 use Rattle.listing_laws.specs.Claims.{InWidths}
 use Rattle.listing_laws.proofs.FilledLaws.{filled-front}
-use Rattle.listing_laws.proofs.CodeLaws.{OneCode, CodePut, code-put}
+use Rattle.listing_laws.proofs.CodeLaws.{CodePut, code-put}
 use Rattle.listing_laws.proofs.WholeLaws.{Sound}
-use Rattle.listing_laws.proofs.HoldLaws.{Holds}
 use Rattle.listing_laws.proofs.RoundLaws.{Before, FitsAll, Keeps, fine, ltb-more}
 
 -- the code of a unit in a table set
@@ -42,6 +41,7 @@ unfolding sizesOf blockCount
 one-block page t f = f .blocks-fit
 
 module _ (p : CodePage) where
+  -- the places of codes
   pub at-code : (c : ℕ) → recordAt p (66306 + c) ≡ codeAt (p .index) (p .blocks) c
   unfolding recordAt
   at-code c =
@@ -146,6 +146,7 @@ module _ (p : CodePage) where
       ∙ filled-front (t .blocks) 256 0xFFFF (u % 256) (omega arith) (one-block page t fits)
       ∙ sym (ap (λ (x : Bool). pick x (codeIn p u) 0xFFFF) (le-ltb (66306 + u) 2 (omega arith)))
 
+  -- the codes of units are kept
   pub codes-keep : GoodShape p → InWidths p → Keeps p (Codes p)
   codes-keep good m =
       record {

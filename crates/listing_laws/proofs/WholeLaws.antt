@@ -1,14 +1,14 @@
 -- THE SHAPE: an accepted whole listing, each table cut to the size needed, has a good shape.
-use mathlib.Core.Bool.{Bool, true, false, not, _&&_, false≢true, true≢false}
+use mathlib.Core.Bool.{Bool, true, false, _&&_, false≢true}
 use mathlib.Core.List.{List, [], _∷_}
 use mathlib.Core.Path.{_≡_, refl, sym, ap, _∙_, subst}
-use Prim.Native.Nat.{ℕ, zero, suc, _+_, _-_, _*_, _/_, _%_, _^_, _≤_, _<_}
+use Prim.Native.Nat.{ℕ, zero, suc, _+_, _-_, _*_, _/_, _≤_, _<_}
 use native.Mathlib.Numerals.{add-one}
 use native.Mathlib.Omega.{arith}
-use lib.Dec.{leb, ltb, eqb}
-use lib.ListN.{length, getD, take, set, length-set}
-use lib.Seq.{length-take-le, getD-take, take-take}
-use borrow.Author.Tests.{leb-true, eqb-true, lt-leb, not-true, not-false}
+use lib.Dec.{leb, eqb}
+use lib.ListN.{length, take, set, length-set}
+use lib.Seq.{length-take-le, getD-take}
+use borrow.Author.Tests.{leb-true, eqb-true, lt-leb}
 use Rattle.codepage.specs.CodePage.{pick, entryAt, isKnown, isLead, leads, GoodShape}
 use Rattle.codepage.proofs.ShapeLaws.{count-lead, count-other}
 use Rattle.listing.specs.declared.Progress.{Progress}
@@ -18,18 +18,16 @@ use Rattle.listing.specs.declared.Record.the-variants.{Page, Defaults, Single, 
 use Rattle.listing.specs.declared.Read.{Read}
 use Rattle.listing.specs.declared.Read.the-variants.{Accepted, Refused}
 use Rattle.listing.specs.Sets.{countHalf, inBytes}
-use Rattle.listing.specs.Order.{rank, follows, isListedLead, accepts, after, isNewHigh, codeBlock, blockCount, sizesOf, kindOf, classOf}
+use Rattle.listing.specs.Order.{rank, isListedLead, accepts, after, isNewHigh, codeBlock, blockCount, sizesOf, classOf}
 use Rattle.listing.specs.Form.{recordOf}
 use Rattle.listing.specs.Steps.{Fits, Ready}
-use Rattle.listing.specs.Tables.{Tables, tables, filled, opened, changeOf, fit, Reading, reading, readRecord, readOf, endOf}
+use Rattle.listing.specs.Tables.{Tables, filled, opened, changeOf, fit, Reading, reading, readRecord, readOf, endOf}
 use Rattle.codepage.specs.declared.Numbers.{Numbers}
 use Rattle.listing.specs.declared.Sizes.{Sizes}
-use Rattle.listing.specs.declared.Ended.{Ended}
 use Rattle.listing.specs.declared.Refusal.{Refusal}
 use Rattle.listing.specs.declared.Refusal.the-variants.{BadLine, TooSmall}
 use Rattle.listing.specs.declared.Ended.the-variants as ended
 use Rattle.listing.specs.Whole.{readAll, thenRead}
-use Rattle.codepage.proofs.ShapeLaws.{and-left, and-right}
 use Rattle.listing.proofs.TableLaws.{filled-length}
 use Rattle.listing.proofs.ChangeLaws.{fit-known, some-block, blocks-room, code-room}
 use Rattle.listing_laws.specs.Cut.{cutSet}
@@ -63,6 +61,7 @@ class-known s byte = by-case (inBytes (s .trails) byte) (isListedLead (s .leads)
     by-case false false true = refl
     by-case false false false = refl
 
+-- leads counted by their classes
 pub leads-tally : (classes : List ℕ) (n : ℕ) → n ≤ length classes → leads (take n classes) ≡ tally (λ i. isLead (entryAt classes i)) n
 unfolding leads tally
 leads-tally classes zero h = refl
@@ -85,6 +84,7 @@ Sound s t = 1 ≤ rank (s .letter) → Kept s t
 
 -- an accepted record in tables that fit
 module _ (s : Progress) (t : Tables) (sound : Sound s t) where
+  -- what holds is kept by every accepted record
   pub hold-record : (r : Record) → Bounded r → accepts s r ≡ true → 256 ≤ length (t .classes) → 256 ≤ length (t .index) → Holds (after s r) (changeOf s r t)
   hold-record (Page page) b e long wide = hold-page s page t b long wide
   hold-record (Defaults byte unit) b e long wide = hold-defaults s t (sound (omega (arith, eqb-true (rank (s .letter)) 1 e)) .holds) byte unit e
@@ -111,6 +111,7 @@ pub record SameSizes (t u : Tables) : Type 0 where
   pub index : length (u .index) ≡ length (t .index)
   pub blocks : length (u .blocks) ≡ length (t .blocks)
 
+-- no table changes its size
 pub same-sizes : (s : Progress) (r : Record) (t : Tables) → SameSizes t (changeOf s r t)
 same-sizes s (Page page) t = record { classes = filled-length _ _ _ _; singles = filled-length _ _ _ _; pairs = refl; index = filled-length _ _ _ _; blocks = filled-length _ _ _ _ }
 same-sizes s (Defaults byte unit) t = record { classes = refl; singles = refl; pairs = refl; index = refl; blocks = refl }
@@ -170,16 +171,20 @@ module _ (s : Progress) (t : Tables) (sound : Sound s t) where
           let roomy : Fits (sizesOf (after s r)) (t .classes) (t .singles) (t .pairs) (t .index) (t .blocks) = fit-known (sizesOf (after s r)) (t .classes) (t .singles) (t .pairs) (t .index) (t .blocks) w in
           λ late. rw (q, w, readRecord) (subst (λ (n : Progress). Kept n (changeOf s r t)) same (kept r bound roomy q))
 
+  -- and by every accepted line
   pub step : (line : List ℕ) (u : Progress) → readOf s line t .answer ≡ Accepted u → Sound u (readOf s line t .lent)
   unfolding readOf
   step line u e = step-record (recordOf line) (bounded line) u e
 
+-- equal readings have equal parts
 pub reading-same : {a b : Read} {t u : Tables} → reading a t ≡ reading b u → (a ≡ b) × (t ≡ u)
 reading-same e = (ap (λ (r : Reading). r .answer) e, ap (λ (r : Reading). r .lent) e)
 
+-- a refusal is no acceptance
 pub refused-not : {why : Refusal} {u : Progress} → Refused why ≡ Accepted u → ⊥
 refused-not {why} {u} e = let z : _≡_ {A = ℕ} 0 1 = cc in omega arith
 
+-- and by every accepted listing
 pub every-line : (lines : List (List ℕ)) (s : Progress) (t : Tables) → Sound s t → (s′ : Progress) (t′ : Tables) → readAll s lines t ≡ reading (Accepted s′) t′ → Sound s′ t′
 unfolding readAll
 every-line [] s t sound s′ t′ e =
@@ -219,6 +224,7 @@ module _ (s : Progress) (t : Tables) (kept : Kept s t) where
   unfolding isListedLead
   low-lead byte h = rw (lt-leb 0x80 byte h)
 
+  -- what holds is a good shape
   pub good-shape : GoodShape (cutSet (s .numbers) (sizesOf s) t)
   unfolding cutSet sizesOf
   good-shape =

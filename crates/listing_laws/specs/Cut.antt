@@ -5,6 +5,7 @@ use Rattle.codepage.specs.declared.Numbers.{Numbers}
 use Rattle.listing.specs.declared.Sizes.{Sizes}
 use Rattle.listing.specs.Tables.{Tables}
 
+-- five tables, each cut to a size, with the numbers: the table set that a whole listing gives
 unfoldable pub cutSet : Numbers → Sizes → Tables → CodePage
 cutSet numbers n t =
     codePage numbers
