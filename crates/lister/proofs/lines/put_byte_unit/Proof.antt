@@ -63,7 +63,12 @@ same-length : tie.Need-same-length
 same-length c = simp length-set
 
 returns : tie.Need-returns
-returns c = rw (← c .before .before .before .before .before .hex-byte .ensures, ← c .before .before .before .before .hex-byte2 .ensures, ← c .before .before .before .hex-byte3 .ensures, ← c .before .before .hex-byte4 .ensures, ← c .before .hex-byte5 .ensures, ← c .hex-byte6 .ensures) (over-sets _ _ (omega arith))
+returns c =
+    let at-2 = c .before .before in
+    let at-3 = at-2 .before in
+    let at-4 = at-3 .before in
+    let at-5 = at-4 .before in
+    rw (← at-5 .hex-byte .ensures, ← at-4 .hex-byte2 .ensures, ← at-3 .hex-byte3 .ensures, ← at-2 .hex-byte4 .ensures, ← c .before .hex-byte5 .ensures, ← c .hex-byte6 .ensures) (over-sets _ _ (omega arith))
 
 pub put-byte-unit-spec : {M : Type 1} → statement M
 put-byte-unit-spec =

@@ -81,7 +81,14 @@ same-length : tie.Need-same-length
 same-length c = simp length-set
 
 returns : tie.Need-returns
-returns c = rw (← c .before .before .before .before .before .before .before .hex-byte .ensures, ← c .before .before .before .before .before .before .hex-byte2 .ensures, ← c .before .before .before .before .before .hex-byte3 .ensures, ← c .before .before .before .before .hex-byte4 .ensures, ← c .before .before .before .hex-byte5 .ensures, ← c .before .before .hex-byte6 .ensures, ← c .before .hex-byte7 .ensures, ← c .hex-byte8 .ensures) (over-sets _ _ (omega arith))
+returns c =
+    let at-2 = c .before .before in
+    let at-3 = at-2 .before in
+    let at-4 = at-3 .before in
+    let at-5 = at-4 .before in
+    let at-6 = at-5 .before in
+    let at-7 = at-6 .before in
+    rw (← at-7 .hex-byte .ensures, ← at-6 .hex-byte2 .ensures, ← at-5 .hex-byte3 .ensures, ← at-4 .hex-byte4 .ensures, ← at-3 .hex-byte5 .ensures, ← at-2 .hex-byte6 .ensures, ← c .before .hex-byte7 .ensures, ← c .hex-byte8 .ensures) (over-sets _ _ (omega arith))
 
 pub put-units-spec : {M : Type 1} → statement M
 put-units-spec =

@@ -33,7 +33,11 @@ loop-less : tie.Need-loop-less Inv-loop μ-loop
 loop-less c = omega arith
 
 loop-again : tie.Need-loop-again Inv-loop μ-loop
-loop-again c = (c .before .before .before .before .loop .inv .0 ∙ next-turn _ (c .before .before .before .before .loop .place) (c .before .before .before .loop-test .taken) (sym (ap isRecord (c .before .before .record-at .ensures)) ∙ sym (c .before .is-record .ensures) ∙ c .if1 .left), c .before .before .before .before .loop .inv .1)
+loop-again c =
+    let at-2 = c .before .before in
+    let at-3 = at-2 .before in
+    let at-4 = at-3 .before in
+    (at-4 .loop .inv .0 ∙ next-turn _ (at-4 .loop .place) (at-3 .loop-test .taken) (sym (ap isRecord (at-2 .record-at .ensures)) ∙ sym (c .before .is-record .ensures) ∙ c .if1 .left), at-4 .loop .inv .1)
 
 returns-2 : tie.Need-returns-2 Inv-loop μ-loop
 returns-2 c = sym (c .before .loop .inv .0 ∙ next-end _ (c .before .loop .place) (c .loop-test .left))

@@ -50,7 +50,12 @@ unless-none-requires c κs = search needs
 
 returns-3 : tie.Need-returns-3
 unfolding pairAt
-returns-3 c = rw (sym (c .before .before .before .before .before .before .is-lead-class .ensures) ∙ not-false _ (c .before .before .before .before .before .if1 .left), sym (c .before .before .before .is-trail-class .ensures) ∙ not-false _ (c .before .before .if2 .left), ← c .before .pair-entry .ensures) (c .unless-none .ensures)
+returns-3 c =
+    let at-2 = c .before .before in
+    let at-3 = at-2 .before in
+    let at-5 = at-3 .before .before in
+    let at-6 = at-5 .before in
+    rw (sym (at-6 .is-lead-class .ensures) ∙ not-false _ (at-5 .if1 .left), sym (at-3 .is-trail-class .ensures) ∙ not-false _ (at-2 .if2 .left), ← c .before .pair-entry .ensures) (c .unless-none .ensures)
 
 pub pair-at-spec : {M : Type 1} → statement M
 pair-at-spec =

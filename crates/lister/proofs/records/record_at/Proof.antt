@@ -54,7 +54,13 @@ pair-at-requires c κs = let good = c .before .before .before .before .before .b
 
 returns-6 : tie.Need-returns-6
 unfolding recordAt
-returns-6 c = rw (ne-eqb _ _ (c .before .before .before .before .before .before .if1 .left), ne-eqb _ _ (c .before .before .before .before .before .if2 .left), le-ltb _ _ (c .before .before .before .before .if3 .left), le-ltb _ _ (c .before .before .before .if4 .left), le-ltb _ _ (c .before .before .if5 .left), lt-ltb _ _ (c .before .if6 .taken)) (c .pair-at .ensures)
+returns-6 c =
+    let at-2 = c .before .before in
+    let at-3 = at-2 .before in
+    let at-4 = at-3 .before in
+    let at-5 = at-4 .before in
+    let at-6 = at-5 .before in
+    rw (ne-eqb _ _ (at-6 .if1 .left), ne-eqb _ _ (at-5 .if2 .left), le-ltb _ _ (at-4 .if3 .left), le-ltb _ _ (at-3 .if4 .left), le-ltb _ _ (at-2 .if5 .left), lt-ltb _ _ (c .before .if6 .taken)) (c .pair-at .ensures)
 
 cast-code-at : tie.Need-cast-code-at
 cast-code-at c = search needs
@@ -64,7 +70,13 @@ code-at-requires c κs = search needs
 
 returns-7 : tie.Need-returns-7
 unfolding recordAt
-returns-7 c = rw (ne-eqb _ _ (c .before .before .before .before .before .before .if1 .left), ne-eqb _ _ (c .before .before .before .before .before .if2 .left), le-ltb _ _ (c .before .before .before .before .if3 .left), le-ltb _ _ (c .before .before .before .if4 .left), le-ltb _ _ (c .before .before .if5 .left), le-ltb _ _ (c .before .if6 .left)) (c .code-at .ensures)
+returns-7 c =
+    let at-2 = c .before .before in
+    let at-3 = at-2 .before in
+    let at-4 = at-3 .before in
+    let at-5 = at-4 .before in
+    let at-6 = at-5 .before in
+    rw (ne-eqb _ _ (at-6 .if1 .left), ne-eqb _ _ (at-5 .if2 .left), le-ltb _ _ (at-4 .if3 .left), le-ltb _ _ (at-3 .if4 .left), le-ltb _ _ (at-2 .if5 .left), le-ltb _ _ (c .before .if6 .left)) (c .code-at .ensures)
 
 pub record-at-spec : {M : Type 1} → statement M
 record-at-spec =

@@ -9,7 +9,9 @@ enum-told : tie.Need-enum-told
 enum-told c = search needs
 
 empty-tables-requires : tie.Need-empty-tables-requires
-empty-tables-requires c κs = (classes-room (c .before .before .before .before .before .before .before .before .before .before .before .pre), singles-room (c .before .before .before .before .before .before .before .before .before .before .before .pre), index-room (c .before .before .before .before .before .before .before .before .before .before .before .pre), blocks-room (c .before .before .before .before .before .before .before .before .before .before .before .pre))
+empty-tables-requires c κs =
+    let at-11 = c .before .before .before .before .before .before .before .before .before .before .before in
+    (classes-room (at-11 .pre), singles-room (at-11 .pre), index-room (at-11 .pre), blocks-room (at-11 .pre))
 
 same-length : tie.Need-same-length
 same-length c = search needs
@@ -24,7 +26,11 @@ same-length-4 : tie.Need-same-length-4
 same-length-4 c = search needs
 
 returns : tie.Need-returns
-returns c = page-change (c .before .before .before .before .before .before .before .before .before .before .before .before .before .before .before .before .before .before .before .before .pre) _ _ _ _ _ (c .before .before .before .before .before .before .before .before .before .before .before .before .before .enum-told .given .1) (c .before .before .before .before .before .before .before .before .empty-tables .ensures .0) (c .before .before .before .before .before .before .before .before .empty-tables .ensures .1) (c .before .before .before .before .before .before .before .before .empty-tables .ensures .2) (c .before .before .before .before .before .before .before .before .empty-tables .ensures .3)
+returns c =
+    let at-8 = c .before .before .before .before .before .before .before .before in
+    let at-13 = at-8 .before .before .before .before .before in
+    let at-20 = at-13 .before .before .before .before .before .before .before in
+    page-change (at-20 .pre) _ _ _ _ _ (at-13 .enum-told .given .1) (at-8 .empty-tables .ensures .0) (at-8 .empty-tables .ensures .1) (at-8 .empty-tables .ensures .2) (at-8 .empty-tables .ensures .3)
 
 enum-told-2 : tie.Need-enum-told-2
 enum-told-2 c = search needs
@@ -60,7 +66,10 @@ enum-known-item-2 : tie.Need-enum-known-item-2
 enum-known-item-2 c = search needs
 
 put-lead-requires : tie.Need-put-lead-requires
-put-lead-requires c κs = (classes-room (c .before .before .before .before .before .before .before .before .before .before .pre), pairs-room (c .before .before .before .before .before .before .before .before .before .before .pre), lead-listed (c .before .before .before .before .before .before .before .before .before .before .pre) _ (c .before .before .before .item2 .given .1))
+put-lead-requires c κs =
+    let at-3 = c .before .before .before in
+    let at-10 = at-3 .before .before .before .before .before .before .before in
+    (classes-room (at-10 .pre), pairs-room (at-10 .pre), lead-listed (at-10 .pre) _ (at-3 .item2 .given .1))
 
 same-length-7 : tie.Need-same-length-7
 same-length-7 c = search needs
@@ -69,7 +78,11 @@ same-length-8 : tie.Need-same-length-8
 same-length-8 c = search needs
 
 returns-4 : tie.Need-returns-4
-returns-4 c = lead-change (c .before .before .before .before .before .before .before .before .before .before .before .before .before .before .before .pre) _ _ _ (c .before .before .before .before .before .before .before .before .item2 .given .1) (c .before .before .before .before .put-lead .ensures .0) (c .before .before .before .before .put-lead .ensures .1)
+returns-4 c =
+    let at-4 = c .before .before .before .before in
+    let at-8 = at-4 .before .before .before .before in
+    let at-15 = at-8 .before .before .before .before .before .before .before in
+    lead-change (at-15 .pre) _ _ _ (at-8 .item2 .given .1) (at-4 .put-lead .ensures .0) (at-4 .put-lead .ensures .1)
 
 enum-known-item-3 : tie.Need-enum-known-item-3
 enum-known-item-3 c = search needs

@@ -43,7 +43,12 @@ same-length-2 : tie.Need-same-length-2
 same-length-2 c = search needs
 
 returns : tie.Need-returns
-returns c = (rw (sym (c .before .before .before .before .before .is-new-high .ensures) ∙ c .before .before .before .before .if1 .taken, ← c .before .before .before .before .before .before .code-block .ensures), rw (sym (c .before .before .before .before .before .is-new-high .ensures) ∙ c .before .before .before .before .if1 .taken, ← c .before .before .before .before .before .before .code-block .ensures, ← c .before .before .open-block .ensures))
+returns c =
+    let at-2 = c .before .before in
+    let at-4 = at-2 .before .before in
+    let at-5 = at-4 .before in
+    let at-6 = at-5 .before in
+    (rw (sym (at-5 .is-new-high .ensures) ∙ at-4 .if1 .taken, ← at-6 .code-block .ensures), rw (sym (at-5 .is-new-high .ensures) ∙ at-4 .if1 .taken, ← at-6 .code-block .ensures, ← at-2 .open-block .ensures))
 
 mul-blocks-2 : tie.Need-mul-blocks-2
 mul-blocks-2 c = search needs

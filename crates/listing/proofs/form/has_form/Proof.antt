@@ -40,7 +40,10 @@ loop-less : tie.Need-loop-less Inv-loop μ-loop
 loop-less c = omega arith
 
 loop-again : tie.Need-loop-again Inv-loop μ-loop
-loop-again c = (omega arith, c .before .before .before .before .before .loop .inv .1, c .before .before .before .before .before .loop .inv .2 ∙ form-turn _ _ (c .before .before .before .before .before .loop .i) (c .before .before .before .before .loop-test .taken) (omega arith) (sym (c .before .fits-symbol .ensures) ∙ not-false _ (c .if2 .left)))
+loop-again c =
+    let at-4 = c .before .before .before .before in
+    let at-5 = at-4 .before in
+    (omega arith, at-5 .loop .inv .1, at-5 .loop .inv .2 ∙ form-turn _ _ (at-5 .loop .i) (at-4 .loop-test .taken) (omega arith) (sym (c .before .fits-symbol .ensures) ∙ not-false _ (c .if2 .left)))
 
 returns-3 : tie.Need-returns-3 Inv-loop μ-loop
 returns-3 c = sym (c .before .loop .inv .2 ∙ form-end _ _ (c .before .loop .i) (c .loop-test .left) (omega arith))

@@ -44,7 +44,9 @@ loop-less : tie.Need-loop-less Inv-loop μ-loop
 loop-less c = omega arith
 
 loop-again : tie.Need-loop-again Inv-loop μ-loop
-loop-again c = (omega arith, omega arith, omega arith, decimal-step _ 2 (c .before .before .before .loop .i) _ _ (c .before .before .before .loop .inv .3) (c .digit-of .ensures .0), omega (arith, room-step (c .before .before .before .loop .i), c .digit-of .ensures .1, c .before .before .before .loop .inv .4))
+loop-again c =
+    let at-3 = c .before .before .before in
+    (omega arith, omega arith, omega arith, decimal-step _ 2 (at-3 .loop .i) _ _ (at-3 .loop .inv .3) (c .digit-of .ensures .0), omega (arith, room-step (at-3 .loop .i), c .digit-of .ensures .1, at-3 .loop .inv .4))
 
 cast-t13 : tie.Need-cast-t13 Inv-loop μ-loop
 cast-t13 c = omega arith

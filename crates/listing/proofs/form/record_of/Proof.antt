@@ -42,7 +42,13 @@ unless-none-requires-2 c κs = search needs
 
 returns-2 : tie.Need-returns-2
 unfolding recordOf
-returns-2 c = rw (sym (c .before .before .before .before .before .before .before .has-form .ensures) ∙ c .before .before .before .before .before .before .if1 .left, sym (c .before .before .before .before .has-form2 .ensures) ∙ c .before .before .before .if2 .taken, ← c .before .before .unit-at3 .ensures, ← c .before .unit-at4 .ensures) (c .unless-none2 .ensures)
+returns-2 c =
+    let at-2 = c .before .before in
+    let at-3 = at-2 .before in
+    let at-4 = at-3 .before in
+    let at-6 = at-4 .before .before in
+    let at-7 = at-6 .before in
+    rw (sym (at-7 .has-form .ensures) ∙ at-6 .if1 .left, sym (at-4 .has-form2 .ensures) ∙ at-3 .if2 .taken, ← at-2 .unit-at3 .ensures, ← c .before .unit-at4 .ensures) (c .unless-none2 .ensures)
 
 slice-aggregate-has-form-3 : tie.Need-slice-aggregate-has-form-3
 slice-aggregate-has-form-3 c = search needs
@@ -61,7 +67,15 @@ unless-none-requires-3 c κs = search needs
 
 returns-3 : tie.Need-returns-3
 unfolding recordOf
-returns-3 c = rw (sym (c .before .before .before .before .before .before .before .before .before .before .has-form .ensures) ∙ c .before .before .before .before .before .before .before .before .before .if1 .left, sym (c .before .before .before .before .before .before .before .has-form2 .ensures) ∙ c .before .before .before .before .before .before .if2 .left, sym (c .before .before .before .before .has-form3 .ensures) ∙ c .before .before .before .if3 .taken, ← c .before .before .unit-at5 .ensures, ← c .before .byte-at .ensures) (c .unless-none3 .ensures)
+returns-3 c =
+    let at-2 = c .before .before in
+    let at-3 = at-2 .before in
+    let at-4 = at-3 .before in
+    let at-6 = at-4 .before .before in
+    let at-7 = at-6 .before in
+    let at-9 = at-7 .before .before in
+    let at-10 = at-9 .before in
+    rw (sym (at-10 .has-form .ensures) ∙ at-9 .if1 .left, sym (at-7 .has-form2 .ensures) ∙ at-6 .if2 .left, sym (at-4 .has-form3 .ensures) ∙ at-3 .if3 .taken, ← at-2 .unit-at5 .ensures, ← c .before .byte-at .ensures) (c .unless-none3 .ensures)
 
 slice-aggregate-has-form-4 : tie.Need-slice-aggregate-has-form-4
 slice-aggregate-has-form-4 c = search needs
@@ -74,7 +88,15 @@ byte-at-requires-2 c κs = omega (arith, form-length _ _ (sym (c .before .has-fo
 
 returns-4 : tie.Need-returns-4
 unfolding recordOf
-returns-4 c = rw (sym (c .before .before .before .before .before .before .before .before .before .before .before .has-form .ensures) ∙ c .before .before .before .before .before .before .before .before .before .before .if1 .left, sym (c .before .before .before .before .before .before .before .before .has-form2 .ensures) ∙ c .before .before .before .before .before .before .before .if2 .left, sym (c .before .before .before .before .before .has-form3 .ensures) ∙ c .before .before .before .before .if3 .left, sym (c .before .before .has-form4 .ensures) ∙ c .before .if4 .taken, ← c .byte-at2 .ensures)
+returns-4 c =
+    let at-2 = c .before .before in
+    let at-4 = at-2 .before .before in
+    let at-5 = at-4 .before in
+    let at-7 = at-5 .before .before in
+    let at-8 = at-7 .before in
+    let at-10 = at-8 .before .before in
+    let at-11 = at-10 .before in
+    rw (sym (at-11 .has-form .ensures) ∙ at-10 .if1 .left, sym (at-8 .has-form2 .ensures) ∙ at-7 .if2 .left, sym (at-5 .has-form3 .ensures) ∙ at-4 .if3 .left, sym (at-2 .has-form4 .ensures) ∙ c .before .if4 .taken, ← c .byte-at2 .ensures)
 
 slice-aggregate-has-form-5 : tie.Need-slice-aggregate-has-form-5
 slice-aggregate-has-form-5 c = search needs
@@ -87,7 +109,17 @@ byte-at-requires-3 c κs = omega (arith, form-length _ _ (sym (c .before .has-fo
 
 returns-5 : tie.Need-returns-5
 unfolding recordOf
-returns-5 c = rw (sym (c .before .before .before .before .before .before .before .before .before .before .before .before .before .before .has-form .ensures) ∙ c .before .before .before .before .before .before .before .before .before .before .before .before .before .if1 .left, sym (c .before .before .before .before .before .before .before .before .before .before .before .has-form2 .ensures) ∙ c .before .before .before .before .before .before .before .before .before .before .if2 .left, sym (c .before .before .before .before .before .before .before .before .has-form3 .ensures) ∙ c .before .before .before .before .before .before .before .if3 .left, sym (c .before .before .before .before .before .has-form4 .ensures) ∙ c .before .before .before .before .if4 .left, sym (c .before .before .has-form5 .ensures) ∙ c .before .if5 .taken, ← c .byte-at3 .ensures)
+returns-5 c =
+    let at-2 = c .before .before in
+    let at-4 = at-2 .before .before in
+    let at-5 = at-4 .before in
+    let at-7 = at-5 .before .before in
+    let at-8 = at-7 .before in
+    let at-10 = at-8 .before .before in
+    let at-11 = at-10 .before in
+    let at-13 = at-11 .before .before in
+    let at-14 = at-13 .before in
+    rw (sym (at-14 .has-form .ensures) ∙ at-13 .if1 .left, sym (at-11 .has-form2 .ensures) ∙ at-10 .if2 .left, sym (at-8 .has-form3 .ensures) ∙ at-7 .if3 .left, sym (at-5 .has-form4 .ensures) ∙ at-4 .if4 .left, sym (at-2 .has-form5 .ensures) ∙ c .before .if5 .taken, ← c .byte-at3 .ensures)
 
 slice-aggregate-has-form-6 : tie.Need-slice-aggregate-has-form-6
 slice-aggregate-has-form-6 c = search needs
@@ -100,7 +132,19 @@ byte-at-requires-4 c κs = omega (arith, form-length _ _ (sym (c .before .has-fo
 
 returns-6 : tie.Need-returns-6
 unfolding recordOf
-returns-6 c = rw (sym (c .before .before .before .before .before .before .before .before .before .before .before .before .before .before .before .before .before .has-form .ensures) ∙ c .before .before .before .before .before .before .before .before .before .before .before .before .before .before .before .before .if1 .left, sym (c .before .before .before .before .before .before .before .before .before .before .before .before .before .before .has-form2 .ensures) ∙ c .before .before .before .before .before .before .before .before .before .before .before .before .before .if2 .left, sym (c .before .before .before .before .before .before .before .before .before .before .before .has-form3 .ensures) ∙ c .before .before .before .before .before .before .before .before .before .before .if3 .left, sym (c .before .before .before .before .before .before .before .before .has-form4 .ensures) ∙ c .before .before .before .before .before .before .before .if4 .left, sym (c .before .before .before .before .before .has-form5 .ensures) ∙ c .before .before .before .before .if5 .left, sym (c .before .before .has-form6 .ensures) ∙ c .before .if6 .taken, ← c .byte-at4 .ensures)
+returns-6 c =
+    let at-2 = c .before .before in
+    let at-4 = at-2 .before .before in
+    let at-5 = at-4 .before in
+    let at-7 = at-5 .before .before in
+    let at-8 = at-7 .before in
+    let at-10 = at-8 .before .before in
+    let at-11 = at-10 .before in
+    let at-13 = at-11 .before .before in
+    let at-14 = at-13 .before in
+    let at-16 = at-14 .before .before in
+    let at-17 = at-16 .before in
+    rw (sym (at-17 .has-form .ensures) ∙ at-16 .if1 .left, sym (at-14 .has-form2 .ensures) ∙ at-13 .if2 .left, sym (at-11 .has-form3 .ensures) ∙ at-10 .if3 .left, sym (at-8 .has-form4 .ensures) ∙ at-7 .if4 .left, sym (at-5 .has-form5 .ensures) ∙ at-4 .if5 .left, sym (at-2 .has-form6 .ensures) ∙ c .before .if6 .taken, ← c .byte-at4 .ensures)
 
 slice-aggregate-has-form-7 : tie.Need-slice-aggregate-has-form-7
 slice-aggregate-has-form-7 c = search needs
@@ -116,14 +160,43 @@ unit-at-requires-6 c κs = omega (arith, form-length _ _ (sym (c .before .before
 
 returns-7 : tie.Need-returns-7
 unfolding recordOf
-returns-7 c = rw (sym (c .before .before .before .before .before .before .before .before .before .before .before .before .before .before .before .before .before .before .before .before .before .has-form .ensures) ∙ c .before .before .before .before .before .before .before .before .before .before .before .before .before .before .before .before .before .before .before .before .if1 .left, sym (c .before .before .before .before .before .before .before .before .before .before .before .before .before .before .before .before .before .before .has-form2 .ensures) ∙ c .before .before .before .before .before .before .before .before .before .before .before .before .before .before .before .before .before .if2 .left, sym (c .before .before .before .before .before .before .before .before .before .before .before .before .before .before .before .has-form3 .ensures) ∙ c .before .before .before .before .before .before .before .before .before .before .before .before .before .before .if3 .left, sym (c .before .before .before .before .before .before .before .before .before .before .before .before .has-form4 .ensures) ∙ c .before .before .before .before .before .before .before .before .before .before .before .if4 .left, sym (c .before .before .before .before .before .before .before .before .before .has-form5 .ensures) ∙ c .before .before .before .before .before .before .before .before .if5 .left, sym (c .before .before .before .before .before .before .has-form6 .ensures) ∙ c .before .before .before .before .before .if6 .left, sym (c .before .before .before .has-form7 .ensures) ∙ c .before .before .if7 .taken, ← c .before .byte-at5 .ensures, ← c .unit-at6 .ensures)
+returns-7 c =
+    let at-2 = c .before .before in
+    let at-3 = at-2 .before in
+    let at-5 = at-3 .before .before in
+    let at-6 = at-5 .before in
+    let at-8 = at-6 .before .before in
+    let at-9 = at-8 .before in
+    let at-11 = at-9 .before .before in
+    let at-12 = at-11 .before in
+    let at-14 = at-12 .before .before in
+    let at-15 = at-14 .before in
+    let at-17 = at-15 .before .before in
+    let at-18 = at-17 .before in
+    let at-20 = at-18 .before .before in
+    let at-21 = at-20 .before in
+    rw (sym (at-21 .has-form .ensures) ∙ at-20 .if1 .left, sym (at-18 .has-form2 .ensures) ∙ at-17 .if2 .left, sym (at-15 .has-form3 .ensures) ∙ at-14 .if3 .left, sym (at-12 .has-form4 .ensures) ∙ at-11 .if4 .left, sym (at-9 .has-form5 .ensures) ∙ at-8 .if5 .left, sym (at-6 .has-form6 .ensures) ∙ at-5 .if6 .left, sym (at-3 .has-form7 .ensures) ∙ at-2 .if7 .taken, ← c .before .byte-at5 .ensures, ← c .unit-at6 .ensures)
 
 page-of-requires : tie.Need-page-of-requires
 page-of-requires c κs = search needs
 
 returns-8 : tie.Need-returns-8
 unfolding recordOf
-returns-8 c = rw (sym (c .before .before .before .before .before .before .before .before .before .before .before .before .before .before .before .before .before .before .before .before .has-form .ensures) ∙ c .before .before .before .before .before .before .before .before .before .before .before .before .before .before .before .before .before .before .before .if1 .left, sym (c .before .before .before .before .before .before .before .before .before .before .before .before .before .before .before .before .before .has-form2 .ensures) ∙ c .before .before .before .before .before .before .before .before .before .before .before .before .before .before .before .before .if2 .left, sym (c .before .before .before .before .before .before .before .before .before .before .before .before .before .before .has-form3 .ensures) ∙ c .before .before .before .before .before .before .before .before .before .before .before .before .before .if3 .left, sym (c .before .before .before .before .before .before .before .before .before .before .before .has-form4 .ensures) ∙ c .before .before .before .before .before .before .before .before .before .before .if4 .left, sym (c .before .before .before .before .before .before .before .before .has-form5 .ensures) ∙ c .before .before .before .before .before .before .before .if5 .left, sym (c .before .before .before .before .before .has-form6 .ensures) ∙ c .before .before .before .before .if6 .left, sym (c .before .before .has-form7 .ensures) ∙ c .before .if7 .left) (c .page-of .ensures)
+returns-8 c =
+    let at-2 = c .before .before in
+    let at-4 = at-2 .before .before in
+    let at-5 = at-4 .before in
+    let at-7 = at-5 .before .before in
+    let at-8 = at-7 .before in
+    let at-10 = at-8 .before .before in
+    let at-11 = at-10 .before in
+    let at-13 = at-11 .before .before in
+    let at-14 = at-13 .before in
+    let at-16 = at-14 .before .before in
+    let at-17 = at-16 .before in
+    let at-19 = at-17 .before .before in
+    let at-20 = at-19 .before in
+    rw (sym (at-20 .has-form .ensures) ∙ at-19 .if1 .left, sym (at-17 .has-form2 .ensures) ∙ at-16 .if2 .left, sym (at-14 .has-form3 .ensures) ∙ at-13 .if3 .left, sym (at-11 .has-form4 .ensures) ∙ at-10 .if4 .left, sym (at-8 .has-form5 .ensures) ∙ at-7 .if5 .left, sym (at-5 .has-form6 .ensures) ∙ at-4 .if6 .left, sym (at-2 .has-form7 .ensures) ∙ c .before .if7 .left) (c .page-of .ensures)
 
 pub record-of-spec : {M : Type 1} → statement M
 record-of-spec =
