@@ -361,6 +361,11 @@ def double_codes(tables):
     tables.set_codes(codes)
 
 
+def shared_block(tables):
+    """The units 01xx and FFxx have the codes of 30xx: three high halves share a block."""
+    tables.index[0x01] = tables.index[0xFF] = tables.index[0x30]
+
+
 def odd_defaults(tables):
     tables.default_byte = 0x81
     tables.default_unit = 0xD800
@@ -406,6 +411,7 @@ OTHERS = {
     "odd_codes": odd_codes,
     "surrogate_codes": surrogate_codes,
     "double_codes": double_codes,
+    "shared_block": shared_block,
     "odd_defaults": odd_defaults,
     "default_ffff": default_ffff,
     "spread_leads": spread_leads,
@@ -491,6 +497,14 @@ def initial_script():
     script.expect("findings 755 0 0 0", "findings 17 kept")
     script.expect("findings 555 0 0 3", "findings 10 kept")
     script.expect("findings 555 0 1 3", "?")
+    script.note("lent tables of size 0, a fresh reader, the writer at the first line")
+    empty = "811C9DC5"
+    script.expect("lent", f"lent {' '.join([empty] * 5)}")
+    script.expect(f"line {line_hex('P>9;')}", "line 23")
+    script.expect(f"line {line_hex('D>3F>30FB;')}", "line 22")
+    script.expect("listed", "listed 22")
+    script.expect("list 12", "list 10 kept")
+    script.expect("list 0", "list 10 kept")
     script.expect("spell 0 1 5", "?")
     script.expect("entry 0 0 0", "?")
     script.note("no field buffer, and nothing held")
@@ -513,6 +527,7 @@ def initial_script():
     script.expect("spell 0 0 0", "spell 0 0 - kept")
     script.expect("inplace 555 0 -", "inplace 0 0 0 0 - kept")
     script.expect("findings 000 0 0 0", "findings 0 0 0 kept")
+    script.expect("list 12", f"list 0 4 {line_hex('P>7;')} kept")
     return script
 
 
@@ -688,6 +703,9 @@ def grammar_script():
         # findings
         "findings", "findings 555 0 2", "findings 555 0 3 5", "findings 555 2 1 5", "findings 55 0 2 5", "findings 555 0 2 301",
         "findings 555 0 2 05", "findings 555 00 2 5", "findings 555 0 2 5 5", "findings D 555 0 2 5",
+        # listings
+        "lend", "lend 256 256 0 256", "lend 301 256 0 256 256", "lend 256 256 33025 256 256", "lend 256 256 0 256 66049",
+        "lend 256 256 0 256 0256", "line", "line 5", "line 50093", "line 5009390a", "lent 0", "listed 0", "lister 0", "list", "list 301", "list 012",
         # nothing else is a command
         "quit", "help", "decodes 0 1 last 5", "tables sample.tbl", "policy 555", "shape\tgood",
     )

@@ -14,6 +14,7 @@ Kinds of script:
     lists_inplace    units encoded in their own buffer, with surrogates in pairs and alone, some buffers of an odd size
     lists_here       lists of calls of both forms on all tables: by value, and on the record where it stands
     lists_findings   the codes without a character of byte texts, lists of all sizes, some tables of a bad shape
+    listing_damaged  short table listings, most of them damaged: a line dropped, doubled, exchanged, changed in one place
 
 The generator plays each command on second_converter.py as it goes, only to know where the run stands, so that the next
 piece begins there; the answers stored are those of that play.
@@ -626,6 +627,96 @@ def play_findings(player, chance, names, damaged_names, tables):
             player.do(f"findings {random_policy(chance, 'D')} {start} {count} {room}")
 
 
+def some(chance, members, most):
+    """A few of the members, in their order."""
+    return sorted(chance.sample(members, chance.randrange(min(most, len(members)) + 1)))
+
+
+def random_listing(chance):
+    """The lines of a short listing, without their line feeds, and the sizes that it needs."""
+    page = chance.choice((1, 9, 10, 932, 65535, chance.randrange(1, 65536)))
+    lines = [f"P\t{page}", f"D\t{chance.randrange(256):02X}\t{chance.choice((0x30FB, 0xFFFF, 0xD800)):04X}"]
+    near = (0x00, 0x01, 0x40, 0x41, 0x7F, 0x80, 0x81, 0x9F, 0xE0, 0xFE, 0xFF)
+    singles = some(chance, near, 5)
+    leads = some(chance, [byte for byte in near if byte >= 0x80 and byte not in singles], 3)
+    seconds = some(chance, near, 4)
+    units = [256 * high + low for high in (0x00, 0x01, 0x30, 0x4E, 0xD8, 0xFF) for low in (0x00, 0x01, 0x40, 0xFE, 0xFF)]
+    codes = [256 * lead + second for lead in leads for second in seconds]
+    right = [*units[:-1], 0x8140, 0xFFFE]
+    written = some(chance, units, 6)
+    lines += [f"S\t{byte:02X}\t{chance.choice(('-', format(chance.choice(right), '04X')))}" for byte in singles]
+    lines += [f"L\t{byte:02X}" for byte in leads]
+    lines += [f"T\t{byte:02X}" for byte in seconds]
+    lines += [f"M\t{code:04X}\t{chance.choice(right):04X}" for code in some(chance, codes, 5)]
+    lines += [f"W\t{unit:04X}\t{chance.choice(right):04X}" for unit in written]
+    return lines, [256, 256, 256 * len(leads), 256, 256 * (1 + len({unit >> 8 for unit in written}))]
+
+
+def damaged_listing(chance, lines):
+    """The lines of a listing, each with its line feed, after one damage."""
+    lines = [line + "\n" for line in lines]
+    place, other = chance.randrange(len(lines)), chance.randrange(len(lines))
+    line = lines[place]
+    inside = chance.randrange(len(line))
+    kind = chance.choice((
+        "drop", "double", "exchange", "move", "digit", "digit", "digit", "field", "letter", "byte gone", "byte more", "joined", "copy",
+    ))
+    if kind == "drop":
+        del lines[place]
+    elif kind == "double":
+        lines.insert(place, line)
+    elif kind == "exchange":
+        lines[place], lines[other] = lines[other], line
+    elif kind == "move":
+        lines.insert(other, lines.pop(place))
+    elif kind == "digit":
+        digits = [number for number, letter in enumerate(line) if number > 0 and letter in "0123456789ABCDEF"]
+        inside = chance.choice(digits)
+        lines[place] = line[:inside] + chance.choice("0123456789ABCDEFF-af") + line[inside + 1 :]
+    elif kind == "field":
+        fields = line[:-1].split("\t")
+        fields[chance.randrange(1, len(fields))] = chance.choice(("FFFF", "-", "00", "FF", "0000", "7F", "80", "8140", "65536", ""))
+        lines[place] = "\t".join(fields) + "\n"
+    elif kind == "letter":
+        lines[place] = chance.choice("PDSLTMWXs") + line[1:]
+    elif kind == "byte gone":
+        lines[place] = line[:inside] + line[inside + 1 :]
+    elif kind == "byte more":
+        lines[place] = line[:inside] + chance.choice("\t\n\r 0F-") + line[inside:]
+    elif kind == "joined":
+        lines[place : place + 2] = ["".join(lines[place : place + 2])]
+    else:
+        lines[place] = lines[other]
+    return lines
+
+
+def listing_line(player, line):
+    return player.do(f"line {hex_text(line.encode('ascii'), 2)}")
+
+
+def play_listing(player, chance):
+    """A listing line by line, mostly damaged, into tables that are large enough or not; then its end, and what is written of it."""
+    lines, sizes = random_listing(chance)
+    if chance.random() < 0.85:
+        lines = damaged_listing(chance, lines)
+    else:
+        lines = [line + "\n" for line in lines]
+    if chance.random() < 0.3:
+        place = chance.randrange(5)
+        sizes[place] = max(sizes[place] + chance.choice((-256, -1, -1, 1)), 0)
+    elif chance.random() < 0.6:
+        sizes = [size + chance.choice((0, 0, 1, 44)) for size in sizes]
+    player.do("lend " + " ".join(map(str, sizes)))
+    for line in lines:
+        listing_line(player, line)
+    player.do("lent")
+    if player.do("listed").startswith("listed 0"):
+        player.do("shape")
+        player.do("lister")
+        for _ in range(chance.choice((2, 3, 5, len(lines) + 1))):
+            player.do(f"list {chance.choice((12, 12, 12, 12, 10, 300, chance.randrange(13)))}")
+
+
 def random_script(kind, seed, count, tables, folder):
     """The two files of a random script; folder has the images of the tables."""
     chance = random.Random(f"{kind} {seed}")
@@ -658,6 +749,8 @@ def random_script(kind, seed, count, tables, folder):
             play_here(player, chance, [*random_names, "sample.tbl"], damaged_names, tables, size, calls)
         elif kind == "lists_inplace":
             play_in_place(player, chance, random_names + ["sample.tbl"], tables)
+        elif kind == "listing_damaged":
+            play_listing(player, chance)
         elif kind == "lists_findings":
             play_findings(player, chance, random_names + ["sample.tbl"], damaged_names, tables)
         elif kind == "lists_index":

@@ -883,6 +883,241 @@ def findings_call(digits, table, text, out):
 
 
 # ---------------------------------------------------------------------------------------------------------------
+# Table listings (document 02, CR 3)
+# ---------------------------------------------------------------------------------------------------------------
+
+LETTERS = "PDSLTMW"  # "Letters come in this order"
+
+
+@dataclass(frozen=True)
+class Record:
+    """ "one record a line": its letter, the key, and what stands right of the key, if anything does"""
+
+    letter: str
+    key: int  # of `P` the page, of `D` the default byte
+    right: Optional[int] = None
+
+
+# "closed by a line feed, fields parted by tabs, capital hex"; "Bytes have two digits, units and codes four"
+LISTED_BYTE = rb"\t([0-9A-F]{2})"
+LISTED_UNIT = rb"\t([0-9A-F]{4})"
+LINE_FORMS = {
+    "P": rb"P\t([0-9]+)\n",
+    "D": rb"D" + LISTED_BYTE + LISTED_UNIT + rb"\n",
+    # "a single without a character has `-` for its unit"
+    "S": rb"S" + LISTED_BYTE + rb"\t([0-9A-F]{4}|-)\n",
+    "L": rb"L" + LISTED_BYTE + rb"\n",
+    "T": rb"T" + LISTED_BYTE + rb"\n",
+    "M": rb"M" + LISTED_UNIT + LISTED_UNIT + rb"\n",
+    "W": rb"W" + LISTED_UNIT + LISTED_UNIT + rb"\n",
+}
+
+
+def record_of(line):
+    """The record of a line, or None if it breaks the form."""
+    letter = line[:1].decode("latin-1")
+    fields = re.fullmatch(LINE_FORMS[letter], line) if letter in LINE_FORMS else None
+    if fields is None:
+        return None
+    if letter == "P":
+        # "the page as in a saved line": decimal with no spare zeros, 1 to 65,535
+        page = plain_number(fields[1])
+        return Record("P", page) if page is not None and 1 <= page <= 65535 else None
+    key = int(fields[1], 16)
+    if letter in "LT":
+        return Record(letter, key)
+    if fields[2] == b"-":
+        return Record(letter, key, NONE)
+    right = int(fields[2], 16)
+    # "No `S`, `M` or `W` has FFFF on the right."
+    return None if letter in "SMW" and right == NONE else Record(letter, key, right)
+
+
+@dataclass(frozen=True)
+class Reader:
+    """What has been read of a listing."""
+
+    letter: Optional[str] = None  # of the last line; None before the first
+    key: int = 0  # of the last line
+    page: int = 0
+    default_byte: int = 0
+    default_unit: int = 0
+    singles: frozenset = frozenset()
+    leads: tuple = ()
+    seconds: frozenset = frozenset()
+    high_halves: tuple = ()  # of the `W` units
+
+
+def may_come(reader, record):
+    """Whether a record keeps the order and the rules, by what has been read."""
+    # "`P` and `D` once each": `P` is the first line and `D` the second
+    if record.letter in "PD" or reader.letter in (None, "P"):
+        return (reader.letter, record.letter) in ((None, "P"), ("P", "D"))
+    # "Letters come in this order .. and keys rise within a letter"
+    if LETTERS.index(record.letter) < LETTERS.index(reader.letter):
+        return False
+    if record.letter == reader.letter and record.key <= reader.key:
+        return False
+    # "a byte is not both `S` and `L`; no lead is below 80"
+    if record.letter == "L":
+        return record.key not in reader.singles and record.key >= 0x80
+    # "An `M` needs its lead and second byte listed"
+    if record.letter == "M":
+        return record.key // 256 in reader.leads and record.key % 256 in reader.seconds
+    return True
+
+
+def reader_after(reader, record):
+    """What has been read once the record is accepted."""
+    after = replace(reader, letter=record.letter, key=record.key)
+    if record.letter == "P":
+        return replace(after, page=record.key)
+    if record.letter == "D":
+        return replace(after, default_byte=record.key, default_unit=record.right)
+    if record.letter == "S":
+        return replace(after, singles=reader.singles | {record.key})
+    if record.letter == "L":
+        return replace(after, leads=(*reader.leads, record.key))
+    if record.letter == "T":
+        return replace(after, seconds=reader.seconds | {record.key})
+    if record.letter == "W" and record.key // 256 not in reader.high_halves:
+        return replace(after, high_halves=(*reader.high_halves, record.key // 256))
+    return after
+
+
+def sizes_needed(reader):
+    """ "classes, singles and index whole, 256 pairs for each `L`, one empty block and one more for each high half among the `W` units
+    (a 256th takes the empty one)"; in the order of the tables."""
+    blocks = min(1 + len(reader.high_halves), 256)
+    return 256, 256, 256 * len(reader.leads), 256, 256 * blocks
+
+
+def too_small(reader, lent):
+    """23: "a lent table is too small for the line or the place reached". """
+    return any(len(table) < size for table, size in zip(lent, sizes_needed(reader)))
+
+
+def block_number(after, high):
+    """The block of a high half: "new blocks .. are numbered from 1 as they come"; the 256th is the empty one, 0."""
+    return (1 + after.high_halves.index(high)) % 256
+
+
+def put_record(reader, after, record, lent):
+    """What an accepted record does to the lent tables."""
+    classes, singles, pairs, index, blocks = lent
+    if record.letter == "P":
+        # "An accepted `P` empties classes, singles, index (all 0) and the empty block, which is block 0"
+        classes[:256], singles[:256], index[:256], blocks[:256] = [0] * 256, [NONE] * 256, [0] * 256, [NONE] * 256
+    elif record.letter == "S":
+        classes[record.key] = 1
+        singles[record.key] = record.right
+    elif record.letter == "L":
+        # ".. an `L` its pairs": the lead with j leads below it uses block j
+        first = 256 * len(reader.leads)
+        classes[record.key] = 2
+        pairs[first : first + 256] = [NONE] * 256
+    elif record.letter == "T":
+        classes[record.key] += 4
+    elif record.letter == "M":
+        pairs[256 * reader.leads.index(record.key // 256) + record.key % 256] = record.right
+    elif record.letter == "W":
+        high, low = divmod(record.key, 256)
+        block = block_number(after, high)
+        # "new blocks start empty"; the 256th is none: it stands in the empty one
+        if high not in reader.high_halves and block != 0:
+            blocks[256 * block : 256 * block + 256] = [NONE] * 256
+        index[high] = block
+        blocks[256 * block + low] = record.right
+
+
+def line_call(reader, lent, line):
+    """One line: the reader after it, with the tables changed in place; or 22, then 23: "the tables stay as before it"."""
+    record = record_of(line)
+    if record is None or not may_come(reader, record):
+        return 22
+    after = reader_after(reader, record)
+    if too_small(after, lent):
+        return 23
+    put_record(reader, after, record, lent)
+    return after
+
+
+def end_call(reader, lent):
+    """The end of a listing: the table set, each table cut to the size needed; or 22: "the end comes before `P` and `D`", then 23."""
+    if reader.letter in (None, "P"):
+        return 22
+    if too_small(reader, lent):
+        return 23
+    tables = [table[:size] for table, size in zip(lent, sizes_needed(reader))]
+    return TableSet(reader.page, reader.default_byte, reader.default_unit, *tables)
+
+
+KEYS = {"P": 1, "D": 1, "S": 256, "L": 256, "T": 256, "M": 65536, "W": 65536}
+FIRST_LINE = ("P", 0)
+
+
+def record_at(table, letter, key):
+    """The record of a letter and a key in a table set of good shape, or None."""
+    if letter == "P":
+        return Record("P", table.page)
+    if letter == "D":
+        return Record("D", table.default_byte, table.default_unit)
+    if letter == "S":
+        return Record("S", key, table.singles[key]) if table.classes[key] in SINGLES else None
+    if letter == "L":
+        return Record("L", key) if table.classes[key] in LEADS else None
+    if letter == "T":
+        return Record("T", key) if table.classes[key] in SECONDS else None
+    if letter == "M":
+        # the class decides: an entry that no lead and second byte reach is no record
+        if table.classes[key // 256] not in LEADS or table.classes[key % 256] not in SECONDS:
+            return None
+        unit = read_code(table, key // 256, key % 256).meaning
+        return Record("M", key, unit[0]) if unit else None
+    # every unit is looked up, surrogates too
+    code = table.blocks[256 * table.index[key // 256] + key % 256]
+    return Record("W", key, code) if code != NONE else None
+
+
+def next_record(table, place):
+    """The first record from a place on as (place, record), or None; a place is a letter and a key."""
+    for letter in LETTERS[LETTERS.index(place[0]) :]:
+        for key in range(place[1] if letter == place[0] else 0, KEYS[letter]):
+            record = record_at(table, letter, key)
+            if record is not None:
+                return (letter, key), record
+    return None
+
+
+def record_line(record):
+    """The line of a record."""
+    fields = [record.letter]
+    if record.letter == "P":
+        fields.append(str(record.key))
+    else:
+        fields.append(f"{record.key:0{4 if record.letter in 'MW' else 2}X}")
+    if record.right is not None:
+        fields.append("-" if record.letter == "S" and record.right == NONE else f"{record.right:04X}")
+    return ("\t".join(fields) + "\n").encode("ascii")
+
+
+def list_call(table, place, out):
+    """The writer's next line, from a place on: writes it to the front of out and answers ('line', length, next place), or 'done' behind
+    the last line. "The writer: 10, then 19." """
+    if not shape_is_good(table):
+        return 10
+    found = next_record(table, place)
+    if found is None:
+        return "done"
+    (letter, key), record = found
+    line = record_line(record)
+    if len(line) > len(out):
+        return 19
+    out[: len(line)] = line
+    return ("line", len(line), (letter, key + 1))
+
+
+# ---------------------------------------------------------------------------------------------------------------
 # The console: the command language of docs/CONSOLE.md, and the decisions of docs/CONSOLE-NOTES.md
 # ---------------------------------------------------------------------------------------------------------------
 
@@ -895,6 +1130,7 @@ HOLD_LIMIT = 300
 BREAKS_LIMIT = 300
 INDEX_LIMIT = 300
 FINDINGS_LIMIT = 300
+LISTED_LINE_LIMIT = 300
 ENTRY_LIMIT = 2**31 - 1  # an entry in memory is one number of 32 bits, twice the count plus the mark
 NUMBER_LIMIT = 2**64 - 1
 
@@ -969,6 +1205,16 @@ def finding_text(finding):
     return f"{finding.place}/{finding.kind}/{hex_text(finding.code, 2)}/{finding.digit}"
 
 
+def check_sum(elements, width):
+    """ "start with 811C9DC5; for each element, for each of its bytes, the low one first: exclusive or with the byte, then times 01000193,
+    modulo 2^32" """
+    value = 0x811C9DC5
+    for element in elements:
+        for byte in element.to_bytes(width, "little"):
+            value = (value ^ byte) * 0x01000193 % 2**32
+    return f"{value:08X}"
+
+
 def kept_text(out, written, fill):
     """'kept' if every element of the room beyond the first `written` is still the fill."""
     return "kept" if all(element == fill for element in out[written:]) else "changed"
@@ -1016,7 +1262,8 @@ def read_image_file(name, folders):
 
 class Console:
     """Holds a table set, a byte text, a unit text, the run in hand, a field buffer (the hold) and the number of units that
-    are held in it, and a journal index; answers one line at a time."""
+    are held in it, a journal index, the lent tables and the reader of a listing, and the place of a listing's writer; answers one line
+    at a time."""
 
     def __init__(self, folders=(".",)):
         self.folders = list(folders)
@@ -1027,6 +1274,9 @@ class Console:
         self.hold = []
         self.held = 0
         self.index = []
+        self.lent = [[], [], [], [], []]
+        self.reader = Reader()
+        self.writer = FIRST_LINE
         # each command with the number of words after its name, or the numbers that it may have
         self.commands = {
             b"table": (1, self.do_table),
@@ -1057,6 +1307,12 @@ class Console:
             b"spell": (3, self.do_spell),
             b"inplace": (3, self.do_inplace),
             b"findings": (4, self.do_findings),
+            b"lend": (5, self.do_lend),
+            b"line": (1, self.do_line),
+            b"lent": (0, self.do_lent),
+            b"listed": (0, self.do_listed),
+            b"lister": (0, self.do_lister),
+            b"list": (1, self.do_list),
         }
 
     def answer(self, line):
@@ -1312,6 +1568,42 @@ class Console:
         _, total, filled = answer
         words = [total, filled, *map(finding_text, out[:filled]), kept_text(out, filled, FINDING_FILL)]
         return "findings 0 " + " ".join(str(word) for word in words)
+
+    def do_lend(self, *sizes):
+        sizes = [number_word(size, most) for size, most in zip(sizes, IMAGE_ROOM)]
+        self.lent = [[BYTE_FILL if width == 1 else UNIT_FILL] * size for size, width in zip(sizes, IMAGE_WIDTH)]
+        self.reader = Reader()
+        return "lend " + " ".join(str(size) for size in sizes)
+
+    def do_line(self, line):
+        answer = line_call(self.reader, self.lent, bytes(hex_word(line, 2)))
+        if answer in (22, 23):
+            return f"line {answer}"
+        self.reader = answer
+        return "line 0"
+
+    def do_lent(self):
+        return "lent " + " ".join(check_sum(table, width) for table, width in zip(self.lent, IMAGE_WIDTH))
+
+    def do_listed(self):
+        answer = end_call(self.reader, self.lent)
+        if answer in (22, 23):
+            return f"listed {answer}"
+        self.table = answer
+        numbers = f"{answer.page} {answer.default_byte:02X} {answer.default_unit:04X}"
+        return f"listed 0 {numbers} {len(answer.pairs)} {len(answer.blocks)}"
+
+    def do_lister(self):
+        self.writer = FIRST_LINE
+        return "lister"
+
+    def do_list(self, room):
+        out = [BYTE_FILL] * number_word(room, LISTED_LINE_LIMIT)
+        answer = list_call(self.table, self.writer, out)
+        if answer in (10, 19, "done"):
+            return f"list {answer} {kept_text(out, 0, BYTE_FILL)}"
+        _, length, self.writer = answer
+        return f"list 0 {length} {hex_text(out[:length], 2)} {kept_text(out, length, BYTE_FILL)}"
 
 
 def script_lines(script):

@@ -22,6 +22,7 @@ import field_scripts
 import fixed_scripts
 import independent_converters
 import join_scripts
+import listing_scripts
 import make_sample
 import make_scripts
 import make_tables
@@ -151,6 +152,9 @@ def check_coverage(options):
         "spell": (0, 10, 11, 24, 25),
         "inplace": (0, 3, 10, 11, 17, 26),
         "findings": (0, 10, 11, 17),
+        "line": (0, 22, 23),
+        "listed": (0, 22),
+        "list": (0, 10, 19, "done"),
     }
     seen = {command: set() for command in wanted}
     shown = set()
@@ -809,6 +813,160 @@ def check_findings(options):
             text = [chance.choice((chance.randrange(256), chance.choice(leads))) for _ in range(chance.randrange(40))]
             for digits in chance.sample(FINDINGS_POLICIES, 3):
                 check_findings_of(table, digits, text, (0, 2, 300), f"page {page}, text {number}")
+
+
+# ---------------------------------------------------------------------------------------------------------------
+# Table listings against a grammar of whole listings, and written and read back
+# ---------------------------------------------------------------------------------------------------------------
+
+# A listing, or its first lines, as one regular expression; what it does not say is in beginning_of.
+LISTING = re.compile(
+    rb"(?:P\t(?P<page>[1-9][0-9]{0,4})\n"
+    rb"(?:D\t[0-9A-F]{2}\t[0-9A-F]{4}\n"
+    rb"(?P<S>(?:S\t[0-9A-F]{2}\t(?:-|(?!FFFF)[0-9A-F]{4})\n)*)"
+    rb"(?P<L>(?:L\t[89A-F][0-9A-F]\n)*)"
+    rb"(?P<T>(?:T\t[0-9A-F]{2}\n)*)"
+    rb"(?P<M>(?:M\t[0-9A-F]{4}\t(?!FFFF)[0-9A-F]{4}\n)*)"
+    rb"(?P<W>(?:W\t[0-9A-F]{4}\t(?!FFFF)[0-9A-F]{4}\n)*))?)?"
+)
+
+
+def keys_in(text, letter):
+    return re.findall(rb"^%s\t([0-9A-F]+)" % letter.encode("ascii"), text, re.MULTILINE)
+
+
+def beginning_of(text):
+    """Whether a text is a listing, or its first lines."""
+    match = LISTING.fullmatch(text)
+    if match is None or int(match["page"] or 1) > 65535:
+        return False
+    keys = {letter: keys_in(match[letter] or b"", letter) for letter in "SLTMW"}
+    # capital hex of one length: keys rise as texts do
+    if any(members != sorted(set(members)) for members in keys.values()):
+        return False
+    pairs = {lead + second for lead in keys["L"] for second in keys["T"]}
+    return not set(keys["S"]) & set(keys["L"]) and set(keys["M"]) <= pairs
+
+
+def enough_for(text, sizes):
+    """Whether tables of these sizes are large enough for the lines of a listing."""
+    if not text:
+        return True
+    high_halves = {unit[:2] for unit in keys_in(text, "W")}
+    needed = (256, 256, 256 * len(keys_in(text, "L")), 256, min(256 + 256 * len(high_halves), 65536))
+    return all(size >= least for size, least in zip(sizes, needed))
+
+
+def answers_by_grammar(lines, sizes):
+    """What each line is answered, and the lines that are accepted."""
+    accepted, answers = b"", []
+    for line in lines:
+        if line.find(b"\n") != len(line) - 1 or not line or not beginning_of(accepted + line):
+            answers.append(22)
+        elif not enough_for(accepted + line, sizes):
+            answers.append(23)
+        else:
+            answers.append(0)
+            accepted += line
+    return answers, accepted
+
+
+def check_read_listing(lines, sizes, name):
+    """One listing, line by line, on the console; what its tables hold where it is accepted."""
+    console = converter.Console(FOLDERS)
+    console.answer(b"lend " + b" ".join(b"%d" % size for size in sizes))
+    answers, accepted = answers_by_grammar(lines, sizes)
+    for line, wanted in zip(lines, answers):
+        got = console.answer(b"line " + (line.hex().upper().encode("ascii") or b"-"))
+        expect(got == f"line {wanted}", f"{name}: {line!r} is answered {got}, by the grammar {wanted}")
+    texts = accepted.decode("ascii").replace("\t", ">").split("\n")[:-1]
+    if len(texts) < 2:
+        expect(console.answer(b"listed") == "listed 22", f"{name}: the end")
+        return
+    expect(console.answer(b"listed").startswith("listed 0 "), f"{name}: the end")
+    tables = listing_scripts.tables_of(texts)
+    expect(vars(tables) == vars(console.table), f"{name}: the tables")
+    expect(converter.shape_is_good(console.table), f"{name}: the shape")
+    for cut, table, fill in zip(listing_scripts.NAMES, console.lent, (0xEE, 0xEEEE, 0xEEEE, 0xEE, 0xEEEE)):
+        size = len(getattr(tables, cut))
+        expect(table[:size] == getattr(tables, cut) and set(table[size:]) <= {fill}, f"{name}: the rest of {cut}")
+    written = []
+    while (answer := console.answer(b"list 12")) != "list done kept":
+        written.append(bytes.fromhex(answer.split(" ")[3]))
+    expect(b"".join(written) == accepted, f"{name}: written again it is another listing")
+
+
+def stored_listings():
+    """The listings of the stored random script, as they are given to the reader, with the sizes of the lent tables."""
+    for part in read(os.path.join(SCRIPTS, "listing_damaged.in")).split(b"lend ")[1:]:
+        sizes, *commands = part.splitlines()
+        lines = [bytes(converter.hex_word(line[5:], 2)) for line in commands if line.startswith(b"line ")]
+        yield lines, [int(size) for size in sizes.split()]
+
+
+def check_damaged_listings(options):
+    """Short listings, most of them damaged, those of the stored script and others: the answer to each line by a grammar of whole listings;
+    the tables, made in another way; written again, the lines that were accepted."""
+    for number, (lines, sizes) in enumerate(stored_listings()):
+        check_read_listing(lines, sizes, f"stored listing {number}")
+    chance = random.Random(3)
+    for number in range(450):
+        lines, sizes = random_scripts.random_listing(chance)
+        lines = [line + "\n" for line in lines]
+        for _ in range(chance.choice((0, 1, 1, 2, 3))):
+            lines = random_scripts.damaged_listing(chance, [line.removesuffix("\n") for line in lines]) or ["P\t9\n"]
+        if chance.random() < 0.3:
+            place = chance.randrange(5)
+            sizes[place] = max(sizes[place] + chance.choice((-256, -1)), 0)
+        elif chance.random() < 0.5:
+            sizes = [size + chance.choice((0, 1, 44)) for size in sizes]
+        check_read_listing([line.encode("ascii") for line in lines], sizes, f"listing {number}")
+
+
+def meaning_of(table):
+    """Page, defaults, classes, characters and codes."""
+    leads = [byte for byte in range(256) if table.classes[byte] in (2, 6)]
+    seconds = [byte for byte in range(256) if table.classes[byte] & 4]
+    return (
+        table.page, table.default_byte, table.default_unit, table.classes,
+        [table.singles[byte] for byte in range(256) if table.classes[byte] in (1, 5)],
+        [table.pairs[256 * block + second] for block in range(len(leads)) for second in seconds],
+        [table.blocks[256 * block + low] for block in table.index for low in range(256)],
+    )
+
+
+def check_whole_listings(options):
+    """The listings of the real pages, of tables whose blocks are shared, and of random tables with a code in all 256 high halves: the lines
+    are those that the tables have, and read back, into tables just large enough and into the largest, they mean the same."""
+    random_ones = {name: tables.image() for name, tables in random_scripts.random_tables(1).items() if name in ("random_1.tbl", "random_4.tbl")}
+    images = {**{f"cp{page}.tbl": image for page, image in make_scripts.page_images().items()}, **random_ones}
+    for name in ("sample.tbl", "shared_block.tbl", "hidden.tbl", "double_codes.tbl", "all_leads.tbl", "plain.tbl"):
+        images[name] = read(os.path.join(DATA, name))
+    for name, image in images.items():
+        table = converter.read_image(image)
+        lines, place = [], converter.FIRST_LINE
+        while (found := converter.next_record(table, place)) is not None:
+            (letter, key), record = found
+            lines.append(converter.record_line(record))
+            place = (letter, key + 1)
+        texts = [line.decode("ascii")[:-1].replace("\t", ">") for line in lines]
+        expect(texts == listing_scripts.lines_of(listing_scripts.read_tables(image)), f"{name}: the lines")
+        needed = listing_scripts.sizes_of(listing_scripts.tables_of(texts)) if len(lines) < 1000 or name in random_ones else None
+        for sizes in filter(None, (needed, listing_scripts.LARGEST)):
+            reader, lent = converter.Reader(), [[fill] * size for fill, size in zip((7, 7, 7, 7, 7), sizes)]
+            for line in lines:
+                reader = converter.line_call(reader, lent, line)
+                expect(not isinstance(reader, int), f"{name}: {line!r} is refused with {reader}")
+            back = converter.end_call(reader, lent)
+            expect(converter.shape_is_good(back) and meaning_of(back) == meaning_of(table), f"{name}: read back it means something else")
+
+
+def check_sums(options):
+    """The check sum on texts whose sum is known (FNV-1a, 32 bits)."""
+    for text, known in ((b"", "811C9DC5"), (b"a", "E40C292C"), (b"foobar", "BF9CF968")):
+        expect(converter.check_sum(list(text), 1) == known, f"the check sum of {text!r}")
+        expect(listing_scripts.sum_text(list(text), "B") == known, f"the expected check sum of {text!r}")
+    expect(converter.check_sum([0x6F66, 0x626F, 0x7261], 2) == "BF9CF968", "the check sum of units, low byte first")
 
 
 # ---------------------------------------------------------------------------------------------------------------
@@ -1912,6 +2070,7 @@ def check_wrong_converters(options):
     expect_found_out(wrong_converters.wrong_in_place_converters(), ("inplace",))
     expect_found_out(wrong_converters.wrong_here_converters(), ("here",))
     expect_found_out(wrong_converters.wrong_findings_converters(), ("findings",))
+    expect_found_out(wrong_converters.wrong_listing_converters(), ("listing",))
     readings = ("read_unit", "HIGH_SURROGATES", "LOW_SURROGATES")
     expect_found_out([wrong for wrong in wrong_surrogate_converters() if wrong[1] in readings], ("inplace",))
 
@@ -1986,6 +2145,9 @@ CHECKS = (
     ("encoding in one buffer against the uncut reading", check_in_place),
     ("lists of calls of both forms", check_forms),
     ("findings against the uncut reading and the flags", check_findings),
+    ("the check sum", check_sums),
+    ("damaged listings against a grammar of whole listings", check_damaged_listings),
+    ("whole listings read back", check_whole_listings),
     ("wrong converters are found out", check_wrong_converters),
     ("the standard policy is told and not used", check_standard_is_told),
     ("wrong page tables are found out", check_wrong_pages),

@@ -1497,3 +1497,583 @@ def wrong_findings_converters():
         *wrong_findings(), *wrong_findings_calls(), *wrong_one_go_refusals("D"), *wrong_findings_consoles(), *readings,
         *wrong_text_refusals(), *wrong_numbers(),
     )
+
+
+# ---------------------------------------------------------------------------------------------------------------
+# Table listings (CR 3)
+# ---------------------------------------------------------------------------------------------------------------
+
+
+def wrong_records():
+    """The form of a line."""
+    record_of, Record = RIGHT["record_of"], RIGHT["Record"]
+
+    def otherwise(change):
+        """A line is read as another: change gets it."""
+        return lambda line: record_of(change(line))
+
+    def only(keep):
+        """Some records are refused."""
+        return lambda line: record_of(line) if record_of(line) is None or keep(record_of(line)) else None
+
+    def also(form, make):
+        """Other lines are records too: make gets the fields of a form."""
+
+        def wrong(line):
+            fields = re.fullmatch(form, line)
+            return record_of(line) or (make(*fields.groups()) if fields else None)
+
+        return wrong
+
+    def page_in(low, high):
+        return also(rb"P\t([0-9]{1,20})\n", lambda page: Record("P", int(page) % 65536) if low <= int(page) <= high else None)
+
+    def right_ffff(letter, digits):
+        return also(rb"%s\t([0-9A-F]{%d})\t(FFFF)\n" % (letter, digits), lambda key, right: Record(letter.decode(), int(key, 16), 0xFFFF))
+
+    def none_for(letter, digits):
+        return also(rb"%s\t([0-9A-F]{%d})\t(-)\n" % (letter, digits), lambda key, right: Record(letter.decode(), int(key, 16), 0xFFFF))
+
+    return named("record_of", (
+        ("small letters are digits", otherwise(lambda line: line[:1] + line[1:].upper())),
+        ("small letters are letters", otherwise(lambda line: line[:1].upper() + line[1:])),
+        ("a line needs no line feed", otherwise(lambda line: line if line.endswith(b"\n") else line + b"\n")),
+        ("CR LF ends a line", otherwise(lambda line: line.replace(b"\r\n", b"\n"))),
+        ("blanks part fields", otherwise(lambda line: line.replace(b" ", b"\t"))),
+        ("several tabs part fields", otherwise(lambda line: re.sub(rb"\t+", b"\t", line))),
+        ("a tab may end a line", otherwise(lambda line: line.replace(b"\t\n", b"\n"))),
+        ("blanks at the ends are passed over", otherwise(lambda line: line.strip(b" ") if line[:1] == b" " else line)),
+        ("what follows the line feed is passed over", otherwise(lambda line: line[: line.find(b"\n") + 1])),
+        ("further fields are passed over", otherwise(lambda line: b"\t".join(line.split(b"\t")[:3]) + b"\n" if line.count(b"\t") > 2 else line)),
+        ("the high bit is passed over", otherwise(lambda line: bytes(byte & 0x7F for byte in line))),
+        ("a first line feed is passed over", otherwise(lambda line: line.lstrip(b"\n"))),
+        ("page 0", page_in(0, 65535)), ("page 65536", page_in(1, 65536)), ("pages wrap at 16 bits", page_in(1, 2**32)),
+        ("pages wrap at 32 bits", also(rb"P\t([0-9]{10})\n", lambda page: Record("P", int(page) % 2**32)
+                                       if 1 <= int(page) % 2**32 <= 65535 else None)),
+        ("pages with spare zeros", also(rb"P\t0+([1-9][0-9]{0,3})\n", lambda page: Record("P", int(page)))),
+        ("pages of four digits at most", only(lambda record: record.letter != "P" or record.key <= 9999)),
+        ("pages up to 65534", only(lambda record: record.letter != "P" or record.key < 65535)),
+        ("hex pages", also(rb"P\t([0-9A-F]{1,4})\n", lambda page: Record("P", int(page, 16)) if int(page, 16) else None)),
+        ("FFFF in an S", right_ffff(b"S", 2)), ("FFFF in an M", right_ffff(b"M", 4)), ("FFFF in a W", right_ffff(b"W", 4)),
+        ("- in a D", none_for(b"D", 2)), ("- in an M", none_for(b"M", 4)), ("- in a W", none_for(b"W", 4)),
+        ("no FFFF in a D", only(lambda record: record.letter != "D" or record.right != 0xFFFF)),
+        ("no FFFF on the left of a W", only(lambda record: record.letter != "W" or record.key != 0xFFFF)),
+        ("no FFFF on the left of an M", only(lambda record: record.letter != "M" or record.key != 0xFFFF)),
+        ("no - in an S", only(lambda record: record.letter != "S" or record.right != 0xFFFF)),
+        ("no surrogate on the left", only(lambda record: record.letter != "W" or not 0xD800 <= record.key <= 0xDFFF)),
+        ("no code 0000", only(lambda record: record.letter != "W" or record.right != 0)),
+        ("a byte without leading zeros", also(rb"([SLT])\t([0-9A-F])((?:\t[0-9A-F]{4})?)\n", lambda letter, key, right: Record(
+            letter.decode(), int(key, 16), int(right, 16) if right else None))),
+    ))
+
+
+def wrong_orders():
+    """Which records may come."""
+    may_come = RIGHT["may_come"]
+    rank = "PDSLTMW".index
+
+    def also(holds):
+        return lambda reader, record: may_come(reader, record) or holds(reader, record)
+
+    def but(holds):
+        return lambda reader, record: may_come(reader, record) and not holds(reader, record)
+
+    def behind(reader, record):
+        """In its place but for what must be listed."""
+        return reader.letter not in (None, "P") and (rank(record.letter), record.key) > (rank(reader.letter), reader.key)
+
+    return named("may_come", (
+        ("a key may come twice", also(lambda reader, record: (record.letter, record.key) == (reader.letter, reader.key)
+                                      and record.letter not in "PD")),
+        ("keys need not rise", also(lambda reader, record: record.letter == reader.letter and record.letter in "SLTW")),
+        ("keys rise over all letters", but(lambda reader, record: reader.letter in ("S", "L", "T") and record.letter in "LT"
+                                          and record.key <= reader.key)),
+        ("the first key is not 0", but(lambda reader, record: record.letter in "STW" and record.key == 0)),
+        ("keys of W rise within a high half only", also(lambda reader, record: record.letter == reader.letter == "W"
+                                                       and record.key // 256 != reader.key // 256)),
+        ("keys of M rise by the second byte only", but(lambda reader, record: record.letter == reader.letter == "M"
+                                                      and record.key % 256 <= reader.key % 256)),
+        ("letters in any order", also(lambda reader, record: record.letter in "STW" and reader.letter in ("D", "L", "T", "M", "W")
+                                     and record.letter != reader.letter)),
+        ("P twice", also(lambda reader, record: record.letter == "P" and reader.letter == "P")),
+        ("P anywhere", also(lambda reader, record: record.letter == "P")),
+        ("D twice", also(lambda reader, record: record.letter == "D" and reader.letter == "D")),
+        ("D before P", also(lambda reader, record: record.letter == "D" and reader.letter is None)),
+        ("no D", also(lambda reader, record: record.letter in "STW" and reader.letter == "P")),
+        ("no P", also(lambda reader, record: record.letter in "STW" and reader.letter is None)),
+        ("T before L", also(lambda reader, record: record.letter == "L" and reader.letter == "T" and record.key >= 0x80)),
+        ("W before M", also(lambda reader, record: record.letter == "M" and reader.letter == "W" and record.key // 256 in reader.leads
+                           and record.key % 256 in reader.seconds)),
+        ("both S and L", also(lambda reader, record: record.letter == "L" and behind(reader, record) and record.key >= 0x80)),
+        ("not both S and T", but(lambda reader, record: record.letter == "T" and record.key in reader.singles)),
+        ("not both L and T", but(lambda reader, record: record.letter == "T" and record.key in reader.leads)),
+        ("leads from 7F on", also(lambda reader, record: record.letter == "L" and record.key == 0x7F and behind(reader, record))),
+        ("any lead", also(lambda reader, record: record.letter == "L" and behind(reader, record) and record.key not in reader.singles)),
+        ("leads from 81 on", but(lambda reader, record: record.letter == "L" and record.key == 0x80)),
+        ("no lead FF", but(lambda reader, record: record.letter == "L" and record.key == 0xFF)),
+        ("an M needs no second byte", also(lambda reader, record: record.letter == "M" and behind(reader, record)
+                                          and record.key // 256 in reader.leads)),
+        ("an M needs a single as its second byte", but(lambda reader, record: record.letter == "M" and record.key % 256 not in reader.singles)),
+        ("a W needs a code that is listed", but(lambda reader, record: record.letter == "W" and record.right > 0xFF
+                                               and record.right // 256 not in reader.leads)),
+        ("a W needs a single that is listed", but(lambda reader, record: record.letter == "W" and record.right <= 0xFF
+                                                 and record.right not in reader.singles)),
+    ))
+
+
+def wrong_sizes():
+    """What the lent tables must hold."""
+    sizes_needed, too_small = RIGHT["sizes_needed"], RIGHT["too_small"]
+
+    def needs(change):
+        """Other sizes: change gets the five sizes as a list, and the reader."""
+
+        def wrong(reader):
+            sizes = list(sizes_needed(reader))
+            change(sizes, reader)
+            return tuple(sizes)
+
+        return wrong
+
+    def set_size(place, value_of):
+        return needs(lambda sizes, reader: sizes.__setitem__(place, value_of(sizes[place], reader)))
+
+    return (
+        ("a 256th high half needs a 257th block", "sizes_needed", set_size(4, lambda size, reader: 256 * (1 + len(reader.high_halves)))),
+        ("a 255th high half takes the empty block", "sizes_needed", set_size(4, lambda size, reader: min(size, 65280))),
+        ("blocks for units, not for high halves", "sizes_needed", set_size(4, lambda size, reader: size + (
+            256 if reader.letter == "W" and reader.key % 256 == 0x42 else 0))),
+        ("no empty block", "sizes_needed", set_size(4, lambda size, reader: max(size - 256, 0))),
+        ("one more block", "sizes_needed", set_size(4, lambda size, reader: size + 256)),
+        ("256 blocks at once", "sizes_needed", set_size(4, lambda size, reader: 65536)),
+        ("pairs for 128 leads at once", "sizes_needed", set_size(2, lambda size, reader: 32768)),
+        ("one more block of pairs", "sizes_needed", set_size(2, lambda size, reader: size + 256)),
+        ("pairs by the last lead", "sizes_needed", set_size(2, lambda size, reader: 256 * (max(reader.leads, default=0x7F) - 0x7F))),
+        ("pairs are asked for with M only", "sizes_needed", set_size(2, lambda size, reader: size if reader.letter == "M" else 0)),
+        ("larger tables are too small", "too_small", lambda reader, lent: too_small(reader, lent) or len(lent[0]) > 256),
+        ("larger pairs are too small", "too_small",
+         lambda reader, lent: too_small(reader, lent) or len(lent[2]) > sizes_needed(reader)[2] + 300),
+        ("tables as large as needed are too small", "too_small", lambda reader, lent: any(
+            len(table) <= size for table, size in zip(lent, sizes_needed(reader)) if size)),
+        ("no table is too small", "too_small", lambda reader, lent: False),
+        *((f"{name} are not asked for", "too_small", lambda reader, lent, place=place: any(
+            len(table) < size for number, (table, size) in enumerate(zip(lent, sizes_needed(reader))) if number != place))
+          for place, name in enumerate(("classes", "singles", "pairs", "index numbers", "blocks"))),
+    )
+
+
+def wrong_puts():
+    """What an accepted line does to the lent tables."""
+    put_record = RIGHT["put_record"]
+
+    def then(letter, change):
+        """More is done after a letter: change gets the reader before, the record and the five tables."""
+
+        def wrong(reader, after, record, lent):
+            put_record(reader, after, record, lent)
+            if record.letter == letter:
+                change(reader, record, *lent)
+
+        return wrong
+
+    def instead(letter, change):
+        def wrong(reader, after, record, lent):
+            if record.letter == letter:
+                change(reader, after, record, *lent)
+            else:
+                put_record(reader, after, record, lent)
+
+        return wrong
+
+    def keeps(letter, place):
+        """One table is left as it was."""
+
+        def wrong(reader, after, record, lent):
+            before = list(lent[place])
+            put_record(reader, after, record, lent)
+            if record.letter == letter:
+                lent[place][:] = before
+
+        return wrong
+
+    def fills(place, value):
+        return then("P", lambda reader, record, *lent: lent[place].__setitem__(slice(256), [value] * 256))
+
+    def all_of(place, value):
+        return then("P", lambda reader, record, *lent: lent[place].__setitem__(slice(None), [value] * len(lent[place])))
+
+    def second_replaces(reader, after, record, classes, singles, pairs, index, blocks):
+        classes[record.key] = 4
+
+    def second_is_set(reader, after, record, classes, singles, pairs, index, blocks):
+        classes[record.key] = {0: 4, 1: 5}.get(classes[record.key], 4)
+
+    def pair_by_distance(reader, after, record, classes, singles, pairs, index, blocks):
+        place = 256 * (record.key // 256 - 0x80) + record.key % 256
+        if place < len(pairs):
+            pairs[place] = record.right
+
+    def pair_in_first_block(reader, after, record, classes, singles, pairs, index, blocks):
+        pairs[record.key % 256] = record.right
+
+    def pair_in_last_block(reader, after, record, classes, singles, pairs, index, blocks):
+        pairs[256 * (len(reader.leads) - 1) + record.key % 256] = record.right
+
+    def lead_below(reader, after, record, classes, singles, pairs, index, blocks):
+        """The block is emptied by the lead's distance to 80."""
+        classes[record.key] = 2
+        first = 256 * (record.key - 0x80)
+        if first + 256 <= len(pairs):
+            pairs[first : first + 256] = [0xFFFF] * 256
+
+    def code(number_of, empties):
+        """A code is put into another block, which is emptied where this says so."""
+
+        def change(reader, after, record, classes, singles, pairs, index, blocks):
+            high, low = divmod(record.key, 256)
+            new = high not in reader.high_halves
+            block = number_of(after, high)
+            if 256 * block + 256 > len(blocks):
+                block = 0
+            if empties(new, block, index[high], reader):
+                blocks[256 * block : 256 * block + 256] = [0xFFFF] * 256
+            index[high] = block
+            blocks[256 * block + low] = record.right
+
+        return instead("W", change)
+
+    right_number = RIGHT["block_number"]
+    return named("put_record", (
+        ("P fills classes with EE", keeps("P", 0)), ("P leaves singles", keeps("P", 1)), ("P leaves index", keeps("P", 3)),
+        ("P leaves the empty block", keeps("P", 4)),
+        ("P fills singles with 0", fills(1, 0)), ("P fills the empty block with 0", fills(4, 0)), ("P fills classes with 1", fills(0, 1)),
+        ("P fills index with 1", fills(3, 1)), ("P fills index with FF", fills(3, 0xFF)),
+        ("P empties all classes", all_of(0, 0)), ("P empties all singles", all_of(1, 0xFFFF)), ("P empties all index numbers", all_of(3, 0)),
+        ("P empties all pairs", all_of(2, 0xFFFF)), ("P empties all blocks", all_of(4, 0xFFFF)),
+        ("D empties classes too", then("D", lambda reader, record, classes, *others: classes.__setitem__(slice(None), [0] * len(classes)))),
+        ("a single is no class", keeps("S", 0)), ("a single has no character", keeps("S", 1)),
+        ("a single without a character is never", then("S", lambda reader, record, classes, *others: classes.__setitem__(
+            record.key, 0 if record.right == 0xFFFF else 1))),
+        ("a lead is no class", keeps("L", 0)), ("an L leaves its pairs", keeps("L", 2)),
+        ("an L empties all pairs", then("L", lambda reader, record, classes, singles, pairs, *others: pairs.__setitem__(
+            slice(None), [0xFFFF] * len(pairs)))),
+        ("an L empties the block by its distance to 80", instead("L", lead_below)),
+        ("a second byte is nothing else", instead("T", second_replaces)), ("a lead that may be second is no lead", instead("T", second_is_set)),
+        ("a T does nothing", keeps("T", 0)), ("an M does nothing", keeps("M", 2)),
+        ("pairs by the lead's distance to 80", instead("M", pair_by_distance)), ("pairs in the first block", instead("M", pair_in_first_block)),
+        ("pairs in the last block", instead("M", pair_in_last_block)),
+        ("an M is a W too", then("M", lambda reader, record, classes, singles, pairs, index, blocks: blocks.__setitem__(
+            record.right % 256, record.key))),
+        ("new blocks are not emptied", code(right_number, lambda new, block, index, reader: False)),
+        ("each W of FF empties its block", code(right_number, lambda new, block, index, reader: new and block != 0 or block == 0)),
+        ("index 0 means a new block", code(right_number, lambda new, block, index, reader: index == 0)),
+        ("each W empties its block", code(right_number, lambda new, block, index, reader: block != 0)),
+        ("blocks are numbered from 0", code(lambda after, high: after.high_halves.index(high), lambda new, block, index, reader: new)),
+        ("blocks are numbered by the high half", code(lambda after, high: high, lambda new, block, index, reader: new)),
+        ("blocks are numbered by the high half from 1",
+         code(lambda after, high: (high + 1) % 256, lambda new, block, index, reader: new and block != 0)),
+        ("FF takes the empty block always", code(lambda after, high: 0 if high == 0xFF else right_number(after, high),
+                                                 lambda new, block, index, reader: new and block != 0)),
+        ("all codes in one block", code(lambda after, high: 1, lambda new, block, index, reader: new and len(reader.high_halves) == 0)),
+        ("index is not set", keeps("W", 3)), ("codes are not set", keeps("W", 4)),
+        ("a surrogate's code is not set", lambda reader, after, record, lent: None if record.letter == "W" and 0xD8 <= record.key // 256 <= 0xDF
+         else put_record(reader, after, record, lent)),
+    ))
+
+
+def wrong_line_calls():
+    """A line, and the end."""
+    line_call, end_call = RIGHT["line_call"], RIGHT["end_call"]
+
+    def size_first(reader, lent, line):
+        answer = line_call(reader, lent, line)
+        needed = RIGHT["sizes_needed"](reader)
+        if answer == 22 and any(len(table) < max(size, 256 if place != 2 else 0) for place, (table, size) in enumerate(zip(lent, needed))):
+            return 23
+        return answer
+
+    def lead_size_first(reader, lent, line):
+        """23 before a lead is looked at."""
+        answer, record = line_call(reader, lent, line), RIGHT["record_of"](line)
+        if answer == 22 and record is not None and record.letter == "L" and len(lent[2]) < 256 * (len(reader.leads) + 1):
+            return 23
+        return answer
+
+    def empties_first(reader, lent, line):
+        """A `P` that is refused with 23 has emptied the tables that are large enough."""
+        answer, record = line_call(reader, lent, line), RIGHT["record_of"](line)
+        if answer == 23 and record.letter == "P":
+            for table, value in zip(lent, (0, 0xFFFF, None, 0, 0xFFFF)):
+                if value is not None and len(table) >= 256:
+                    table[:256] = [value] * 256
+        return answer
+
+    def class_first(reader, lent, line):
+        """An `L` that is refused with 23 has set its class."""
+        answer, record = line_call(reader, lent, line), RIGHT["record_of"](line)
+        if answer == 23 and record.letter == "L":
+            lent[0][record.key] = 2
+        return answer
+
+    def index_first(reader, lent, line):
+        """A `W` that is refused with 23 has set its index number."""
+        answer, record = line_call(reader, lent, line), RIGHT["record_of"](line)
+        if answer == 23 and record.letter == "W":
+            lent[3][record.key // 256] = len(reader.high_halves) + 1
+        return answer
+
+    def without_lead(reader, lent, line):
+        """An `M` needs its second byte only; where its lead is not listed, it does nothing."""
+        answer, record = line_call(reader, lent, line), RIGHT["record_of"](line)
+        if answer == 22 and record is not None and record.letter == "M" and reader.letter in ("T", "M"):
+            rises = reader.letter == "T" or record.key > reader.key
+            if rises and record.key % 256 in reader.seconds and record.key // 256 not in reader.leads:
+                return converter.replace(reader, letter="M", key=record.key)
+        return answer
+
+    def not_cut(reader, lent):
+        table = end_call(reader, lent)
+        return table if table in (22, 23) else converter.replace(table, classes=list(lent[0]), pairs=list(lent[2]), blocks=list(lent[4]))
+
+    def cut_to(name, size_of):
+        def wrong(reader, lent):
+            table = end_call(reader, lent)
+            return table if table in (22, 23) else converter.replace(table, **{name: getattr(table, name)[: size_of(len(getattr(table, name)))]})
+
+        return wrong
+
+    def with_numbers(**change):
+        def wrong(reader, lent):
+            table = end_call(reader, lent)
+            return table if table in (22, 23) else converter.replace(table, **{name: value_of(table) for name, value_of in change.items()})
+
+        return wrong
+
+    return (
+        ("23 before 22", "line_call", size_first), ("23 before a bad lead", "line_call", lead_size_first),
+        ("a P that is refused empties", "line_call", empties_first), ("an L that is refused sets its class", "line_call", class_first),
+        ("a W that is refused sets its index number", "line_call", index_first), ("an M needs no lead", "line_call", without_lead),
+        ("every line is accepted", "line_call", lambda reader, lent, line: reader if line_call(reader, lent, line) in (22, 23)
+         else line_call(reader, lent, line)),
+        ("the end needs no D", "end_call", lambda reader, lent: end_call(converter.replace(reader, letter="D") if reader.letter == "P"
+                                                                         else reader, lent)),
+        ("the end needs no P", "end_call", lambda reader, lent: end_call(converter.replace(reader, letter="D") if reader.letter is None
+                                                                         and len(lent[4]) else reader, lent)),
+        ("the end needs a W", "end_call", lambda reader, lent: end_call(reader, lent) if reader.letter == "W" else 22),
+        ("tables are not cut", "end_call", not_cut), ("a block too few", "end_call", cut_to("blocks", lambda size: max(size - 256, 256))),
+        ("a block of pairs too few", "end_call", cut_to("pairs", lambda size: max(size - 256, 0))),
+        ("the default byte is the default unit's low half", "end_call", with_numbers(default_byte=lambda table: table.default_unit % 256)),
+        ("page 9 always", "end_call", with_numbers(page=lambda table: 9)),
+        ("the default unit is its low half", "end_call", with_numbers(default_unit=lambda table: table.default_unit % 256)),
+    )
+
+
+def wrong_writers():
+    """The writer."""
+    record_at, record_line, list_call, next_record = (RIGHT[name] for name in ("record_at", "record_line", "list_call", "next_record"))
+    Record = RIGHT["Record"]
+
+    def at(letter, change):
+        """Other records of a letter: change gets the table and the key."""
+        return lambda table, asked, key: change(table, key) if asked == letter else record_at(table, asked, key)
+
+    def pair_without_second(table, key):
+        lead, second = divmod(key, 256)
+        if table.classes[lead] not in (2, 6):
+            return None
+        unit = table.pairs[256 * sum(1 for lower in table.classes[:lead] if lower in (2, 6)) + second]
+        return None if unit == 0xFFFF else Record("M", key, unit)
+
+    def pair_by_distance(table, key):
+        lead, second = divmod(key, 256)
+        place = 256 * (lead - 0x80) + second
+        if table.classes[lead] not in (2, 6) or table.classes[second] not in (4, 5, 6) or place >= len(table.pairs):
+            return None
+        return None if table.pairs[place] == 0xFFFF else Record("M", key, table.pairs[place])
+
+    def written(change):
+        return lambda record: change(record_line(record), record)
+
+    def room(fits):
+        def wrong(table, place, out):
+            answer = list_call(table, place, list(out))
+            if isinstance(answer, tuple) and not fits(answer[1], len(out)):
+                return 19
+            return list_call(table, place, out)
+
+        return wrong
+
+    def room_first(table, place, out):
+        return 19 if not RIGHT["shape_is_good"](table) and len(out) < 12 else list_call(table, place, out)
+
+    def done_first(table, place, out):
+        """An empty room asks nothing."""
+        return "done" if len(out) == 0 and place != ("P", 0) and place[0] != "S" else list_call(table, place, out)
+
+    def half_written(table, place, out):
+        """What fits of a line is written."""
+        answer = list_call(table, place, out)
+        if answer == 19:
+            line = record_line(next_record(table, place)[1])
+            out[:] = list(line[: len(out)])
+        return answer
+
+    def closed(table, place, out):
+        """A zero stands behind the line."""
+        answer = list_call(table, place, out)
+        if isinstance(answer, tuple) and answer[1] < len(out):
+            out[answer[1]] = 0
+        return answer
+
+    def shape_once(table, place, out):
+        """The shape is asked for at the first line only."""
+        if place != ("P", 0) and not RIGHT["shape_is_good"](table):
+            return "done"
+        return list_call(table, place, out)
+
+    def each_one(change):
+        """The next place is another: change gets the place of the line written and the next one."""
+
+        def wrong(table, place, out):
+            answer = list_call(table, place, out)
+            return answer if not isinstance(answer, tuple) else ("line", answer[1], change(place, answer[2]))
+
+        return wrong
+
+    return (
+        *named("record_at", (
+            ("pairs without a second byte", at("M", pair_without_second)), ("pairs by the lead's distance to 80", at("M", pair_by_distance)),
+            ("singles of every byte that has a character", at("S", lambda table, key: Record("S", key, table.singles[key])
+                                                              if table.singles[key] != 0xFFFF else record_at(table, "S", key))),
+            ("singles without a character are none", at("S", lambda table, key: record_at(table, "S", key)
+                                                        if table.singles[key] != 0xFFFF else None)),
+            ("a single that may be second is none", at("S", lambda table, key: record_at(table, "S", key) if table.classes[key] == 1 else None)),
+            ("a lead that may be second is none", at("L", lambda table, key: record_at(table, "L", key) if table.classes[key] == 2 else None)),
+            ("a byte that is never a code is no second byte", at("T", lambda table, key: record_at(table, "T", key)
+                                                                 if table.classes[key] != 4 else None)),
+            ("a lead is no second byte", at("T", lambda table, key: record_at(table, "T", key) if table.classes[key] != 6 else None)),
+            ("surrogates have no code", at("W", lambda table, key: None if 0xD800 <= key <= 0xDFFF else record_at(table, "W", key))),
+            ("FFFF has no code", at("W", lambda table, key: None if key == 0xFFFF else record_at(table, "W", key))),
+            ("block 0 has no code", at("W", lambda table, key: None if table.index[key // 256] == 0 else record_at(table, "W", key))),
+            ("a block is listed once", at("W", lambda table, key: None if table.index[key // 256] in table.index[: key // 256]
+                                          else record_at(table, "W", key))),
+            ("codes that do not read back are none", at("W", lambda table, key: record_at(table, "W", key)
+                                                        if RIGHT["own_code"](table, key) else None)),
+            ("defaults are those of the sample page", at("D", lambda table, key: Record("D", 0x3F, 0x30FB))),
+        )),
+        *named("record_line", (
+            ("no line feed", written(lambda line, record: line[:-1])), ("CR LF", written(lambda line, record: line[:-1] + b"\r\n")),
+            ("small hex", written(lambda line, record: line[:1] + line[1:].lower())), ("blanks part fields", written(
+                lambda line, record: line.replace(b"\t", b" "))),
+            ("a single without a character has FFFF", written(lambda line, record: line.replace(b"-", b"FFFF"))),
+            ("the page in hex", written(lambda line, record: b"P\t%X\n" % record.key if record.letter == "P" else line)),
+            ("the page with four digits", written(lambda line, record: b"P\t%04d\n" % record.key if record.letter == "P" else line)),
+            ("codes without leading zeros", written(lambda line, record: b"W\t%04X\t%02X\n" % (record.key, record.right)
+                                                    if record.letter == "W" else line)),
+            ("units on the left", written(lambda line, record: b"M\t%04X\t%04X\n" % (record.right, record.key)
+                                          if record.letter == "M" else line)),
+            ("a default unit FFFF is none", written(lambda line, record: line.replace(b"FFFF", b"-") if record.letter == "D" else line)),
+        )),
+        *named("list_call", (
+            ("19 before 10", room_first), ("done before 10 and 19", done_first), ("a line just as long as the room does not fit", room(
+                lambda size, space: size < space)),
+            ("every line needs 12 bytes", room(lambda size, space: space >= 12)), ("a part of a line is written", half_written),
+            ("a zero closes the line", closed), ("the shape is asked for once", shape_once),
+            ("the writer stays", each_one(lambda place, next_place: place)),
+            ("every second key is left out", each_one(lambda place, next_place: (next_place[0], next_place[1] + 1)
+                                                      if next_place[0] in "STMW" else next_place)),
+            ("T before L", lambda table, place, out: list_call(table, place, out) if place[0] != "S" or next_record(table, place)[0][0] != "L"
+             else list_call(table, ("T", 0), out)),
+        )),
+    )
+
+
+def wrong_listing_consoles():
+    def fresh_reader(console, words):
+        console.reader = RIGHT["Reader"]()
+
+    def first_line(console, words):
+        console.writer = RIGHT["FIRST_LINE"]
+
+    def lent_empty(console, words):
+        console.lent = [[] for _ in console.lent]
+
+    def as_before(command, names):
+        """A command does nothing to some of what the console holds."""
+
+        class Wrong(converter.Console):
+            def __init__(self, folders=(".",)):
+                super().__init__(folders)
+                count, right = self.commands[command]
+
+                def wrong(*words):
+                    before = {name: getattr(self, name) for name in names}
+                    answer = right(*words)
+                    for name, value in before.items():
+                        setattr(self, name, value)
+                    return answer
+
+                self.commands[command] = (count, wrong)
+
+        return Wrong
+
+    class SharesTables(converter.Console):
+        """The table set in hand is the lent tables themselves."""
+
+        def do_line(self, line):
+            answer = super().do_line(line)
+            if answer == "line 0" and getattr(self, "shared", False):
+                RIGHT["Console"].do_listed(self)
+            return answer
+
+        def do_listed(self):
+            self.shared = True
+            return super().do_listed()
+
+        def do_table(self, file):
+            self.shared = False
+            return super().do_table(file)
+
+        def do_lend(self, *sizes):
+            self.shared = False
+            return super().do_lend(*sizes)
+
+    room = RIGHT["IMAGE_ROOM"]
+    return (
+        ("lend keeps the reader", "Console", as_before(b"lend", ("reader",))),
+        ("lister does nothing", "Console", as_before(b"lister", ("writer",))),
+        ("the end leaves the table set in hand", "Console", as_before(b"listed", ("table",))),
+        ("the end begins a new listing", "Console", after(b"listed", fresh_reader)),
+        ("the end gives the lent tables up", "Console", after(b"listed", lent_empty)),
+        ("the end puts the writer at the first line", "Console", after(b"listed", first_line)),
+        ("a table puts the writer at the first line", "Console", after(b"table", first_line)),
+        ("a table begins a new listing", "Console", after(b"table", fresh_reader)),
+        ("lend puts the writer at the first line", "Console", after(b"lend", first_line)),
+        ("lister begins a new listing", "Console", after(b"lister", fresh_reader)),
+        ("a listing gives up the run in hand", "Console", after(b"line", give_up_run)),
+        ("writing gives up the run in hand", "Console", after(b"list", give_up_run)),
+        ("the table set in hand goes on with the lines", "Console", SharesTables),
+        ("301 bytes of room are a command", "LISTED_LINE_LIMIT", 301), ("300 bytes of room are no command", "LISTED_LINE_LIMIT", 299),
+        *((f"one more of table {place} is a command", "IMAGE_ROOM", (*room[:place], room[place] + 1, *room[place + 1 :])) for place in range(5)),
+        *((f"one less of table {place} is the most", "IMAGE_ROOM", (*room[:place], room[place] - 1, *room[place + 1 :])) for place in range(5)),
+        ("units with the high byte first", "check_sum", lambda elements, width: RIGHT["check_sum"](
+            [int.from_bytes(element.to_bytes(width, "little"), "big") for element in elements], width)),
+        ("units as two numbers of four bytes", "check_sum", lambda elements, width: RIGHT["check_sum"](elements, 2 * width)),
+        ("times, then exclusive or", "check_sum", lambda elements, width: f"{fnv_1(elements, width):08X}"),
+    )
+
+
+def fnv_1(elements, width):
+    value = 0x811C9DC5
+    for element in elements:
+        for byte in element.to_bytes(width, "little"):
+            value = value * 0x01000193 % 2**32 ^ byte
+    return value
+
+
+def wrong_listing_converters():
+    """Table listings (document 02, CR 3)."""
+    return (
+        *wrong_records(), *wrong_orders(), *wrong_sizes(), *wrong_puts(), *wrong_line_calls(), *wrong_writers(), *wrong_listing_consoles(),
+        *wrong_numbers(),
+    )
