@@ -871,8 +871,8 @@ def answers_by_grammar(lines, sizes):
     return answers, accepted
 
 
-def check_read_listing(lines, sizes, name):
-    """One listing, line by line, on the console; what its tables hold where it is accepted."""
+def check_read_listing(lines, sizes, name, again):
+    """One listing, line by line, on the console; what its tables hold where it is accepted, and, if asked for, what is written of them."""
     console = converter.Console(FOLDERS)
     console.answer(b"lend " + b" ".join(b"%d" % size for size in sizes))
     answers, accepted = answers_by_grammar(lines, sizes)
@@ -891,9 +891,9 @@ def check_read_listing(lines, sizes, name):
         size = len(getattr(tables, cut))
         expect(table[:size] == getattr(tables, cut) and set(table[size:]) <= {fill}, f"{name}: the rest of {cut}")
     written = []
-    while (answer := console.answer(b"list 12")) != "list done kept":
+    while again and (answer := console.answer(b"list 12")) != "list done kept":
         written.append(bytes.fromhex(answer.split(" ")[3]))
-    expect(b"".join(written) == accepted, f"{name}: written again it is another listing")
+    expect(not again or b"".join(written) == accepted, f"{name}: written again it is another listing")
 
 
 def stored_listings():
@@ -906,11 +906,11 @@ def stored_listings():
 
 def check_damaged_listings(options):
     """Short listings, most of them damaged, those of the stored script and others: the answer to each line by a grammar of whole listings;
-    the tables, made in another way; written again, the lines that were accepted."""
+    the tables, made in another way; of one in twenty, written again, the lines that were accepted."""
     for number, (lines, sizes) in enumerate(stored_listings()):
-        check_read_listing(lines, sizes, f"stored listing {number}")
+        check_read_listing(lines, sizes, f"stored listing {number}", number % 20 == 0)
     chance = random.Random(3)
-    for number in range(450):
+    for number in range(4000):
         lines, sizes = random_scripts.random_listing(chance)
         lines = [line + "\n" for line in lines]
         for _ in range(chance.choice((0, 1, 1, 2, 3))):
@@ -920,7 +920,7 @@ def check_damaged_listings(options):
             sizes[place] = max(sizes[place] + chance.choice((-256, -1)), 0)
         elif chance.random() < 0.5:
             sizes = [size + chance.choice((0, 1, 44)) for size in sizes]
-        check_read_listing([line.encode("ascii") for line in lines], sizes, f"listing {number}")
+        check_read_listing([line.encode("ascii") for line in lines], sizes, f"listing {number}", number % 20 == 0)
 
 
 def meaning_of(table):
