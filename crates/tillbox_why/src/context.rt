@@ -1,8 +1,7 @@
 // The line of the journal around a finding, as UTF-8, with the finding's bytes in brackets. At most 64 bytes before it and behind it are
 // shown; three points stand where the line is cut.
 ghost use Prim.Native.Nat.{_≤_};
-use crate::next::Finding;
-use crate::next::end_of;
+use crate::found::end_of;
 use crate::parts::behind_feed;
 use crate::parts::code_from;
 use crate::text::Text;
@@ -12,6 +11,7 @@ use convert::Direction;
 use convert::Policy;
 use convert::Run;
 use convert::Started;
+use findings::Finding;
 use tillbox_layout::front_bytes;
 use tillbox_layout::front_units;
 

@@ -1,10 +1,10 @@
 // Inner: why a flag is up: every code without a character of a journal, told on standard output, one a line. (CR 7, `tillbox why`.) The
 // journal is read in parts of at most 65,536 bytes that begin where a code begins, and end behind a line where they can. Which codes
-// have no character is decided by the calls of the library alone.
+// have no character is decided by `findings::next_finding`.
 mod context;
+mod found;
 pub mod job;
 mod line;
-mod next;
 mod parts;
 mod state;
 mod telling;

@@ -1,7 +1,7 @@
 // A finding as a line: its place in the journal, its kind in words, its bytes, and what the policy does with it.
-use crate::next::Finding;
 use crate::text::Text;
 use crate::text::empty;
+use findings::Finding;
 use libc::STDOUT_FILENO;
 use tillbox_layout::sum;
 use tillbox_storage::files;

@@ -1,6 +1,6 @@
 // How far a journal is told.
-use crate::next::Finding;
-use crate::next::end_of;
+use crate::found::end_of;
+use findings::Finding;
 use tillbox_checks::kinds;
 use tillbox_checks::kinds::Kinds;
 use tillbox_layout::sum;

@@ -1,14 +1,14 @@
 // The findings of a part, told one after the other.
 use crate::context::shown_around;
 use crate::context::with_context;
+use crate::found::say_refusal;
 use crate::line::line_of;
 use crate::line::put;
-use crate::next::Finding;
-use crate::next::Next;
-use crate::next::next_finding;
 use crate::state::Telling;
 use codepage::Numbers;
 use convert::Policy;
+use findings::Finding;
+use findings::Next;
 
 // Writes a finding's line, and the line around it.
 fn tell_in_context(
@@ -62,7 +62,7 @@ fn tell_next(
     blocks: &[u16],
     part: &[u8],
 ) -> Telling {
-    let next = next_finding(
+    let next = findings::next_finding(
         policy,
         numbers,
         classes,
@@ -74,7 +74,10 @@ fn tell_next(
         state.told,
     );
     match next {
-        Next::Failed => state.broken(),
+        Next::Refused(why) => {
+            say_refusal(why);
+            state.broken()
+        }
         Next::Nothing => state.at_end(part.len()),
         Next::Found(found) => {
             if !context {
