@@ -19,8 +19,8 @@ use Rattle.findings.specs.declared.Finding.{Finding}
 use Rattle.findings.specs.declared.Refusal.{Refusal}
 use Rattle.findings.specs.declared.Refusal.the-variants.{BadPolicy, BadShape, TooLong}
 use Rattle.findings.specs.declared.Listed.the-variants as listed
-use Rattle.findings.specs.Findings.{filled}
-use Rattle.findings.specs.Calls.{findingsRefusal, findingsText, Call, callUnless, findingsCall}
+use Rattle.findings.specs.Findings.{filledFront}
+use Rattle.findings.specs.Calls.{findingsRefusal, findingsText, FindingsCall, callUnless, findingsCall}
 use Rattle.findings.specs.Claims.{FindingsSays, FindingsPasses}
 use Rattle.findings.proofs.CallLaws.{refused-policy, refused-shape, refused-long, accepted, call-refused, call-accepted}
 use Rattle.findings.proofs.FillLaws.{filled-none}
@@ -63,21 +63,21 @@ module _ (policy : Policy) (p : CodePage) (text : List ℕ) where
   unfolding findingsCall
   findings-refused-exact why = (
     λ e. refusal-said why .0 (answer-refused (findingsRefusal policy p text) (findingsText policy p text) why e),
-    λ h. ap (λ (c : Call). c .answer) (call-refused policy p text why (refusal-said why .1 h)),
+    λ h. ap (λ (c : FindingsCall). c .answer) (call-refused policy p text why (refusal-said why .1 h)),
   )
 
   -- A REFUSED CALL changes nothing in the list.
-  pub refused-untouched : (why : Refusal) (before : List Finding) → FindingsSays policy p text why → filled before (findingsCall policy p text .entries) ≡ before
-  refused-untouched why before h = ap (λ (c : Call). filled before (c .entries)) (call-refused policy p text why (refusal-said why .1 h)) ∙ filled-none before
+  pub refused-untouched : (why : Refusal) (before : List Finding) → FindingsSays policy p text why → filledFront before (findingsCall policy p text .entries) ≡ before
+  refused-untouched why before h = ap (λ (c : FindingsCall). filledFront before (c .entries)) (call-refused policy p text why (refusal-said why .1 h)) ∙ filled-none before
 
   -- ACCEPTED exactly if 17, 10 and 11 pass; THE NUMBER IS THAT OF ALL FINDINGS, whatever the list's length.
   pub findings-number-exact : (n : ℕ) → (findingsCall policy p text .answer ≡ listed.Number n) ↔ (FindingsPasses policy p text × (length (findingsText policy p text) ≡ n))
   unfolding findingsCall
   findings-number-exact n = (
     λ e. let (o, size) = answer-number (findingsRefusal policy p text) (findingsText policy p text) n e in (passed-exact (FindingsSays policy p text) (FindingsPasses policy p text) (findingsRefusal policy p text) says passes cases .0 o, size),
-    λ (h, size). ap (λ (c : Call). c .answer) (call-accepted policy p text (passes h)) ∙ ap (λ (m : ℕ). listed.Number m) size,
+    λ (h, size). ap (λ (c : FindingsCall). c .answer) (call-accepted policy p text (passes h)) ∙ ap (λ (m : ℕ). listed.Number m) size,
   )
 
   -- then the entries are the text's findings
   pub accepted-entries : FindingsPasses policy p text → findingsCall policy p text .entries ≡ findingsText policy p text
-  accepted-entries h = ap (λ (c : Call). c .entries) (call-accepted policy p text (passes h))
+  accepted-entries h = ap (λ (c : FindingsCall). c .entries) (call-accepted policy p text (passes h))

@@ -25,9 +25,9 @@ use Rattle.findings.specs.declared.Refusal.the-variants.{BadPolicy, BadS
 use Rattle.findings.specs.declared.Turn.{Turn}
 use Rattle.findings.specs.declared.Listed.the-variants as listed
 use Rattle.findings.specs.declared.Next.the-variants as next
-use Rattle.findings.specs.Calls.{findingsRefusal, findingsText, Call, callUnless, findingsCall, nextOf}
+use Rattle.findings.specs.Calls.{findingsRefusal, findingsText, FindingsCall, callUnless, findingsCall, nextOf}
 use Rattle.findings.specs.Findings.{findingsFrom}
-use Rattle.findings.specs.Steps.{endTurn, Tables, Turned, TurnedFrom}
+use Rattle.findings.specs.Steps.{endTurn, ByteTables, CallTurn, TurnedFrom}
 use Rattle.findings.proofs.FindingLaws.{from-start}
 use Rattle.findings.proofs.TurnLaws.{ended-turn}
 
@@ -49,7 +49,7 @@ module _ (p : CodePage) (e : isGood (firstFault p) ≡ true) where
   plain-need = (good .classes, good .singles)
 
   -- what looking up requires
-  pub tables : (leads : Leads) → LeadsAt (p .classes) leads → Tables (p .classes) (p .singles) (p .pairs) leads
+  pub tables : (leads : Leads) → LeadsAt (p .classes) leads → ByteTables (p .classes) (p .singles) (p .pairs) leads
   tables leads h =
       record {
         classes-size = good .classes;
@@ -94,13 +94,13 @@ module _ (policy : Policy) (p : CodePage) (text : List ℕ) where
   -- ---- the first turn
   module _ (room : ℕ) where
     abbrev TurnedTo : Turn → Type 0
-    TurnedTo t = Turned (findingsCall policy p text) (p .classes) (p .singles) (p .pairs) policy text room t × (t .count ≡ 0)
+    TurnedTo t = CallTurn (findingsCall policy p text) (p .classes) (p .singles) (p .pairs) policy text room t × (t .count ≡ 0)
 
     -- refused
     pub first-refused : (why : Refusal) (t : Turn) → findingsRefusal policy p text ≡ some why → t ≡ endTurn 0 (listed.Refused why) → TurnedTo t
     first-refused why t e q =
         subst TurnedTo (sym q)
-        (subst (λ (c : Call). Turned c (p .classes) (p .singles) (p .pairs) policy text room (endTurn 0 (listed.Refused why)) × (_≡_ {A = ℕ} 0 0)) (sym (call-refused why e))
+        (subst (λ (c : FindingsCall). CallTurn c (p .classes) (p .singles) (p .pairs) policy text room (endTurn 0 (listed.Refused why)) × (_≡_ {A = ℕ} 0 0)) (sym (call-refused why e))
         (ended-turn _ _ _ _ _ _ _ _ _ refl (inl (omega arith)), refl))
 
     -- a clean text has none
@@ -110,14 +110,14 @@ module _ (policy : Policy) (p : CodePage) (text : List ℕ) where
         let call : findingsCall policy p text ≡ record { answer = listed.Number 0; entries = [] } =
         call-accepted e ∙ ap (λ (fs : List Finding). record { answer = listed.Number (length fs); entries = fs }) empty in
         subst TurnedTo (sym q)
-        (subst (λ (c : Call). Turned c (p .classes) (p .singles) (p .pairs) policy text room (endTurn 0 (listed.Number 0)) × (_≡_ {A = ℕ} 0 0)) (sym call)
+        (subst (λ (c : FindingsCall). CallTurn c (p .classes) (p .singles) (p .pairs) policy text room (endTurn 0 (listed.Number 0)) × (_≡_ {A = ℕ} 0 0)) (sym call)
         (ended-turn _ _ _ _ _ _ _ _ _ refl (inl (omega arith)), refl))
 
     -- else its first finding is looked for
     pub first-turned : (t : Turn) → findingsRefusal policy p text ≡ none → TurnedFrom (p .classes) (p .singles) (p .pairs) policy text room 0 0 t → TurnedTo t
     first-turned t e (same, turned) =
-        let c : Call = record { answer = listed.Number (length (findingsText policy p text)); entries = findingsText policy p text } in (
-          subst (λ (d : Call). Turned d (p .classes) (p .singles) (p .pairs) policy text room t) (sym (call-accepted e))
+        let c : FindingsCall = record { answer = listed.Number (length (findingsText policy p text)); entries = findingsText policy p text } in (
+          subst (λ (d : FindingsCall). CallTurn d (p .classes) (p .singles) (p .pairs) policy text room t) (sym (call-accepted e))
               (turned c refl (omega arith) (from-start (bytesReader p) policy text)),
           same,
         )

@@ -28,7 +28,7 @@ use Rattle.engine.specs.Steps.{summary}
 use Rattle.engine_fastpath.specs.Words.{PlainPage}
 use Rattle.findings.specs.declared.Finding.{Finding}
 use Rattle.findings.specs.declared.Looked.{Looked}
-use Rattle.findings.specs.Findings.{secondOf, findingOf, untilStop, findingThen, findingsIn, findingsOf, findingsFrom}
+use Rattle.findings.specs.Findings.{secondOf, codeFinding, untilStop, findingThen, findingsIn, findingsOf, findingsFrom}
 use Rattle.findings.specs.Steps.{findingAt, behind, LookedAt, Passed, FoundFrom}
 
 -- ---- the bytes of the code at a place are the text's: the first two there are a and b
@@ -127,7 +127,7 @@ module _ (r : Reader) (policy : Policy) (text : List ℕ) where
       ∙ ap (λ (m : Lookup). findingThen policy (record { place = place; code = k }) m (findingsFrom r policy text (place + sizeOf k))) e
       ∙ ap (λ (f : Finding). untilStop f (findingsFrom r policy text (place + sizeOf k))) (alike (bytes .first) (bytes .second))
     where
-      alike : k .first ≡ entryAt text place → secondOf (k .more) ≡ pick (ltb 1 (sizeOf k)) (entryAt text (place + 1)) 0 → findingOf policy kind (record { place = place; code = k }) ≡ findingAt policy kind text place (sizeOf k)
+      alike : k .first ≡ entryAt text place → secondOf (k .more) ≡ pick (ltb 1 (sizeOf k)) (entryAt text (place + 1)) 0 → codeFinding policy kind (record { place = place; code = k }) ≡ findingAt policy kind text place (sizeOf k)
       alike p q = cc
 
   -- ---- looking at the code at a place

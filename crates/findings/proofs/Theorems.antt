@@ -27,7 +27,7 @@ use Rattle.codepage_walk.specs.Walk.{Placed, placedFrom, placed, CodeAt}
 use Rattle.codepage_walk.specs.Checks.{bytesReader}
 use Rattle.codepage_walk.proofs.WalkLaws.{codes-at, EachAt, code-there}
 use Rattle.findings.specs.declared.Finding.{Finding}
-use Rattle.findings.specs.Findings.{findingOf, untilStop, findingThen, findingsIn, findingsOf, findingsFrom}
+use Rattle.findings.specs.Findings.{codeFinding, untilStop, findingThen, findingsIn, findingsOf, findingsFrom}
 use Rattle.findings.specs.Calls.{findingsText}
 use Rattle.findings.proofs.FindingLaws.{code-bytes, from-end, from-code}
 use Rattle.findings.specs.Claims.{IsRead, AllRead, Rising, GoesOn, NoStop, kindFlags}
@@ -41,7 +41,7 @@ module _ (p : CodePage) (policy : Policy) (text : List ℕ) where
   then-read : (c : Placed) (m : Lookup) (later : List Finding) → CodeAt (bytesReader p) text (c .place) (c .code) → c .code .means ≡ m → AllRead p policy text later → AllRead p policy text (findingThen policy c m later)
   then-read c (Found unit) later at e all = all
   then-read c (Lacking kind) later at e all =
-      until-read (findingOf policy kind c) later (eqb (digitOf policy kind) 0)
+      until-read (codeFinding policy kind c) later (eqb (digitOf policy kind) 0)
       (record {
         code = c .code;
         kind = kind;
@@ -74,7 +74,7 @@ module _ (policy : Policy) where
   then-rises : (from : ℕ) (k : Code) (m : Lookup) (later : List Finding) → Rising (from + sizeOf k) later → Rising from (findingThen policy (record { place = from; code = k }) m later)
   then-rises from k (Found unit) later all = rises-more from (from + sizeOf k) later (omega arith) all
   then-rises from k (Lacking kind) later all =
-      until-rises from (findingOf policy kind (record { place = from; code = k })) later (eqb (digitOf policy kind) 0) (omega arith) (omega arith) all
+      until-rises from (codeFinding policy kind (record { place = from; code = k })) later (eqb (digitOf policy kind) 0) (omega arith) (omega arith) all
 
   rises-in : (from : ℕ) (ks : List Code) → Rising from (findingsIn policy (placedFrom from ks))
   unfolding findingsIn placedFrom
@@ -97,7 +97,7 @@ module _ (policy : Policy) where
   past (c ∷ cs) rest (g, h) = ap (findingThen policy c (c .code .means)) (past cs rest h) ∙ past-one c (c .code .means) (findingsIn policy cs) (findingsIn policy rest) g
 
   pub none-left-out : (r : Reader) (text : List ℕ) (before : List Placed) (c : Placed) (after : List Placed) (kind : Kind) → placed r text ≡ before ++ (c ∷ after) → c .code .means ≡ Lacking kind → NoStop policy before
-      → findingsOf r policy text ≡ findingsIn policy before ++ untilStop (findingOf policy kind c) (findingsIn policy after)
+      → findingsOf r policy text ≡ findingsIn policy before ++ untilStop (codeFinding policy kind c) (findingsIn policy after)
   unfolding findingsOf findingsIn
   none-left-out r text before c after kind e q h =
       ap (findingsIn policy) e ∙ past before (c ∷ after) h ∙ ap (λ (m : Lookup). findingsIn policy before ++ findingThen policy c m (findingsIn policy after)) q
@@ -155,7 +155,7 @@ module _ (r : Reader) (policy : Policy) (text : List ℕ) (f : Finding) (fs : Li
       → (findingsFrom r policy text (place + sizeOf k) ≡ f ∷ fs → Behind) → Behind
   at-code k place (Found unit) e later = later e
   at-code k place (Lacking kind) e later =
-      let same : findingOf policy kind (record { place = place; code = k }) ≡ f = cc in
+      let same : codeFinding policy kind (record { place = place; code = k }) ≡ f = cc in
       let rest : pick (eqb (digitOf policy kind) 0) [] (findingsFrom r policy text (place + sizeOf k)) ≡ fs = cc in
       sym rest ∙ ap (λ (g : Finding). pick (eqb (g .digit) 0) [] (findingsFrom r policy text (g .place + g .size))) same
 

@@ -19,9 +19,9 @@ use Rattle.findings.specs.declared.Looked.{Looked}
 use Rattle.findings.specs.declared.Turn.{Turn}
 use Rattle.findings.specs.declared.Listed.{Listed}
 use Rattle.findings.specs.declared.Listed.the-variants as listed
-use Rattle.findings.specs.Calls.{Call}
+use Rattle.findings.specs.Calls.{FindingsCall}
 use Rattle.findings.specs.Findings.{findingsFrom}
-use Rattle.findings.specs.Steps.{endTurn, behind, Tables, FoundFrom, Ready, Storing, Ended, Turned, TurnedFrom, NextTurn}
+use Rattle.findings.specs.Steps.{endTurn, behind, ByteTables, FoundFrom, TurnGoesOn, Storing, Ended, CallTurn, TurnedFrom, NextTurn}
 
 -- ---- the findings behind one
 module _ (r : Reader) (policy : Policy) (text : List ℕ) (f : Finding) (end : ℕ) where
@@ -82,7 +82,7 @@ module _ (classes singles pairs : List ℕ) (policy : Policy) (text : List ℕ) 
   r = decoder classes singles pairs
 
   -- the end of a call
-  pub ended-turn : (c : Call) (count : ℕ) (answer : Listed) → answer ≡ c .answer → (length (c .entries) ≤ count) ⊎ (room ≤ count) → Turned c classes singles pairs policy text room (endTurn count answer)
+  pub ended-turn : (c : FindingsCall) (count : ℕ) (answer : Listed) → answer ≡ c .answer → (length (c .entries) ≤ count) ⊎ (room ≤ count) → CallTurn c classes singles pairs policy text room (endTurn count answer)
   ended-turn c count answer e all =
       record {
         ready = λ z. absurd (false≢true z);
@@ -91,10 +91,10 @@ module _ (classes singles pairs : List ℕ) (policy : Policy) (text : List ℕ) 
       }
 
   -- of one that stored so many
-  ends-at : (c : Call) (count total : ℕ) (t : Turn) → t ≡ endTurn count (listed.Number total) → c .answer ≡ listed.Number (length (c .entries)) → length (c .entries) ≡ total
-      → (length (c .entries) ≤ count) ⊎ (room ≤ count) → Turned c classes singles pairs policy text room t
+  ends-at : (c : FindingsCall) (count total : ℕ) (t : Turn) → t ≡ endTurn count (listed.Number total) → c .answer ≡ listed.Number (length (c .entries)) → length (c .entries) ≡ total
+      → (length (c .entries) ≤ count) ⊎ (room ≤ count) → CallTurn c classes singles pairs policy text room t
   ends-at c count total t e number q all =
-      subst (Turned c classes singles pairs policy text room) (sym e)
+      subst (CallTurn c classes singles pairs policy text room) (sym e)
       (ended-turn c count (listed.Number total) (ap (λ (n : ℕ). listed.Number n) (sym q) ∙ sym number) all)
 
   -- the list is full: the others are counted
@@ -107,11 +107,11 @@ module _ (classes singles pairs : List ℕ) (policy : Policy) (text : List ℕ) 
   turned-none count from s t h z e =
       (ap (λ (u : Turn). u .count) e, λ c number le d. let q : length (c .entries) ≡ count = size c le d in ends-at c count count t e number q (inl (omega (arith, q))))
     where
-      size : (c : Call) → count ≤ length (c .entries) → drop count (c .entries) ≡ findingsFrom r policy text from → length (c .entries) ≡ count
+      size : (c : FindingsCall) → count ≤ length (c .entries) → drop count (c .entries) ≡ findingsFrom r policy text from → length (c .entries) ≡ count
       size c le d = let n = dropped-length count (c .entries) [] le (d ∙ h .none z) in omega (arith, n)
 
   -- one is found, and there is room for it
-  pub turned-found : (leads : Leads) (plain : Bool) (count from : ℕ) (s : Looked) (answer : Listed) → Tables classes singles pairs leads → (plain ≡ true → PlainPage classes singles) → length text ≤ pieceLimit
+  pub turned-found : (leads : Leads) (plain : Bool) (count from : ℕ) (s : Looked) (answer : Listed) → ByteTables classes singles pairs leads → (plain ≡ true → PlainPage classes singles) → length text ≤ pieceLimit
       → count ≤ from → count < room → FoundFrom r policy text from s → s .found ≡ true
       → TurnedFrom classes singles pairs policy text room count from (record { going = true; count = count; finding = s .finding; end = s .end; plain = plain; leads = leads; answer = answer })
   turned-found leads plain count from s answer tables page short le h l e = (
@@ -129,7 +129,7 @@ module _ (classes singles pairs : List ℕ) (policy : Policy) (text : List ℕ) 
   next-stop t next z e =
       (ap (λ (u : Turn). u .count) e, λ c h. let q = size c h in ends-at c (t .count + 1) (t .count + 1) next e (h .number) q (inl (omega (arith, q))))
     where
-      size : (c : Call) → Storing c r policy text t → length (c .entries) ≡ t .count + 1
+      size : (c : FindingsCall) → Storing c r policy text t → length (c .entries) ≡ t .count + 1
       size c h =
           let before = entry-before (t .count) (c .entries) (t .finding) _ (h .next) in
           let none : drop (t .count + 1) (c .entries) ≡ [] = drop-next (t .count) (c .entries) (t .finding) _ (h .next) ∙ behind-stop r policy text (t .finding) (t .end) z in

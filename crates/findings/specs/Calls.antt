@@ -17,13 +17,13 @@ use Rattle.findings.specs.declared.Listed.{Listed}
 use Rattle.findings.specs.declared.Listed.the-variants as listed
 use Rattle.findings.specs.declared.Next.{Next}
 use Rattle.findings.specs.declared.Next.the-variants as next
-use Rattle.findings.specs.Findings.{findingsOf, findingsFrom, filled}
+use Rattle.findings.specs.Findings.{findingsOf, findingsFrom, filledFront}
 
 -- The numbers of the refusals.
-abbrev pub refusalNumber : Refusal → ℕ
-refusalNumber BadPolicy = 17
-refusalNumber BadShape = 10
-refusalNumber TooLong = 11
+abbrev pub findingsNumber : Refusal → ℕ
+findingsNumber BadPolicy = 17
+findingsNumber BadShape = 10
+findingsNumber TooLong = 11
 
 -- "Checks: 17, 10, 11." The digits are those of decoding.
 unfoldable pub findingsRefusal : Policy → CodePage → (text : List ℕ) → Option Refusal
@@ -34,31 +34,31 @@ abbrev pub findingsText : Policy → CodePage → (text : List ℕ) → List Fin
 findingsText policy p text = findingsOf (bytesReader p) policy text
 
 -- What the call gives: its answer, and the findings that the lent list is filled with.
-pub record Call : Type 0 where
+pub record FindingsCall : Type 0 where
   pub answer : Listed
   pub entries : List Finding
 
 -- "It reports the true number of findings." Refused, there are none.
-abbrev pub callUnless : Option Refusal → List Finding → Call
+abbrev pub callUnless : Option Refusal → List Finding → FindingsCall
 callUnless none fs = record { answer = listed.Number (length fs); entries = fs }
 callUnless (some why) fs = record { answer = listed.Refused why; entries = [] }
 
 -- THE CALL.
-unfoldable pub findingsCall : Policy → CodePage → (text : List ℕ) → Call
+unfoldable pub findingsCall : Policy → CodePage → (text : List ℕ) → FindingsCall
 findingsCall policy p text = callUnless (findingsRefusal policy p text) (findingsText policy p text)
 
 -- The promise of the call: c is what the rules give, r what it returns, and the lent list before and after.
-pub record ListedAs (c : Call) (r : Listed) (before after : List Finding) : Type 0 where
+pub record FindingsListed (c : FindingsCall) (r : Listed) (before after : List Finding) : Type 0 where
   pub answer : r ≡ c .answer
-  pub lent : after ≡ filled before (c .entries)
+  pub lent : after ≡ filledFront before (c .entries)
 
 -- the first of some findings
-abbrev pub firstOf : List Finding → Next
-firstOf [] = next.Nothing
-firstOf (f ∷ fs) = next.Found f
+abbrev pub firstFinding : List Finding → Next
+firstFinding [] = next.Nothing
+firstFinding (f ∷ fs) = next.Found f
 
 abbrev pub nextUnless : Option Refusal → List Finding → Next
-nextUnless none fs = firstOf fs
+nextUnless none fs = firstFinding fs
 nextUnless (some why) fs = next.Refused why
 
 -- THE NEXT FINDING from a place on, at which a code begins, with the same checks.

@@ -19,7 +19,7 @@ use Rattle.codepage_walk.specs.Checks.{bytesReader, TextPasses}
 use Rattle.findings.specs.declared.Finding.{Finding}
 use Rattle.findings.specs.declared.Refusal.{Refusal}
 use Rattle.findings.specs.declared.Refusal.the-variants.{BadPolicy, BadShape, TooLong}
-use Rattle.findings.specs.Findings.{findingOf}
+use Rattle.findings.specs.Findings.{codeFinding}
 
 -- "Each entry must be a code that the rules read at that place with that kind": what is told of it is that code's, and its bytes are the
 -- text's.
@@ -28,7 +28,7 @@ pub record IsRead (p : CodePage) (policy : Policy) (text : List ℕ) (f : Findin
   pub kind : Kind
   pub at : CodeAt (bytesReader p) text (f .place) code
   pub lacking : code .means ≡ Lacking kind
-  pub told : f ≡ findingOf policy kind (record { place = f .place; code = code })
+  pub told : f ≡ codeFinding policy kind (record { place = f .place; code = code })
   pub bytes : take (f .size) (drop (f .place) text) ≡ unitsOf code
 
 -- each of some findings

@@ -20,8 +20,8 @@ secondOf (byte ∷ bytes) = byte
 
 -- What is told of a code of a kind: "place (of the first byte, from 0), kind, the bytes, and the policy digit that was applied". The kind
 -- is told by its flag.
-abbrev pub findingOf : Policy → Kind → Placed → Finding
-findingOf policy kind c =
+abbrev pub codeFinding : Policy → Kind → Placed → Finding
+codeFinding policy kind c =
     record {
       place = c .place;
       kind = flagOf kind;
@@ -38,7 +38,7 @@ untilStop f later = f ∷ pick (eqb (f .digit) 0) [] later
 -- a code that has a character is no finding
 abbrev pub findingThen : Policy → Placed → Lookup → (later : List Finding) → List Finding
 findingThen policy c (Found unit) later = later
-findingThen policy c (Lacking kind) later = untilStop (findingOf policy kind c) later
+findingThen policy c (Lacking kind) later = untilStop (codeFinding policy kind c) later
 
 -- the findings among codes that follow one another: "in order of place, until .. the reading ends"
 unfoldable pub findingsIn : Policy → List Placed → List Finding
@@ -55,7 +55,7 @@ findingsFrom r policy text place = findingsIn policy (placedFrom place (codes r 
 
 -- "until the list is full": a lent list after as many findings as it has room for were put to its front. "Entries beyond those filled do
 -- not change."
-abbrev pub filled : (before findings : List Finding) → List Finding
-filled [] fs = []
-filled (entry ∷ entries) [] = entry ∷ entries
-filled (entry ∷ entries) (f ∷ fs) = f ∷ filled entries fs
+abbrev pub filledFront : (before findings : List Finding) → List Finding
+filledFront [] fs = []
+filledFront (entry ∷ entries) [] = entry ∷ entries
+filledFront (entry ∷ entries) (f ∷ fs) = f ∷ filledFront entries fs

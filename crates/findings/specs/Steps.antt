@@ -21,7 +21,7 @@ use Rattle.findings.specs.declared.Turn.{Turn}
 use Rattle.findings.specs.declared.Listed.{Listed}
 use Rattle.findings.specs.declared.Listed.the-variants as listed
 use Rattle.findings.specs.Findings.{findingsFrom}
-use Rattle.findings.specs.Calls.{Call}
+use Rattle.findings.specs.Calls.{FindingsCall}
 
 -- no finding
 abbrev pub noFinding : Finding
@@ -48,7 +48,7 @@ unfoldable pub behind : Reader → Policy → (text : List ℕ) → Finding → 
 behind r policy text f end = pick (eqb (f .digit) 0) [] (findingsFrom r policy text end)
 
 -- tables of bytes whose shape is good, and their leads
-pub record Tables (classes singles pairs : List ℕ) (leads : Leads) : Type 0 where
+pub record ByteTables (classes singles pairs : List ℕ) (leads : Leads) : Type 0 where
   pub classes-size : length classes ≡ 256
   pub singles-size : length singles ≡ 256
   pub pairs-size : (lead : ℕ) → lead < 256 → isLead (entryAt classes lead) ≡ true → 256 * leadsBelow classes lead + 256 ≤ length pairs
@@ -75,8 +75,8 @@ pub record FoundFrom (r : Reader) (policy : Policy) (text : List ℕ) (from : �
   pub one : s .found ≡ true → findingsFrom r policy text from ≡ s .finding ∷ behind r policy text (s .finding) (s .end)
 
 -- A turn that can be gone on from: the list has room for its finding, and the tables are known.
-pub record Ready (classes singles pairs text : List ℕ) (room : ℕ) (t : Turn) : Type 0 where
-  pub tables : Tables classes singles pairs (t .leads)
+pub record TurnGoesOn (classes singles pairs text : List ℕ) (room : ℕ) (t : Turn) : Type 0 where
+  pub tables : ByteTables classes singles pairs (t .leads)
   pub plain-page : t .plain ≡ true → PlainPage classes singles
   pub short : length text ≤ pieceLimit
   pub room-left : t .count < room
@@ -84,18 +84,18 @@ pub record Ready (classes singles pairs text : List ℕ) (room : ℕ) (t : Turn)
   pub inside : t .end ≤ length text
 
 -- The finding of a turn is the next of a call's entries, and the rest are those behind it.
-pub record Storing (c : Call) (r : Reader) (policy : Policy) (text : List ℕ) (t : Turn) : Type 0 where
+pub record Storing (c : FindingsCall) (r : Reader) (policy : Policy) (text : List ℕ) (t : Turn) : Type 0 where
   pub number : c .answer ≡ listed.Number (length (c .entries))
   pub next : drop (t .count) (c .entries) ≡ t .finding ∷ behind r policy text (t .finding) (t .end)
 
 -- At the end of a call: its answer, and nothing is left to store.
-pub record Ended (c : Call) (room : ℕ) (t : Turn) : Type 0 where
+pub record Ended (c : FindingsCall) (room : ℕ) (t : Turn) : Type 0 where
   pub answer : t .answer ≡ c .answer
   pub all : (length (c .entries) ≤ t .count) ⊎ (room ≤ t .count)
 
 -- A turn of a call.
-pub record Turned (c : Call) (classes singles pairs : List ℕ) (policy : Policy) (text : List ℕ) (room : ℕ) (t : Turn) : Type 0 where
-  pub ready : t .going ≡ true → Ready classes singles pairs text room t
+pub record CallTurn (c : FindingsCall) (classes singles pairs : List ℕ) (policy : Policy) (text : List ℕ) (room : ℕ) (t : Turn) : Type 0 where
+  pub ready : t .going ≡ true → TurnGoesOn classes singles pairs text room t
   pub goes : t .going ≡ true → Storing c (decoder classes singles pairs) policy text t
   pub ends : t .going ≡ false → Ended c room t
 
@@ -103,10 +103,10 @@ pub record Turned (c : Call) (classes singles pairs : List ℕ) (policy : Policy
 abbrev pub TurnedFrom : (classes singles pairs : List ℕ) → Policy → (text : List ℕ) → (room count from : ℕ) → Turn → Type 0
 TurnedFrom classes singles pairs policy text room count from t =
     (t .count ≡ count)
-    × ((c : Call) → c .answer ≡ listed.Number (length (c .entries)) → count ≤ length (c .entries) → drop count (c .entries) ≡ findingsFrom (decoder classes singles pairs) policy text from
-    → Turned c classes singles pairs policy text room t)
+    × ((c : FindingsCall) → c .answer ≡ listed.Number (length (c .entries)) → count ≤ length (c .entries) → drop count (c .entries) ≡ findingsFrom (decoder classes singles pairs) policy text from
+    → CallTurn c classes singles pairs policy text room t)
 
 -- The turn behind one whose finding was stored.
 abbrev pub NextTurn : (classes singles pairs : List ℕ) → Policy → (text : List ℕ) → (room : ℕ) → (t next : Turn) → Type 0
 NextTurn classes singles pairs policy text room t next =
-    (next .count ≡ t .count + 1) × ((c : Call) → Storing c (decoder classes singles pairs) policy text t → Turned c classes singles pairs policy text room next)
+    (next .count ≡ t .count + 1) × ((c : FindingsCall) → Storing c (decoder classes singles pairs) policy text t → CallTurn c classes singles pairs policy text room next)

@@ -18,8 +18,8 @@ ghost use Rattle.engine.specs.Steps.{DecodeSizes};
 ghost use Rattle.engine_fastpath.specs.Words.{PlainPage};
 ghost use Rattle.convert.specs.Runs.{pieceLimit};
 ghost use Rattle.findings.specs.Findings.{findingsFrom};
-ghost use Rattle.findings.specs.Calls.{refusalNumber, findingsCall, ListedAs, nextOf};
-ghost use Rattle.findings.specs.Steps.{noFinding, findingAt, endTurn, Tables, LookedAt, Passed, FoundFrom, Ready, Turned, TurnedFrom, NextTurn};
+ghost use Rattle.findings.specs.Calls.{findingsNumber, findingsCall, FindingsListed, nextOf};
+ghost use Rattle.findings.specs.Steps.{noFinding, findingAt, endTurn, ByteTables, LookedAt, Passed, FoundFrom, TurnGoesOn, CallTurn, TurnedFrom, NextTurn};
 use codepage::Kind;
 use codepage::Lookup;
 use codepage::Numbers;
@@ -64,7 +64,7 @@ pub enum Listed {
 impl Refusal {
     // The number that document 01 gives the refusal.
     pub fn number(self) -> u8
-        ensures { λ r. ⌜ r ≡ refusalNumber self ⌝ }
+        ensures { λ r. ⌜ r ≡ findingsNumber self ⌝ }
     {
         match self {
             Refusal::BadPolicy => 17,
@@ -177,7 +177,7 @@ fn look_at(
     text: &[u8],
     place: usize,
 ) -> Looked
-    requires { ⌜ Tables (now classes) (now singles) (now pairs) leads × (place < length (now text)) ⌝ }
+    requires { ⌜ ByteTables (now classes) (now singles) (now pairs) leads × (place < length (now text)) ⌝ }
     ensures { λ r. ⌜ LookedAt (decoder (now (classes .entry)) (now (singles .entry)) (now (pairs .entry))) policy (now (text .entry)) place r ⌝ }
 {
     let read = codepage_walk::code_at(classes, singles, pairs, leads, text, place);
@@ -234,7 +234,7 @@ fn find_from(
     text: &[u8],
     from: usize,
 ) -> Looked
-    requires { ⌜ Tables (now classes) (now singles) (now pairs) leads × (plain ≡ true → PlainPage (now classes) (now singles)) × (from ≤ length (now text)) ⌝ }
+    requires { ⌜ ByteTables (now classes) (now singles) (now pairs) leads × (plain ≡ true → PlainPage (now classes) (now singles)) × (from ≤ length (now text)) ⌝ }
     ensures { λ r. ⌜ FoundFrom (decoder (now (classes .entry)) (now (singles .entry)) (now (pairs .entry))) policy (now (text .entry)) from r ⌝ }
 {
     let mut place = pass_plain(plain, text, from);
@@ -264,7 +264,7 @@ fn count_from(
     text: &[u8],
     from: usize,
 ) -> usize
-    requires { ⌜ Tables (now classes) (now singles) (now pairs) leads × (plain ≡ true → PlainPage (now classes) (now singles)) × (from ≤ length (now text)) × (length (now text) ≤ pieceLimit) ⌝ }
+    requires { ⌜ ByteTables (now classes) (now singles) (now pairs) leads × (plain ≡ true → PlainPage (now classes) (now singles)) × (from ≤ length (now text)) × (length (now text) ≤ pieceLimit) ⌝ }
     ensures { λ r. ⌜ (r ≡ length (findingsFrom (decoder (now (classes .entry)) (now (singles .entry)) (now (pairs .entry))) policy (now (text .entry)) from)) × (r ≤ length (now (text .entry))) ⌝ }
 {
     let mut place = from;
@@ -347,7 +347,7 @@ fn turn_from(
     count: usize,
     from: usize,
 ) -> Turn
-    requires { ⌜ Tables (now classes) (now singles) (now pairs) leads × (plain ≡ true → PlainPage (now classes) (now singles)) ⌝ }
+    requires { ⌜ ByteTables (now classes) (now singles) (now pairs) leads × (plain ≡ true → PlainPage (now classes) (now singles)) ⌝ }
     requires { ⌜ (length (now text) ≤ pieceLimit) × (count ≤ from) × (from ≤ length (now text)) ⌝ }
     ensures { λ r. ⌜ TurnedFrom (now (classes .entry)) (now (singles .entry)) (now (pairs .entry)) policy (now (text .entry)) room count from r ⌝ }
 {
@@ -384,7 +384,7 @@ fn first_turn(
     text: &[u8],
     room: usize,
 ) -> Turn
-    ensures { λ r. ⌜ Turned (findingsCall policy (codePage numbers (now (classes .entry)) (now (singles .entry)) (now (pairs .entry)) (now (index .entry)) (now (blocks .entry))) (now (text .entry))) (now (classes .entry)) (now (singles .entry)) (now (pairs .entry)) policy (now (text .entry)) room r × (r .count ≡ 0) ⌝ }
+    ensures { λ r. ⌜ CallTurn (findingsCall policy (codePage numbers (now (classes .entry)) (now (singles .entry)) (now (pairs .entry)) (now (index .entry)) (now (blocks .entry))) (now (text .entry))) (now (classes .entry)) (now (singles .entry)) (now (pairs .entry)) policy (now (text .entry)) room r × (r .count ≡ 0) ⌝ }
 {
     if !policies::allowed(Direction::Decoding, policy) {
         return refused(Refusal::BadPolicy);
@@ -424,7 +424,7 @@ fn next_turn(
     room: usize,
     t: Turn,
 ) -> Turn
-    requires { ⌜ Ready (now classes) (now singles) (now pairs) (now text) room t ⌝ }
+    requires { ⌜ TurnGoesOn (now classes) (now singles) (now pairs) (now text) room t ⌝ }
     ensures { λ r. ⌜ NextTurn (now (classes .entry)) (now (singles .entry)) (now (pairs .entry)) policy (now (text .entry)) room t r ⌝ }
 {
     let finding = t.finding;
@@ -459,7 +459,7 @@ pub fn list_findings(
     text: &[u8],
     list: &mut [Finding],
 ) -> Listed
-    ensures { λ r. ⌜ ListedAs (findingsCall policy (codePage numbers (now (classes .entry)) (now (singles .entry)) (now (pairs .entry)) (now (index .entry)) (now (blocks .entry))) (now (text .entry))) r (now (list .entry)) (now (list .exit)) ⌝ }
+    ensures { λ r. ⌜ FindingsListed (findingsCall policy (codePage numbers (now (classes .entry)) (now (singles .entry)) (now (pairs .entry)) (now (index .entry)) (now (blocks .entry))) (now (text .entry))) r (now (list .entry)) (now (list .exit)) ⌝ }
 {
     let mut t = first_turn(
         policy,

@@ -95,20 +95,20 @@ pub record NextLine : Type 0 where
   pub line : List ℕ
 
 -- an answer without a line
-abbrev pub unwritten : Listed → NextLine
-unwritten answer = record { answer = answer; line = [] }
+abbrev pub noLine : Listed → NextLine
+noLine answer = record { answer = answer; line = [] }
 
 -- the line of a record, if it fits the room; the cursor goes behind its place
 unfoldable pub listRecord : Record → (place room : ℕ) → NextLine
 listRecord r place room =
-    pick (ltb room (length (recordLine r))) (unwritten (Refused NoRoom))
+    pick (ltb room (length (recordLine r))) (noLine (Refused NoRoom))
     (record { answer = Line (length (recordLine r)) (record { place = place + 1 }); line = recordLine r })
 
 -- 10 the shape is bad; then done, where no record is left; then 19 the line does not fit the room
 unfoldable pub listOf : CodePage → Cursor → (room : ℕ) → NextLine
 listOf p cursor room =
-    pick (not (isGood (firstFault p))) (unwritten (Refused BadShape))
-    (pick (leb places (nextPlace p (cursor .place))) (unwritten Done)
+    pick (not (isGood (firstFault p))) (noLine (Refused BadShape))
+    (pick (leb places (nextPlace p (cursor .place))) (noLine Done)
     (listRecord (recordAt p (nextPlace p (cursor .place))) (nextPlace p (cursor .place)) room))
 
 -- The promise: l is what the rules give, r what the call returns, and the lent output before and after.

@@ -14,18 +14,18 @@ use Rattle.listing.specs.declared.Record.{Record}
 use Rattle.listing.specs.declared.Record.the-variants.{Page, Single, Lead, Trail, Pair, Code}
 use Rattle.listing.specs.declared.Letter.the-variants.{L, M}
 use Rattle.listing.specs.Sets.{inBytes, countHalf}
-use Rattle.listing.specs.Order.{rank, follows, isListedLead, withLead, accepts, after, codeBlock, blockCount, sizesOf, classOf}
+use Rattle.listing.specs.Order.{rank, follows, isListedLead, withLead, accepts, afterRecord, codeBlock, blocksListed, sizesListed, classOf}
 use Rattle.listing.specs.declared.Refusal.the-variants.{BadLine, TooSmall}
 use Rattle.listing.specs.declared.Read.the-variants.{Accepted, Refused}
 use Rattle.listing.specs.Form.{recordOf}
-use Rattle.listing.specs.Steps.{Fits, Ready}
-use Rattle.listing.specs.Tables.{Tables, tables, filled, leadBlock, changeOf, fit, reading, readRecord, readOf}
+use Rattle.listing.specs.Steps.{Fits, RecordReady}
+use Rattle.listing.specs.Tables.{Tables, tables, filled, leadBlock, changeOf, tablesFit, readingAs, readRecord, lineReading}
 use Rattle.listing.proofs.SetLaws.{half-with}
 use Rattle.codepage.proofs.ShapeLaws.{and-left, and-right}
 
 -- ---- sizes
-pub some-block : (s : Progress) → 1 ≤ blockCount s
-unfolding blockCount
+pub some-block : (s : Progress) → 1 ≤ blocksListed s
+unfolding blocksListed
 some-block s = by-case (eqb (rank (s .letter)) 7 && eqb (s .block) 0)
   where
     by-case : (t : Bool) → 1 ≤ pick t 256 (s .block + 1)
@@ -33,8 +33,8 @@ some-block s = by-case (eqb (rank (s .letter)) 7 && eqb (s .block) 0)
     by-case false = omega arith
 
 -- what the test of the sizes says of each table
-pub fit-known : (n : Sizes) (classes singles pairs index blocks : List ℕ) → fit n (tables classes singles pairs index blocks) ≡ true → Fits n classes singles pairs index blocks
-unfolding fit
+pub fit-known : (n : Sizes) (classes singles pairs index blocks : List ℕ) → tablesFit n (tables classes singles pairs index blocks) ≡ true → Fits n classes singles pairs index blocks
+unfolding tablesFit
 fit-known n classes singles pairs index blocks e =
     let a : Bool = leb (n .classes) (length classes) in
     let b : Bool = leb (n .singles) (length singles) in
@@ -52,42 +52,42 @@ fit-known n classes singles pairs index blocks e =
     }
 
 -- ---- what a record needs and changes; `n` is what has been read after it
-module _ {s n : Progress} {r : Record} {classes singles pairs index blocks : List ℕ} (ready : Ready s n r classes singles pairs index blocks) where
+module _ {s n : Progress} {r : Record} {classes singles pairs index blocks : List ℕ} (ready : RecordReady s n r classes singles pairs index blocks) where
   pub classes-room : 256 ≤ length classes
-  unfolding sizesOf
+  unfolding sizesListed
   classes-room = ready .fits .classes-fit
 
   pub singles-room : 256 ≤ length singles
-  unfolding sizesOf
+  unfolding sizesListed
   singles-room = ready .fits .singles-fit
 
   pub index-room : 256 ≤ length index
-  unfolding sizesOf
+  unfolding sizesListed
   index-room = ready .fits .index-fit
 
-  pub pairs-room : sizesOf n .pairs ≤ length pairs
-  pairs-room = rw (ap (λ (m : Progress). sizesOf m .pairs) (ready .next)) (ready .fits .pairs-fit)
+  pub pairs-room : sizesListed n .pairs ≤ length pairs
+  pairs-room = rw (ap (λ (m : Progress). sizesListed m .pairs) (ready .next)) (ready .fits .pairs-fit)
 
   pub blocks-room : 256 ≤ length blocks
-  unfolding sizesOf
-  blocks-room = omega (arith, ready .fits .blocks-fit, some-block (after s r))
+  unfolding sizesListed
+  blocks-room = omega (arith, ready .fits .blocks-fit, some-block (afterRecord s r))
 
   pub page-change : (page : ℕ) (classes′ singles′ index′ blocks′ : List ℕ) → r ≡ Page page → classes′ ≡ filled classes 0 256 0 → singles′ ≡ filled singles 0 256 0xFFFF → index′ ≡ filled index 0 256 0 → blocks′ ≡ filled blocks 0 256 0xFFFF → tables classes′ singles′ pairs index′ blocks′ ≡ changeOf s r (tables classes singles pairs index blocks)
   page-change page classes′ singles′ index′ blocks′ e f g h k = rw (e, f, g, h, k)
 
   pub single-change : (byte unit : ℕ) (classes′ singles′ : List ℕ) → r ≡ Single byte unit → classes′ ≡ set classes byte (classOf n byte) → singles′ ≡ set singles byte unit → tables classes′ singles′ pairs index blocks ≡ changeOf s r (tables classes singles pairs index blocks)
   single-change byte unit classes′ singles′ e f g =
-      ap₂ (λ (x y : List ℕ). tables x y pairs index blocks) (f ∙ ap (λ (m : Progress). set classes byte (classOf m byte)) (ready .next ∙ ap (after s) e)) g
+      ap₂ (λ (x y : List ℕ). tables x y pairs index blocks) (f ∙ ap (λ (m : Progress). set classes byte (classOf m byte)) (ready .next ∙ ap (afterRecord s) e)) g
       ∙ ap (λ (q : Record). changeOf s q (tables classes singles pairs index blocks)) (sym e)
 
   pub lead-change : (byte : ℕ) (classes′ pairs′ : List ℕ) → r ≡ Lead byte → classes′ ≡ set classes byte (classOf n byte) → pairs′ ≡ filled pairs (256 * leadBlock n byte) 256 0xFFFF → tables classes′ singles pairs′ index blocks ≡ changeOf s r (tables classes singles pairs index blocks)
   lead-change byte classes′ pairs′ e f g =
-      ap₂ (λ (x y : List ℕ). tables x singles y index blocks) (f ∙ ap (λ (m : Progress). set classes byte (classOf m byte)) (ready .next ∙ ap (after s) e)) (g ∙ ap (λ (m : Progress). filled pairs (256 * leadBlock m byte) 256 0xFFFF) (ready .next ∙ ap (after s) e))
+      ap₂ (λ (x y : List ℕ). tables x singles y index blocks) (f ∙ ap (λ (m : Progress). set classes byte (classOf m byte)) (ready .next ∙ ap (afterRecord s) e)) (g ∙ ap (λ (m : Progress). filled pairs (256 * leadBlock m byte) 256 0xFFFF) (ready .next ∙ ap (afterRecord s) e))
       ∙ ap (λ (q : Record). changeOf s q (tables classes singles pairs index blocks)) (sym e)
 
   pub trail-change : (byte : ℕ) (classes′ : List ℕ) → r ≡ Trail byte → classes′ ≡ set classes byte (classOf n byte) → tables classes′ singles pairs index blocks ≡ changeOf s r (tables classes singles pairs index blocks)
   trail-change byte classes′ e f =
-      ap (λ (x : List ℕ). tables x singles pairs index blocks) (f ∙ ap (λ (m : Progress). set classes byte (classOf m byte)) (ready .next ∙ ap (after s) e))
+      ap (λ (x : List ℕ). tables x singles pairs index blocks) (f ∙ ap (λ (m : Progress). set classes byte (classOf m byte)) (ready .next ∙ ap (afterRecord s) e))
       ∙ ap (λ (q : Record). changeOf s q (tables classes singles pairs index blocks)) (sym e)
 
   -- an accepted lead is listed
@@ -96,7 +96,7 @@ module _ {s n : Progress} {r : Record} {classes singles pairs index blocks : Lis
   lead-listed byte e =
       let accepted : (follows s L byte && leb 0x80 byte && not (inBytes (s .singles) byte)) ≡ true = ap (accepts s) (sym e) ∙ ready .accepted in
       let high : 0x80 ≤ byte = leb-true 0x80 byte (and-right (follows s L byte) (leb 0x80 byte) (and-left (follows s L byte && leb 0x80 byte) (not (inBytes (s .singles) byte)) accepted)) in
-      ap (λ (m : Progress). isListedLead (m .leads) byte) (ready .next ∙ ap (after s) e)
+      ap (λ (m : Progress). isListedLead (m .leads) byte) (ready .next ∙ ap (afterRecord s) e)
       ∙ rw (le-ltb byte 0x80 high, le-leb 0x80 byte high) (half-with (s .leads) (byte - 0x80))
 
   -- a pair's lead is listed
@@ -105,13 +105,13 @@ module _ {s n : Progress} {r : Record} {classes singles pairs index blocks : Lis
       let accepted : (follows s M code && isListedLead (s .leads) (code / 256) && inBytes (s .trails) (code % 256)) ≡ true = ap (accepts s) (sym e) ∙ ready .accepted in
       and-right (follows s M code) (isListedLead (s .leads) (code / 256)) (and-left (follows s M code && isListedLead (s .leads) (code / 256)) (inBytes (s .trails) (code % 256)) accepted)
 
-  pub pair-room : (code unit : ℕ) → r ≡ Pair code unit → sizesOf s .pairs ≤ length pairs
-  unfolding sizesOf
-  pair-room code unit e = omega (arith, ap (λ (q : Record). 256 * countHalf (after s q .leads)) e, ready .fits .pairs-fit)
+  pub pair-room : (code unit : ℕ) → r ≡ Pair code unit → sizesListed s .pairs ≤ length pairs
+  unfolding sizesListed
+  pair-room code unit e = omega (arith, ap (λ (q : Record). 256 * countHalf (afterRecord s q .leads)) e, ready .fits .pairs-fit)
 
   pub code-room : (unit code : ℕ) → r ≡ Code unit code → 256 * codeBlock s unit + 256 ≤ length blocks
-  unfolding sizesOf blockCount
-  code-room unit code e = omega (arith, ap (λ (q : Record). 256 * blockCount (after s q)) e, ready .fits .blocks-fit, by-case (eqb (codeBlock s unit) 0) refl)
+  unfolding sizesListed blocksListed
+  code-room unit code e = omega (arith, ap (λ (q : Record). 256 * blocksListed (afterRecord s q)) e, ready .fits .blocks-fit, by-case (eqb (codeBlock s unit) 0) refl)
     where
       by-case : (t : Bool) → eqb (codeBlock s unit) 0 ≡ t → codeBlock s unit + 1 ≤ pick (eqb (codeBlock s unit) 0) 256 (codeBlock s unit + 1)
       by-case true q = rw q (omega (arith, eqb-true (codeBlock s unit) 0 q))
@@ -119,36 +119,36 @@ module _ {s n : Progress} {r : Record} {classes singles pairs index blocks : Lis
 
 -- ---- the answers of a call
 module _ (s : Progress) (r : Record) (line : List ℕ) (t : Tables) (a : Bool) (record-is : r ≡ recordOf line) (accepted-is : a ≡ accepts s r) where
-  as-record : readOf s line t ≡ readRecord s r t
-  unfolding readOf
+  as-record : lineReading s line t ≡ readRecord s r t
+  unfolding lineReading
   as-record = ap (λ (q : Record). readRecord s q t) (sym record-is)
 
   -- 22
-  pub refused-line : a ≡ false → reading (Refused BadLine) t ≡ readOf s line t
+  pub refused-line : a ≡ false → readingAs (Refused BadLine) t ≡ lineReading s line t
   unfolding readRecord
   refused-line e = sym (as-record ∙ rw (sym accepted-is ∙ e, readRecord))
 
-  module _ (n : Progress) (size : Sizes) (room : Bool) (agreed : a ≡ true) (next-is : n ≡ after s r) (size-is : size ≡ sizesOf n) (room-is : room ≡ fit size t) where
-    room-all : fit (sizesOf (after s r)) t ≡ room
-    room-all = sym (room-is ∙ ap (λ (z : Sizes). fit z t) (size-is ∙ ap sizesOf next-is))
+  module _ (n : Progress) (size : Sizes) (room : Bool) (agreed : a ≡ true) (next-is : n ≡ afterRecord s r) (size-is : size ≡ sizesListed n) (room-is : room ≡ tablesFit size t) where
+    room-all : tablesFit (sizesListed (afterRecord s r)) t ≡ room
+    room-all = sym (room-is ∙ ap (λ (z : Sizes). tablesFit z t) (size-is ∙ ap sizesListed next-is))
 
     -- 23
-    pub refused-room : room ≡ false → reading (Refused TooSmall) t ≡ readOf s line t
+    pub refused-room : room ≡ false → readingAs (Refused TooSmall) t ≡ lineReading s line t
     unfolding readRecord
     refused-room e = sym (as-record ∙ rw (sym accepted-is ∙ agreed, room-all ∙ e, readRecord))
 
     -- an accepted line
-    pub accepted-line : (after-call : Tables) → room ≡ true → after-call ≡ changeOf s r t → reading (Accepted n) after-call ≡ readOf s line t
+    pub accepted-line : (after-call : Tables) → room ≡ true → after-call ≡ changeOf s r t → readingAs (Accepted n) after-call ≡ lineReading s line t
     unfolding readRecord
     accepted-line after-call e f =
-        ap₂ (λ (m : Progress) (u : Tables). reading (Accepted m) u) next-is f
+        ap₂ (λ (m : Progress) (u : Tables). readingAs (Accepted m) u) next-is f
         ∙ sym (as-record ∙ rw (sym accepted-is ∙ agreed, room-all ∙ e, readRecord))
 
 -- what the change of the tables may rely on
-pub ready-of : (s : Progress) (r : Record) (a : Bool) (n : Progress) (size : Sizes) (room : Bool) (classes singles pairs index blocks : List ℕ) → a ≡ accepts s r → a ≡ true → n ≡ after s r → size ≡ sizesOf n → room ≡ fit size (tables classes singles pairs index blocks) → room ≡ true → Ready s n r classes singles pairs index blocks
+pub ready-of : (s : Progress) (r : Record) (a : Bool) (n : Progress) (size : Sizes) (room : Bool) (classes singles pairs index blocks : List ℕ) → a ≡ accepts s r → a ≡ true → n ≡ afterRecord s r → size ≡ sizesListed n → room ≡ tablesFit size (tables classes singles pairs index blocks) → room ≡ true → RecordReady s n r classes singles pairs index blocks
 ready-of s r a n size room classes singles pairs index blocks accepted-is agreed next-is size-is room-is fits-all =
     record {
       accepted = sym accepted-is ∙ agreed;
       next = next-is;
-      fits = fit-known (sizesOf (after s r)) classes singles pairs index blocks (ap (λ (z : Sizes). fit z (tables classes singles pairs index blocks)) (sym (size-is ∙ ap sizesOf next-is)) ∙ sym room-is ∙ fits-all);
+      fits = fit-known (sizesListed (afterRecord s r)) classes singles pairs index blocks (ap (λ (z : Sizes). tablesFit z (tables classes singles pairs index blocks)) (sym (size-is ∙ ap sizesListed next-is)) ∙ sym room-is ∙ fits-all);
     }

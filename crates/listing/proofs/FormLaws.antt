@@ -8,7 +8,7 @@ use native.Mathlib.Omega.{arith}
 use lib.ListN.{length, getD, drop, drop-of-length-le}
 use lib.Seq.{drop-cons}
 use Rattle.codepage.proofs.ShapeLaws.{and-right}
-use Rattle.listing.specs.Form.{fits, hasForm, digit, decimalAt}
+use Rattle.listing.specs.Form.{fitsSymbol, hasForm, digit, decimalAt}
 
 -- a line that has a form has its length
 pub form-length : (form line : List ℕ) → hasForm form line ≡ true → length form ≡ length line
@@ -16,7 +16,7 @@ unfolding hasForm
 form-length [] [] e = refl
 form-length [] (byte ∷ line) e = absurd (false≢true e)
 form-length (symbol ∷ form) [] e = absurd (false≢true e)
-form-length (symbol ∷ form) (byte ∷ line) e = ap suc (form-length form line (and-right (fits symbol byte) (hasForm form line) e))
+form-length (symbol ∷ form) (byte ∷ line) e = ap suc (form-length form line (and-right (fitsSymbol symbol byte) (hasForm form line) e))
 
 -- a line of another length has not the form
 pub form-other : (form line : List ℕ) → (length form ≡ length line → ⊥) → hasForm form line ≡ false
@@ -28,16 +28,16 @@ form-other form line ne = by-case (hasForm form line) refl
 
 -- ---- a loop that holds a line to a form
 module _ (form line : List ℕ) (i : ℕ) (h : i < length form) (k : i < length line) where
-  here : hasForm (drop i form) (drop i line) ≡ (fits (getD form i 0) (getD line i 0) && hasForm (drop (suc i) form) (drop (suc i) line))
+  here : hasForm (drop i form) (drop i line) ≡ (fitsSymbol (getD form i 0) (getD line i 0) && hasForm (drop (suc i) form) (drop (suc i) line))
   unfolding hasForm
   here = ap (λ (f : List ℕ). hasForm f (drop i line)) (drop-cons form i 0 h) ∙ ap (λ (l : List ℕ). hasForm (getD form i 0 ∷ drop (suc i) form) l) (drop-cons line i 0 k)
 
   -- a byte that fits: the rest decides
-  pub form-turn : fits (getD form i 0) (getD line i 0) ≡ true → hasForm (drop i form) (drop i line) ≡ hasForm (drop (i + 1) form) (drop (i + 1) line)
+  pub form-turn : fitsSymbol (getD form i 0) (getD line i 0) ≡ true → hasForm (drop i form) (drop i line) ≡ hasForm (drop (i + 1) form) (drop (i + 1) line)
   form-turn e = here ∙ rw (e, add-one i)
 
   -- a byte that does not fit
-  pub form-differs : fits (getD form i 0) (getD line i 0) ≡ false → hasForm (drop i form) (drop i line) ≡ false
+  pub form-differs : fitsSymbol (getD form i 0) (getD line i 0) ≡ false → hasForm (drop i form) (drop i line) ≡ false
   form-differs e = here ∙ rw e
 
 -- nothing is left to compare

@@ -20,12 +20,12 @@ unfoldable pub digit : ℕ → ℕ
 digit byte = pick (isDigit byte) (byte - 0x30) (pick (isCapital byte) (byte - 0x41 + 10) 0)
 
 -- bytes have two digits, units and codes four
-unfoldable pub byteAt : (line : List ℕ) → (place : ℕ) → ℕ
-byteAt line place = 16 * digit (entryAt line place) + digit (entryAt line (place + 1))
+unfoldable pub hexByteAt : (line : List ℕ) → (place : ℕ) → ℕ
+hexByteAt line place = 16 * digit (entryAt line place) + digit (entryAt line (place + 1))
 
 -- a unit or a code of four digits
-unfoldable pub unitAt : (line : List ℕ) → (place : ℕ) → ℕ
-unitAt line place = 256 * byteAt line place + byteAt line (place + 2)
+unfoldable pub hexUnitAt : (line : List ℕ) → (place : ℕ) → ℕ
+hexUnitAt line place = 256 * hexByteAt line place + hexByteAt line (place + 2)
 
 -- a decimal number of so many digits
 unfoldable pub decimalAt : (count : ℕ) → (line : List ℕ) → (place : ℕ) → ℕ
@@ -54,8 +54,8 @@ abbrev pub lineFeed : ℕ
 lineFeed = 0x0A
 
 -- whether a byte is what a symbol stands for
-unfoldable pub fits : (symbol byte : ℕ) → Bool
-fits symbol byte =
+unfoldable pub fitsSymbol : (symbol byte : ℕ) → Bool
+fitsSymbol symbol byte =
     pick (eqb symbol hexSymbol) (isDigit byte || isCapital byte)
     (pick (eqb symbol decimalSymbol) (isDigit byte)
     (pick (eqb symbol firstSymbol) (isDigit byte && not (eqb byte 0x30))
@@ -66,7 +66,7 @@ unfoldable pub hasForm : (form line : List ℕ) → Bool
 hasForm [] [] = true
 hasForm [] (byte ∷ line) = false
 hasForm (symbol ∷ form) [] = false
-hasForm (symbol ∷ form) (byte ∷ line) = fits symbol byte && hasForm form line
+hasForm (symbol ∷ form) (byte ∷ line) = fitsSymbol symbol byte && hasForm form line
 
 -- `D` default byte, default unit
 abbrev pub defaultsForm : List ℕ
@@ -127,11 +127,11 @@ pageOf line =
 -- A single without a character has FFFF for its unit, as in the table.
 unfoldable pub recordOf : List ℕ → Record
 recordOf line =
-    pick (hasForm codeForm line) (unlessNone (unitAt line 7) (Code (unitAt line 2) (unitAt line 7)))
-    (pick (hasForm pairForm line) (unlessNone (unitAt line 7) (Pair (unitAt line 2) (unitAt line 7)))
-    (pick (hasForm singleForm line) (unlessNone (unitAt line 5) (Single (byteAt line 2) (unitAt line 5)))
-    (pick (hasForm bareForm line) (Single (byteAt line 2) 0xFFFF)
-    (pick (hasForm trailForm line) (Trail (byteAt line 2))
-    (pick (hasForm leadForm line) (Lead (byteAt line 2))
-    (pick (hasForm defaultsForm line) (Defaults (byteAt line 2) (unitAt line 5))
+    pick (hasForm codeForm line) (unlessNone (hexUnitAt line 7) (Code (hexUnitAt line 2) (hexUnitAt line 7)))
+    (pick (hasForm pairForm line) (unlessNone (hexUnitAt line 7) (Pair (hexUnitAt line 2) (hexUnitAt line 7)))
+    (pick (hasForm singleForm line) (unlessNone (hexUnitAt line 5) (Single (hexByteAt line 2) (hexUnitAt line 5)))
+    (pick (hasForm bareForm line) (Single (hexByteAt line 2) 0xFFFF)
+    (pick (hasForm trailForm line) (Trail (hexByteAt line 2))
+    (pick (hasForm leadForm line) (Lead (hexByteAt line 2))
+    (pick (hasForm defaultsForm line) (Defaults (hexByteAt line 2) (hexUnitAt line 5))
     (pageOf line)))))))

@@ -78,9 +78,9 @@ abbrev pub afterPage : (page : ℕ) → Progress
 afterPage page = onlyPage P page
 
 -- What has been read once a record is accepted.
-abbrev pub after : Progress → Record → Progress
-after s (Page page) = afterPage page
-after s (Defaults byte unit) =
+abbrev pub afterRecord : Progress → Record → Progress
+afterRecord s (Page page) = afterPage page
+afterRecord s (Defaults byte unit) =
     record {
       letter = D;
       key = 0;
@@ -90,7 +90,7 @@ after s (Defaults byte unit) =
       block = s .block;
       numbers = record { page = s .numbers .page; «default_byte» = byte; «default_unit» = unit };
     }
-after s (Single byte unit) =
+afterRecord s (Single byte unit) =
     record {
       letter = S;
       key = byte;
@@ -100,7 +100,7 @@ after s (Single byte unit) =
       block = s .block;
       numbers = s .numbers;
     }
-after s (Lead byte) =
+afterRecord s (Lead byte) =
     record {
       letter = L;
       key = byte;
@@ -110,7 +110,7 @@ after s (Lead byte) =
       block = s .block;
       numbers = s .numbers;
     }
-after s (Trail byte) =
+afterRecord s (Trail byte) =
     record {
       letter = T;
       key = byte;
@@ -120,7 +120,7 @@ after s (Trail byte) =
       block = s .block;
       numbers = s .numbers;
     }
-after s (Pair code unit) =
+afterRecord s (Pair code unit) =
     record {
       letter = M;
       key = code;
@@ -130,7 +130,7 @@ after s (Pair code unit) =
       block = s .block;
       numbers = s .numbers;
     }
-after s (Code unit code) =
+afterRecord s (Code unit code) =
     record {
       letter = W;
       key = unit;
@@ -140,21 +140,21 @@ after s (Code unit code) =
       block = codeBlock s unit;
       numbers = s .numbers;
     }
-after s NoRecord = s
+afterRecord s NoRecord = s
 
 -- how many blocks: one empty block, and one for each high half, but for a 256th
-unfoldable pub blockCount : Progress → ℕ
-blockCount s = pick (eqb (rank (s .letter)) 7 && eqb (s .block) 0) 256 (s .block + 1)
+unfoldable pub blocksListed : Progress → ℕ
+blocksListed s = pick (eqb (rank (s .letter)) 7 && eqb (s .block) 0) 256 (s .block + 1)
 
 -- the sizes that the tables need, at the place reached
-unfoldable pub sizesOf : Progress → Sizes
-sizesOf s =
+unfoldable pub sizesListed : Progress → Sizes
+sizesListed s =
     record {
       classes = 256;
       singles = 256;
       pairs = 256 * countHalf (s .leads);
       index = 256;
-      blocks = 256 * blockCount s;
+      blocks = 256 * blocksListed s;
     }
 
 -- 0 never, 1 single, 2 lead, as listed

@@ -7,7 +7,7 @@ use lib.ListN.{length}
 use Rattle.listing.specs.declared.Record.{Record}
 use Rattle.listing.specs.declared.Progress.{Progress}
 use Rattle.listing.specs.declared.Sizes.{Sizes}
-use Rattle.listing.specs.Order.{accepts, after, sizesOf}
+use Rattle.listing.specs.Order.{accepts, afterRecord, sizesListed}
 
 -- each table has at least the size needed
 pub record Fits (n : Sizes) (classes singles pairs index blocks : List ℕ) : Type 0 where
@@ -18,7 +18,7 @@ pub record Fits (n : Sizes) (classes singles pairs index blocks : List ℕ) : Ty
   pub blocks-fit : n .blocks ≤ length blocks
 
 -- an accepted record `r`, with `n` what has been read after it, and tables that fit
-pub record Ready (s n : Progress) (r : Record) (classes singles pairs index blocks : List ℕ) : Type 0 where
+pub record RecordReady (s n : Progress) (r : Record) (classes singles pairs index blocks : List ℕ) : Type 0 where
   pub accepted : accepts s r ≡ true
-  pub next : n ≡ after s r
-  pub fits : Fits (sizesOf (after s r)) classes singles pairs index blocks
+  pub next : n ≡ afterRecord s r
+  pub fits : Fits (sizesListed (afterRecord s r)) classes singles pairs index blocks

@@ -17,7 +17,7 @@ use Rattle.listing.specs.declared.Ended.{Ended}
 use Rattle.listing.specs.declared.Ended.the-variants as ended
 use Rattle.listing.specs.Sets.{belowInHalf}
 use Rattle.listing.specs.Form.{recordOf}
-use Rattle.listing.specs.Order.{rank, accepts, after, isNewHigh, codeBlock, sizesOf, classOf}
+use Rattle.listing.specs.Order.{rank, accepts, afterRecord, isNewHigh, codeBlock, sizesListed, classOf}
 
 -- The five lent tables.
 pub record Tables : Type 0 where
@@ -42,8 +42,8 @@ unfoldable pub leadBlock : Progress → (lead : ℕ) → ℕ
 leadBlock s lead = belowInHalf (s .leads) (lead - 0x80)
 
 -- a new block starts empty; the block 0 is empty already
-unfoldable pub opened : (blocks : List ℕ) → (block : ℕ) → List ℕ
-opened blocks block = pick (eqb block 0) blocks (filled blocks (256 * block) 256 0xFFFF)
+unfoldable pub openedBlock : (blocks : List ℕ) → (block : ℕ) → List ℕ
+openedBlock blocks block = pick (eqb block 0) blocks (filled blocks (256 * block) 256 0xFFFF)
 
 -- What an accepted record changes. (`s` is what has been read before it.)
 abbrev pub changeOf : Progress → Record → Tables → Tables
@@ -57,20 +57,20 @@ changeOf s (Page page) t =
 changeOf s (Defaults byte unit) t = t
 changeOf s (Single byte unit) t =
     tables
-    (set (t .classes) byte (classOf (after s (Single byte unit)) byte))
+    (set (t .classes) byte (classOf (afterRecord s (Single byte unit)) byte))
     (set (t .singles) byte unit)
     (t .pairs)
     (t .index)
     (t .blocks)
 changeOf s (Lead byte) t =
     tables
-    (set (t .classes) byte (classOf (after s (Lead byte)) byte))
+    (set (t .classes) byte (classOf (afterRecord s (Lead byte)) byte))
     (t .singles)
-    (filled (t .pairs) (256 * leadBlock (after s (Lead byte)) byte) 256 0xFFFF)
+    (filled (t .pairs) (256 * leadBlock (afterRecord s (Lead byte)) byte) 256 0xFFFF)
     (t .index)
     (t .blocks)
 changeOf s (Trail byte) t =
-    tables (set (t .classes) byte (classOf (after s (Trail byte)) byte)) (t .singles) (t .pairs) (t .index) (t .blocks)
+    tables (set (t .classes) byte (classOf (afterRecord s (Trail byte)) byte)) (t .singles) (t .pairs) (t .index) (t .blocks)
 changeOf s (Pair code unit) t =
     tables (t .classes) (t .singles) (set (t .pairs) (256 * leadBlock s (code / 256) + code % 256) unit) (t .index) (t .blocks)
 changeOf s (Code unit code) t =
@@ -79,12 +79,12 @@ changeOf s (Code unit code) t =
     (t .singles)
     (t .pairs)
     (pick (isNewHigh s unit) (set (t .index) (unit / 256) (codeBlock s unit)) (t .index))
-    (set (pick (isNewHigh s unit) (opened (t .blocks) (codeBlock s unit)) (t .blocks)) (256 * codeBlock s unit + unit % 256) code)
+    (set (pick (isNewHigh s unit) (openedBlock (t .blocks) (codeBlock s unit)) (t .blocks)) (256 * codeBlock s unit + unit % 256) code)
 changeOf s NoRecord t = t
 
 -- whether each table has at least the size needed
-unfoldable pub fit : Sizes → Tables → Bool
-fit n t =
+unfoldable pub tablesFit : Sizes → Tables → Bool
+tablesFit n t =
     leb (n .classes) (length (t .classes))
     && leb (n .singles) (length (t .singles))
     && leb (n .pairs) (length (t .pairs))
@@ -102,21 +102,21 @@ pub record Reading : Type 0 where
   pub lent : Tables
 
 -- an answer with the tables after it
-abbrev pub reading : Read → Tables → Reading
-reading answer lent = record { answer = answer; lent = lent }
+abbrev pub readingAs : Read → Tables → Reading
+readingAs answer lent = record { answer = answer; lent = lent }
 
 -- 22 a line breaks the form or order, then 23 a lent table is too small for the line or the place reached; the tables stay as
 -- before it.
 unfoldable pub readRecord : Progress → Record → Tables → Reading
 readRecord s r t =
-    pick (not (accepts s r)) (reading (Refused BadLine) t)
-    (pick (not (fit (sizesOf (after s r)) t)) (reading (Refused TooSmall) t)
-    (reading (Accepted (after s r)) (changeOf s r t)))
+    pick (not (accepts s r)) (readingAs (Refused BadLine) t)
+    (pick (not (tablesFit (sizesListed (afterRecord s r)) t)) (readingAs (Refused TooSmall) t)
+    (readingAs (Accepted (afterRecord s r)) (changeOf s r t)))
 
 -- READING A LINE: that of its record.
-unfoldable pub readOf : Progress → (line : List ℕ) → Tables → Reading
-readOf s line t = readRecord s (recordOf line) t
+unfoldable pub lineReading : Progress → (line : List ℕ) → Tables → Reading
+lineReading s line t = readRecord s (recordOf line) t
 
 -- The end: 22 unless `P` and `D` were read; else the page, the defaults and the sizes needed.
-unfoldable pub endOf : Progress → Ended
-endOf s = pick (leb 2 (rank (s .letter))) (ended.Whole (s .numbers) (sizesOf s)) (ended.Refused BadLine)
+unfoldable pub listingEnd : Progress → Ended
+listingEnd s = pick (leb 2 (rank (s .letter))) (ended.Whole (s .numbers) (sizesListed s)) (ended.Refused BadLine)

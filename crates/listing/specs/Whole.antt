@@ -4,14 +4,14 @@ use Prim.Native.Nat.{ℕ}
 use Rattle.listing.specs.declared.Progress.{Progress}
 use Rattle.listing.specs.declared.Read.{Read}
 use Rattle.listing.specs.declared.Read.the-variants.{Accepted, Refused}
-use Rattle.listing.specs.Tables.{Tables, Reading, reading, readOf}
+use Rattle.listing.specs.Tables.{Tables, Reading, readingAs, lineReading}
 
 -- what comes after an accepted line; a refusal ends the reading
 abbrev pub thenRead : Read → Tables → (Progress → Tables → Reading) → Reading
 thenRead (Accepted s) t next = next s t
-thenRead (Refused why) t next = reading (Refused why) t
+thenRead (Refused why) t next = readingAs (Refused why) t
 
 -- the lines of a listing, one after the other
 unfoldable pub readAll : Progress → (lines : List (List ℕ)) → Tables → Reading
-readAll s [] t = reading (Accepted s) t
-readAll s (line ∷ lines) t = thenRead (readOf s line t .answer) (readOf s line t .lent) (λ s′ t′. readAll s′ lines t′)
+readAll s [] t = readingAs (Accepted s) t
+readAll s (line ∷ lines) t = thenRead (lineReading s line t .answer) (lineReading s line t .lent) (λ s′ t′. readAll s′ lines t′)

@@ -4,9 +4,9 @@ ghost use mathlib.Core.Bool.{true};
 ghost use Prim.Native.Nat.{ℕ, _+_, _*_, _/_, _%_, _≤_, _<_};
 ghost use lib.ListN.{length, set};
 ghost use Rattle.codepage.specs.CodePage.{pick};
-ghost use Rattle.listing.specs.Order.{isListedLead, isNewHigh, codeBlock, sizesOf, classOf};
-ghost use Rattle.listing.specs.Tables.{tables, filled, leadBlock, opened, changeOf};
-ghost use Rattle.listing.specs.Steps.{Ready};
+ghost use Rattle.listing.specs.Order.{isListedLead, isNewHigh, codeBlock, sizesListed, classOf};
+ghost use Rattle.listing.specs.Tables.{tables, filled, leadBlock, openedBlock, changeOf};
+ghost use Rattle.listing.specs.Steps.{RecordReady};
 use crate::Progress;
 use crate::Record;
 use crate::order;
@@ -47,7 +47,7 @@ fn put_class(next: Progress, byte: u8, classes: &mut [u8])
 // The block of a listed lead.
 fn lead_block(progress: Progress, lead: u8) -> usize
     requires { ⌜ isListedLead (progress .leads) lead ≡ true ⌝ }
-    ensures { λ r. ⌜ (r ≡ leadBlock progress lead) × (256 * r + 256 ≤ sizesOf progress .pairs) ⌝ }
+    ensures { λ r. ⌜ (r ≡ leadBlock progress lead) × (256 * r + 256 ≤ sizesListed progress .pairs) ⌝ }
 {
     let leads = progress.leads;
     sets::below_in_half(leads, lead - 0x80)
@@ -55,7 +55,7 @@ fn lead_block(progress: Progress, lead: u8) -> usize
 
 // `L`: the lead's pairs are emptied.
 fn put_lead(next: Progress, byte: u8, classes: &mut [u8], pairs: &mut [u16])
-    requires { ⌜ (256 ≤ length (now classes)) × (sizesOf next .pairs ≤ length (now pairs)) × (isListedLead (next .leads) byte ≡ true) ⌝ }
+    requires { ⌜ (256 ≤ length (now classes)) × (sizesListed next .pairs ≤ length (now pairs)) × (isListedLead (next .leads) byte ≡ true) ⌝ }
     ensures { λ _. ⌜ (now (classes .exit) ≡ set (now (classes .entry)) byte (classOf next byte)) × (now (pairs .exit) ≡ filled (now (pairs .entry)) (256 * leadBlock next byte) 256 0xFFFF) ⌝ }
 {
     put_class(next, byte, classes);
@@ -65,7 +65,7 @@ fn put_lead(next: Progress, byte: u8, classes: &mut [u8], pairs: &mut [u16])
 
 // `M`
 fn put_pair(progress: Progress, code: u16, unit: u16, pairs: &mut [u16])
-    requires { ⌜ (sizesOf progress .pairs ≤ length (now pairs)) × (isListedLead (progress .leads) (code / 256) ≡ true) ⌝ }
+    requires { ⌜ (sizesListed progress .pairs ≤ length (now pairs)) × (isListedLead (progress .leads) (code / 256) ≡ true) ⌝ }
     ensures { λ _. ⌜ now (pairs .exit) ≡ set (now (pairs .entry)) (256 * leadBlock progress (code / 256) + code % 256) unit ⌝ }
 {
     let block = lead_block(progress, (code / 256) as u8);
@@ -75,7 +75,7 @@ fn put_pair(progress: Progress, code: u16, unit: u16, pairs: &mut [u16])
 // A new block starts empty.
 fn open_block(block: u8, blocks: &mut [u16])
     requires { ⌜ 256 * block + 256 ≤ length (now blocks) ⌝ }
-    ensures { λ _. ⌜ now (blocks .exit) ≡ opened (now (blocks .entry)) block ⌝ }
+    ensures { λ _. ⌜ now (blocks .exit) ≡ openedBlock (now (blocks .entry)) block ⌝ }
 {
     if block == 0 {
         return;
@@ -87,7 +87,7 @@ fn open_block(block: u8, blocks: &mut [u16])
 fn put_code(progress: Progress, unit: u16, code: u16, index: &mut [u8], blocks: &mut [u16])
     requires { ⌜ (256 ≤ length (now index)) × (256 * codeBlock progress unit + 256 ≤ length (now blocks)) ⌝ }
     ensures { λ _. ⌜ now (index .exit) ≡ pick (isNewHigh progress unit) (set (now (index .entry)) (unit / 256) (codeBlock progress unit)) (now (index .entry)) ⌝ }
-    ensures { λ _. ⌜ now (blocks .exit) ≡ set (pick (isNewHigh progress unit) (opened (now (blocks .entry)) (codeBlock progress unit)) (now (blocks .entry))) (256 * codeBlock progress unit + unit % 256) code ⌝ }
+    ensures { λ _. ⌜ now (blocks .exit) ≡ set (pick (isNewHigh progress unit) (openedBlock (now (blocks .entry)) (codeBlock progress unit)) (now (blocks .entry))) (256 * codeBlock progress unit + unit % 256) code ⌝ }
 {
     let block = order::code_block(progress, unit);
     let place = 256 * (block as usize) + ((unit % 256) as usize);
@@ -122,7 +122,7 @@ pub fn change(
     index: &mut [u8],
     blocks: &mut [u16],
 )
-    requires { ⌜ Ready progress next item (now classes) (now singles) (now pairs) (now index) (now blocks) ⌝ }
+    requires { ⌜ RecordReady progress next item (now classes) (now singles) (now pairs) (now index) (now blocks) ⌝ }
     ensures { λ _. ⌜ tables (now (classes .exit)) (now (singles .exit)) (now (pairs .exit)) (now (index .exit)) (now (blocks .exit)) ≡ changeOf progress item (tables (now (classes .entry)) (now (singles .entry)) (now (pairs .entry)) (now (index .entry)) (now (blocks .entry))) ⌝ }
 {
     match item {

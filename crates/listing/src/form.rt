@@ -2,7 +2,7 @@
 ghost use mathlib.Core.Path.{_≡_};
 ghost use Prim.Native.Nat.{ℕ, _+_, _≤_, _<_};
 ghost use lib.ListN.{length};
-ghost use Rattle.listing.specs.Form.{isDigit, isCapital, digit, byteAt, unitAt, decimalAt, fits, hasForm, unlessNone, smallPage, pageOf, recordOf};
+ghost use Rattle.listing.specs.Form.{isDigit, isCapital, digit, hexByteAt, hexUnitAt, decimalAt, fitsSymbol, hasForm, unlessNone, smallPage, pageOf, recordOf};
 use crate::Record;
 
 // The forms of the lines: `#` stands for a hex digit, `0` for a decimal digit, `1` for the first digit of a number.
@@ -71,7 +71,7 @@ fn digit_of(byte: u8) -> u8
 
 // Whether a byte is what a symbol of a form stands for.
 fn fits_symbol(symbol: u8, byte: u8) -> bool
-    ensures { λ r. ⌜ r ≡ fits symbol byte ⌝ }
+    ensures { λ r. ⌜ r ≡ fitsSymbol symbol byte ⌝ }
 {
     if symbol == b'#' {
         if is_digit(byte) {
@@ -111,7 +111,7 @@ fn has_form(form: &[u8], line: &[u8]) -> bool
 // A byte of two digits.
 fn byte_at(line: &[u8], at: usize) -> u8
     requires { ⌜ at + 2 ≤ length (now line) ⌝ }
-    ensures { λ r. ⌜ r ≡ byteAt (now (line .entry)) at ⌝ }
+    ensures { λ r. ⌜ r ≡ hexByteAt (now (line .entry)) at ⌝ }
 {
     16 * digit_of(line[at]) + digit_of(line[at + 1])
 }
@@ -119,7 +119,7 @@ fn byte_at(line: &[u8], at: usize) -> u8
 // A unit or a code of four digits.
 fn unit_at(line: &[u8], at: usize) -> u16
     requires { ⌜ at + 4 ≤ length (now line) ⌝ }
-    ensures { λ r. ⌜ r ≡ unitAt (now (line .entry)) at ⌝ }
+    ensures { λ r. ⌜ r ≡ hexUnitAt (now (line .entry)) at ⌝ }
 {
     256 * (byte_at(line, at) as u16) + (byte_at(line, at + 2) as u16)
 }

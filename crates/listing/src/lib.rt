@@ -15,7 +15,7 @@ mod sets;
 
 ghost use mathlib.Core.Path.{_≡_};
 ghost use Rattle.listing.specs.Order.{nothingRead};
-ghost use Rattle.listing.specs.Tables.{listingNumber, tables, fit, reading, readOf, endOf};
+ghost use Rattle.listing.specs.Tables.{listingNumber, tables, tablesFit, readingAs, lineReading, listingEnd};
 use codepage::Numbers;
 
 // 128 bytes as bits.
@@ -128,7 +128,7 @@ fn has_room(
     index: &[u8],
     blocks: &[u16],
 ) -> bool
-    ensures { λ r. ⌜ r ≡ fit needed (tables (now (classes .entry)) (now (singles .entry)) (now (pairs .entry)) (now (index .entry)) (now (blocks .entry))) ⌝ }
+    ensures { λ r. ⌜ r ≡ tablesFit needed (tables (now (classes .entry)) (now (singles .entry)) (now (pairs .entry)) (now (index .entry)) (now (blocks .entry))) ⌝ }
 {
     if classes.len() < needed.classes {
         return false;
@@ -155,7 +155,7 @@ pub fn read_line(
     index: &mut [u8],
     blocks: &mut [u16],
 ) -> Read
-    ensures { λ r. ⌜ reading r (tables (now (classes .exit)) (now (singles .exit)) (now (pairs .exit)) (now (index .exit)) (now (blocks .exit))) ≡ readOf progress (now (line .entry)) (tables (now (classes .entry)) (now (singles .entry)) (now (pairs .entry)) (now (index .entry)) (now (blocks .entry))) ⌝ }
+    ensures { λ r. ⌜ readingAs r (tables (now (classes .exit)) (now (singles .exit)) (now (pairs .exit)) (now (index .exit)) (now (blocks .exit))) ≡ lineReading progress (now (line .entry)) (tables (now (classes .entry)) (now (singles .entry)) (now (pairs .entry)) (now (index .entry)) (now (blocks .entry))) ⌝ }
 {
     let item = form::record_of(line);
     if !order::is_accepted(progress, item) {
@@ -178,7 +178,7 @@ pub fn read_line(
 
 // The end of a listing.
 pub fn end(progress: Progress) -> Ended
-    ensures { λ r. ⌜ r ≡ endOf progress ⌝ }
+    ensures { λ r. ⌜ r ≡ listingEnd progress ⌝ }
 {
     let letter = progress.letter;
     if order::rank_of(letter) < 2 {

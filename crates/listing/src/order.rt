@@ -1,7 +1,7 @@
 // The order of the records, and what has been read of a listing.
 ghost use mathlib.Core.Path.{_≡_};
 ghost use Prim.Native.Nat.{ℕ, _+_, _≤_, _<_};
-ghost use Rattle.listing.specs.Order.{rank, follows, isListedLead, accepts, isNewHigh, codeBlock, withLead, afterPage, after, blockCount, sizesOf, kindOf, classOf};
+ghost use Rattle.listing.specs.Order.{rank, follows, isListedLead, accepts, isNewHigh, codeBlock, withLead, afterPage, afterRecord, blocksListed, sizesListed, kindOf, classOf};
 use crate::Bytes;
 use crate::Half;
 use crate::Letter;
@@ -164,7 +164,7 @@ pub fn after_page(page: u16) -> Progress
 
 // What has been read once a record is accepted.
 pub fn after_record(progress: Progress, item: Record) -> Progress
-    ensures { λ r. ⌜ r ≡ after progress item ⌝ }
+    ensures { λ r. ⌜ r ≡ afterRecord progress item ⌝ }
 {
     let singles = progress.singles;
     let leads = progress.leads;
@@ -237,7 +237,7 @@ pub fn after_record(progress: Progress, item: Record) -> Progress
 
 // How many blocks are needed.
 fn block_count(progress: Progress) -> usize
-    ensures { λ r. ⌜ (r ≡ blockCount progress) × (r ≤ 256) ⌝ }
+    ensures { λ r. ⌜ (r ≡ blocksListed progress) × (r ≤ 256) ⌝ }
 {
     let letter = progress.letter;
     let block = progress.block as usize;
@@ -252,7 +252,7 @@ fn block_count(progress: Progress) -> usize
 
 // The sizes that the tables need, at the place reached.
 pub fn sizes_needed(progress: Progress) -> Sizes
-    ensures { λ r. ⌜ r ≡ sizesOf progress ⌝ }
+    ensures { λ r. ⌜ r ≡ sizesListed progress ⌝ }
 {
     let leads = progress.leads;
     Sizes {

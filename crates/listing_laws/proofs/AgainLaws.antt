@@ -22,9 +22,9 @@ use Rattle.listing.specs.declared.Record.{Record}
 use Rattle.listing.specs.declared.Record.the-variants.{Page, Defaults, Single, Lead, Trail, Pair, Code, NoRecord}
 use Rattle.listing.specs.Sets.{countHalf}
 use Rattle.listing.specs.Form.{recordOf}
-use Rattle.listing.specs.Order.{nothingRead, rank, accepts, afterPage, after, sizesOf, blockCount}
-use Rattle.listing.specs.Steps.{Fits, Ready}
-use Rattle.listing.specs.Tables.{Tables, Reading, reading, filled, leadBlock, changeOf, fit, readOf, endOf}
+use Rattle.listing.specs.Order.{nothingRead, rank, accepts, afterPage, afterRecord, sizesListed, blocksListed}
+use Rattle.listing.specs.Steps.{Fits, RecordReady}
+use Rattle.listing.specs.Tables.{Tables, Reading, readingAs, filled, leadBlock, changeOf, tablesFit, lineReading, listingEnd}
 use Rattle.listing.specs.Whole.{readAll, thenRead}
 use Rattle.listing.proofs.ChangeLaws.{fit-known, code-room}
 use Rattle.lister.specs.Lines.{recordLine}
@@ -104,12 +104,12 @@ first-two p q e f g zero h = ap Page e
 first-two p q e f g (suc zero) h = ap₂ Defaults f g
 first-two p q e f g (suc (suc i)) h = absurd (omega arith)
 
-module _ (s : Progress) (t : Tables) (lines : List (List ℕ)) (told : Told s t lines) (r : Record) (put : Put s t r) (is : isRecord r ≡ true) (small : placeOf r < 131842) (same : after s r .numbers ≡ s .numbers) where
+module _ (s : Progress) (t : Tables) (lines : List (List ℕ)) (told : Told s t lines) (r : Record) (put : Put s t r) (is : isRecord r ≡ true) (small : placeOf r < 131842) (same : afterRecord s r .numbers ≡ s .numbers) where
   abbrev p₀ : CodePage
   p₀ = setOf s t
 
   abbrev p₁ : CodePage
-  p₁ = setOf (after s r) (changeOf s r t)
+  p₁ = setOf (afterRecord s r) (changeOf s r t)
 
   -- the lines before its place are as they were
   told-before : (last : ℕ) → last ≡ placeOf r → linesFrom p₁ last 0 ≡ lines
@@ -137,32 +137,32 @@ module _ (s : Progress) (t : Tables) (lines : List (List ℕ)) (told : Told s t 
 -- ---- one more record
 module _ (s : Progress) (t : Tables) (lines : List (List ℕ)) (told : Told s t lines) (kept : Kept s t) where
   long : 256 ≤ length (t .classes)
-  unfolding sizesOf
+  unfolding sizesListed
   long = kept .fits .classes-fit
 
   wide-singles : 256 ≤ length (t .singles)
-  unfolding sizesOf
+  unfolding sizesListed
   wide-singles = kept .fits .singles-fit
 
   wide-index : 256 ≤ length (t .index)
-  unfolding sizesOf
+  unfolding sizesListed
   wide-index = kept .fits .index-fit
 
-  held-after : (r : Record) → Bounded r → accepts s r ≡ true → Holds (after s r) (changeOf s r t)
+  held-after : (r : Record) → Bounded r → accepts s r ≡ true → Holds (afterRecord s r) (changeOf s r t)
   held-after r bound e = hold-record s t (λ h. kept) r bound e long wide-index
 
-  pairs-room : Fits (sizesOf s) (t .classes) (t .singles) (t .pairs) (t .index) (t .blocks) → 256 * countHalf (s .leads) ≤ length (t .pairs)
-  unfolding sizesOf
+  pairs-room : Fits (sizesListed s) (t .classes) (t .singles) (t .pairs) (t .index) (t .blocks) → 256 * countHalf (s .leads) ≤ length (t .pairs)
+  unfolding sizesListed
   pairs-room f = f .pairs-fit
 
-  lead-room : (byte : ℕ) → Fits (sizesOf (after s (Lead byte))) (t .classes) (t .singles) (t .pairs) (t .index) (t .blocks) → 256 * countHalf (after s (Lead byte) .leads) ≤ length (t .pairs)
-  unfolding sizesOf
+  lead-room : (byte : ℕ) → Fits (sizesListed (afterRecord s (Lead byte))) (t .classes) (t .singles) (t .pairs) (t .index) (t .blocks) → 256 * countHalf (afterRecord s (Lead byte) .leads) ≤ length (t .pairs)
+  unfolding sizesListed
   lead-room byte f = f .pairs-fit
 
   st : Standing s t
   st = told .standing
 
-  told-record : (r : Record) → Bounded r → RightSome r → accepts s r ≡ true → Fits (sizesOf (after s r)) (t .classes) (t .singles) (t .pairs) (t .index) (t .blocks) → Told (after s r) (changeOf s r t) (lines ++ (recordLine r ∷ []))
+  told-record : (r : Record) → Bounded r → RightSome r → accepts s r ≡ true → Fits (sizesListed (afterRecord s r)) (t .classes) (t .singles) (t .pairs) (t .index) (t .blocks) → Told (afterRecord s r) (changeOf s r t) (lines ++ (recordLine r ∷ []))
   unfolding leadBlock
   told-record (Page page) bound right e roomy = absurd (omega (arith, st .late, eqb-true (rank (s .letter)) 0 e))
   told-record (Defaults byte unit) bound right e roomy = absurd (omega (arith, st .late, eqb-true (rank (s .letter)) 1 e))
@@ -216,7 +216,7 @@ module _ (s : Progress) (t : Tables) (lines : List (List ℕ)) (told : Told s t 
         are = told-lines s t lines told (Pair code unit) put refl (omega (arith, right .0)) refl (770 + code) refl;
       }
   told-record (Code unit code) bound right e roomy =
-      let ready : Ready s (after s (Code unit code)) (Code unit code) (t .classes) (t .singles) (t .pairs) (t .index) (t .blocks) = record { accepted = e; next = refl; fits = roomy } in
+      let ready : RecordReady s (afterRecord s (Code unit code)) (Code unit code) (t .classes) (t .singles) (t .pairs) (t .index) (t .blocks) = record { accepted = e; next = refl; fits = roomy } in
       let changed : CodePut s t unit code = code-put s t (kept .numbers) unit code bound e wide-index (code-room ready unit code refl) in
       let put : Put s t (Code unit code) = put-code s t (kept .holds) st long unit code bound right e (changed .one) in
       record {
@@ -272,7 +272,7 @@ record AfterPage (s : Progress) (t : Tables) (lines : List (List ℕ)) : Type 0 
   emptied : Emptied t
   line : lines ≡ recordLine (Page page) ∷ []
 
-told-defaults : (page byte unit : ℕ) (t : Tables) → Emptied t → Told (after (afterPage page) (Defaults byte unit)) t (recordLine (Page page) ∷ recordLine (Defaults byte unit) ∷ [])
+told-defaults : (page byte unit : ℕ) (t : Tables) → Emptied t → Told (afterRecord (afterPage page) (Defaults byte unit)) t (recordLine (Page page) ∷ recordLine (Defaults byte unit) ∷ [])
 unfolding linesFrom recordAt
 told-defaults page byte unit t e =
     record {
@@ -280,7 +280,7 @@ told-defaults page byte unit t e =
           record {
             late = omega arith;
             key = tt;
-            behind = λ k h l m. emptied-none (after (afterPage page) (Defaults byte unit)) t e k l m;
+            behind = λ k h l m. emptied-none (afterRecord (afterPage page) (Defaults byte unit)) t e k l m;
             empty = λ h l c x y listed. absurd (true≢false (sym listed ∙ lead-none l));
           };
       are = refl;
@@ -297,20 +297,20 @@ from-told s t lines x = record { none = λ e. absurd (omega (arith, x .standing 
 
 module _ (s : Progress) (t : Tables) (lines : List (List ℕ)) (a : Again s t lines) (sound : Sound s t) where
   abbrev Fitting : Record → Type 0
-  Fitting r = Fits (sizesOf (after s r)) (t .classes) (t .singles) (t .pairs) (t .index) (t .blocks)
+  Fitting r = Fits (sizesListed (afterRecord s r)) (t .classes) (t .singles) (t .pairs) (t .index) (t .blocks)
 
-  again-late : (r : Record) → Bounded r → RightSome r → accepts s r ≡ true → Fitting r → 2 ≤ rank (s .letter) → Again (after s r) (changeOf s r t) (lines ++ (recordLine r ∷ []))
-  again-late r bound right e roomy late = from-told (after s r) (changeOf s r t) (lines ++ (recordLine r ∷ [])) (told-record s t lines (a .told late) (sound (omega arith)) r bound right e roomy)
+  again-late : (r : Record) → Bounded r → RightSome r → accepts s r ≡ true → Fitting r → 2 ≤ rank (s .letter) → Again (afterRecord s r) (changeOf s r t) (lines ++ (recordLine r ∷ []))
+  again-late r bound right e roomy late = from-told (afterRecord s r) (changeOf s r t) (lines ++ (recordLine r ∷ [])) (told-record s t lines (a .told late) (sound (omega arith)) r bound right e roomy)
 
   one-block : (page : ℕ) → Fitting (Page page) → (256 ≤ length (t .classes)) × (256 ≤ length (t .index)) × (256 ≤ length (t .blocks))
-  unfolding sizesOf blockCount
+  unfolding sizesListed blocksListed
   one-block page f = (f .classes-fit, f .index-fit, f .blocks-fit)
 
-  again-defaults : (byte unit : ℕ) → AfterPage s t lines → Again (after s (Defaults byte unit)) t (lines ++ (recordLine (Defaults byte unit) ∷ []))
+  again-defaults : (byte unit : ℕ) → AfterPage s t lines → Again (afterRecord s (Defaults byte unit)) t (lines ++ (recordLine (Defaults byte unit) ∷ []))
   again-defaults byte unit x =
-      subst (λ (n : Progress). Again (after n (Defaults byte unit)) t (lines ++ (recordLine (Defaults byte unit) ∷ []))) (sym (x .is))
-      (subst (λ (l : List (List ℕ)). Again (after (afterPage (x .page)) (Defaults byte unit)) t (l ++ (recordLine (Defaults byte unit) ∷ []))) (sym (x .line))
-      (from-told (after (afterPage (x .page)) (Defaults byte unit)) t (recordLine (Page (x .page)) ∷ recordLine (Defaults byte unit) ∷ []) (told-defaults (x .page) byte unit t (x .emptied))))
+      subst (λ (n : Progress). Again (afterRecord n (Defaults byte unit)) t (lines ++ (recordLine (Defaults byte unit) ∷ []))) (sym (x .is))
+      (subst (λ (l : List (List ℕ)). Again (afterRecord (afterPage (x .page)) (Defaults byte unit)) t (l ++ (recordLine (Defaults byte unit) ∷ []))) (sym (x .line))
+      (from-told (afterRecord (afterPage (x .page)) (Defaults byte unit)) t (recordLine (Page (x .page)) ∷ recordLine (Defaults byte unit) ∷ []) (told-defaults (x .page) byte unit t (x .emptied))))
 
   again-page : (page : ℕ) → rank (s .letter) ≡ 0 → Fitting (Page page) → Again (afterPage page) (changeOf s (Page page) t) (lines ++ (recordLine (Page page) ∷ []))
   again-page page zero-rank roomy =
@@ -326,7 +326,7 @@ module _ (s : Progress) (t : Tables) (lines : List (List ℕ)) (a : Again s t li
         told = λ h. absurd (omega arith);
       }
 
-  again-record : (r : Record) → Bounded r → RightSome r → accepts s r ≡ true → Fitting r → Again (after s r) (changeOf s r t) (lines ++ (recordLine r ∷ []))
+  again-record : (r : Record) → Bounded r → RightSome r → accepts s r ≡ true → Fitting r → Again (afterRecord s r) (changeOf s r t) (lines ++ (recordLine r ∷ []))
   again-record (Page page) bound right e roomy = again-page page (eqb-true (rank (s .letter)) 0 e) roomy
   again-record (Defaults byte unit) bound right e roomy = again-defaults byte unit (a .first (eqb-true (rank (s .letter)) 1 e))
   again-record (Single byte unit) bound right e roomy = again-late (Single byte unit) bound right e roomy (follows-late s S byte e)
@@ -347,67 +347,67 @@ module _ (s : Progress) (t : Tables) (lines : List (List ℕ)) (a : Again s t li
   accepted-is NoRecord e = absurd (false≢true e)
 
   -- a line that is accepted
-  again-line : (line : List ℕ) (u : Progress) → readOf s line t .answer ≡ Accepted u → Again u (readOf s line t .lent) (lines ++ (line ∷ []))
+  again-line : (line : List ℕ) (u : Progress) → lineReading s line t .answer ≡ Accepted u → Again u (lineReading s line t .lent) (lines ++ (line ∷ []))
   again-line line u e =
       subst (λ (v : Tables). Again u v (lines ++ (line ∷ []))) (sym (ap (λ (r : Reading). r .lent) (read-passes s line t passes)))
       (subst (λ (n : Progress). Again n (changeOf s r t) (lines ++ (line ∷ []))) (sym is)
-      (subst (λ (l : List ℕ). Again (after s r) (changeOf s r t) (lines ++ (l ∷ []))) (line-back line (accepted-is r (passes .0)))
-      (again-record r (bounded line) (right-some line) (passes .0) (fit-known (sizesOf (after s r)) (t .classes) (t .singles) (t .pairs) (t .index) (t .blocks) (passes .1)))))
+      (subst (λ (l : List ℕ). Again (afterRecord s r) (changeOf s r t) (lines ++ (l ∷ []))) (line-back line (accepted-is r (passes .0)))
+      (again-record r (bounded line) (right-some line) (passes .0) (fit-known (sizesListed (afterRecord s r)) (t .classes) (t .singles) (t .pairs) (t .index) (t .blocks) (passes .1)))))
     where
       r : Record
       r = recordOf line
 
-      passes : (accepts s (recordOf line) ≡ true) × (fit (sizesOf (after s (recordOf line))) t ≡ true)
+      passes : (accepts s (recordOf line) ≡ true) × (tablesFit (sizesListed (afterRecord s (recordOf line))) t ≡ true)
       passes = read-accepted-exact s line t u .0 e .0
 
-      is : u ≡ after s (recordOf line)
+      is : u ≡ afterRecord s (recordOf line)
       is = read-accepted-exact s line t u .0 e .1
 
 -- ---- all lines
-again-all : (more : List (List ℕ)) (s : Progress) (t : Tables) (lines : List (List ℕ)) → Again s t lines → Sound s t → (s′ : Progress) (t′ : Tables) → readAll s more t ≡ reading (Accepted s′) t′ → Again s′ t′ (lines ++ more)
+again-all : (more : List (List ℕ)) (s : Progress) (t : Tables) (lines : List (List ℕ)) → Again s t lines → Sound s t → (s′ : Progress) (t′ : Tables) → readAll s more t ≡ readingAs (Accepted s′) t′ → Again s′ t′ (lines ++ more)
 unfolding readAll
 again-all [] s t lines a sound s′ t′ e =
     subst (λ (l : List (List ℕ)). Again s′ t′ l) (sym (append-nil lines))
     (subst (λ (v : Tables). Again s′ v lines) (reading-same e .1) (subst (λ (n : Progress). Again n t lines) (accepted-same (reading-same e .0)) a))
 again-all (line ∷ more) s t lines a sound s′ t′ e =
     subst (λ (l : List (List ℕ)). Again s′ t′ l) (append-assoc lines (line ∷ []) more)
-    (by-answer (λ u k. again-all more u (readOf s line t .lent) (lines ++ (line ∷ [])) (again-line s t lines a sound line u k) (step s t sound line u k) s′ t′) (readOf s line t .answer) refl e)
+    (by-answer (λ u k. again-all more u (lineReading s line t .lent) (lines ++ (line ∷ [])) (again-line s t lines a sound line u k) (step s t sound line u k) s′ t′) (lineReading s line t .answer) refl e)
   where
-    by-answer : ((u : Progress) → readOf s line t .answer ≡ Accepted u → readAll u more (readOf s line t .lent) ≡ reading (Accepted s′) t′ → Again s′ t′ ((lines ++ (line ∷ [])) ++ more))
-        → (x : Read) → readOf s line t .answer ≡ x → thenRead x (readOf s line t .lent) (λ n v. readAll n more v) ≡ reading (Accepted s′) t′ → Again s′ t′ ((lines ++ (line ∷ [])) ++ more)
+    by-answer : ((u : Progress) → lineReading s line t .answer ≡ Accepted u → readAll u more (lineReading s line t .lent) ≡ readingAs (Accepted s′) t′ → Again s′ t′ ((lines ++ (line ∷ [])) ++ more))
+        → (x : Read) → lineReading s line t .answer ≡ x → thenRead x (lineReading s line t .lent) (λ n v. readAll n more v) ≡ readingAs (Accepted s′) t′ → Again s′ t′ ((lines ++ (line ∷ [])) ++ more)
     by-answer go (Accepted u) q k = go u q k
     by-answer go (Refused why) q k = absurd (refused-not (reading-same k .0))
 
 -- ---- the table set, each table cut to the size needed, has the same records
 module _ (s : Progress) (t : Tables) (kept : Kept s t) where
   abbrev cut : CodePage
-  cut = cutSet (s .numbers) (sizesOf s) t
+  cut = cutSet (s .numbers) (sizesListed s) t
 
   cut-good : GoodShape cut
   cut-good = good-shape s t kept
 
   cut-class : (c : ℕ) → c < 256 → entryAt (cut .classes) c ≡ entryAt (t .classes) c
-  unfolding cutSet sizesOf
+  unfolding cutSet sizesListed
   cut-class c h = getD-take 256 (t .classes) c 0 h
 
   cut-single : (c : ℕ) → c < 256 → entryAt (cut .singles) c ≡ entryAt (t .singles) c
-  unfolding cutSet sizesOf
+  unfolding cutSet sizesListed
   cut-single c h = getD-take 256 (t .singles) c 0 h
 
   cut-index : (c : ℕ) → c < 256 → entryAt (cut .index) c ≡ entryAt (t .index) c
-  unfolding cutSet sizesOf
+  unfolding cutSet sizesListed
   cut-index c h = getD-take 256 (t .index) c 0 h
 
   cut-pair : (i : ℕ) → i < length (cut .pairs) → entryAt (cut .pairs) i ≡ entryAt (t .pairs) i
-  unfolding cutSet sizesOf
-  cut-pair i h = getD-take (sizesOf s .pairs) (t .pairs) i 0 (omega (arith, length-take-le (sizesOf s .pairs) (t .pairs) (kept .fits .pairs-fit)))
+  unfolding cutSet sizesListed
+  cut-pair i h = getD-take (sizesListed s .pairs) (t .pairs) i 0 (omega (arith, length-take-le (sizesListed s .pairs) (t .pairs) (kept .fits .pairs-fit)))
 
   cut-block : (i : ℕ) → i < length (cut .blocks) → entryAt (cut .blocks) i ≡ entryAt (t .blocks) i
-  unfolding cutSet sizesOf
-  cut-block i h = getD-take (sizesOf s .blocks) (t .blocks) i 0 (omega (arith, length-take-le (sizesOf s .blocks) (t .blocks) (kept .fits .blocks-fit)))
+  unfolding cutSet sizesListed
+  cut-block i h = getD-take (sizesListed s .blocks) (t .blocks) i 0 (omega (arith, length-take-le (sizesListed s .blocks) (t .blocks) (kept .fits .blocks-fit)))
 
   long-classes : 256 ≤ length (t .classes)
-  unfolding sizesOf
+  unfolding sizesListed
   long-classes = kept .fits .classes-fit
 
   cut-below : (l : ℕ) → l < 256 → leadsBelow (cut .classes) l ≡ leadsBelow (t .classes) l
@@ -467,7 +467,7 @@ all-count = (131842, refl)
 
 -- A whole listing that is accepted from its first line to its end, written again, is the same lines.
 pub listing-again : (lines : List (List ℕ)) (t : Tables) (s′ : Progress) (t′ : Tables) (numbers : Numbers) (sizes : Sizes)
-    → readAll nothingRead lines t ≡ reading (Accepted s′) t′ → endOf s′ ≡ ended.Whole numbers sizes → wholeListing (cutSet numbers sizes t′) ≡ lines
+    → readAll nothingRead lines t ≡ readingAs (Accepted s′) t′ → listingEnd s′ ≡ ended.Whole numbers sizes → wholeListing (cutSet numbers sizes t′) ≡ lines
 unfolding wholeListing
 listing-again lines t s′ t′ numbers sizes e f =
     sym (ap (λ (n : ℕ). linesFrom (cutSet numbers sizes t′) n 0) (all-count .1))
@@ -478,10 +478,10 @@ listing-again lines t s′ t′ numbers sizes e f =
     again : Again s′ t′ lines
     again = again-all lines nothingRead t [] (record { none = λ x. refl; first = λ x. absurd (omega arith); told = λ x. absurd (omega arith) }) (λ h. absurd (omega arith)) s′ t′ e
 
-    ended-as : (2 ≤ rank (s′ .letter)) × ((s′ .numbers ≡ numbers) × (sizesOf s′ ≡ sizes))
+    ended-as : (2 ≤ rank (s′ .letter)) × ((s′ .numbers ≡ numbers) × (sizesListed s′ ≡ sizes))
     ended-as = end-whole s′ numbers sizes f
 
-    same : (s′ .numbers ≡ numbers) × (sizesOf s′ ≡ sizes)
+    same : (s′ .numbers ≡ numbers) × (sizesListed s′ ≡ sizes)
     same = ended-as .1
 
     told : Told s′ t′ lines

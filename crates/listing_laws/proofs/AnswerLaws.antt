@@ -18,26 +18,26 @@ use Rattle.listing.specs.declared.Refusal.the-variants.{BadLine, TooSmall}
 use Rattle.listing.specs.declared.Read.the-variants.{Accepted, Refused}
 use Rattle.listing.specs.declared.Ended.the-variants as ended
 use Rattle.listing.specs.Form.{recordOf}
-use Rattle.listing.specs.Order.{rank, accepts, after, sizesOf}
-use Rattle.listing.specs.Tables.{Tables, Reading, reading, changeOf, fit, readRecord, readOf, endOf}
+use Rattle.listing.specs.Order.{rank, accepts, afterRecord, sizesListed}
+use Rattle.listing.specs.Tables.{Tables, Reading, readingAs, changeOf, tablesFit, readRecord, lineReading, listingEnd}
 use Rattle.lister.specs.declared.Cursor.{Cursor}
 use Rattle.lister.specs.declared.Refusal.{Refusal as WriterRefusal}
 use Rattle.lister.specs.declared.Refusal.the-variants.{BadShape, NoRoom}
 use Rattle.lister.specs.declared.Listed.the-variants as listed
 use Rattle.lister.specs.Lines.{recordLine}
-use Rattle.lister.specs.Lister.{places, recordAt, nextPlace, NextLine, unwritten, listRecord, listOf}
+use Rattle.lister.specs.Lister.{places, recordAt, nextPlace, NextLine, noLine, listRecord, listOf}
 use Rattle.listing_laws.specs.Claims.{ReadSays, ReadPasses, IsLeft, WriteSays}
 
 -- ---- the reader
 module _ (s : Progress) (line : List ℕ) (t : Tables) where
   -- a refused line: its answer, and the tables as they were
-  pub read-says : (why : Refusal) → ReadSays s line t why → readOf s line t ≡ reading (Refused why) t
-  unfolding readOf readRecord
+  pub read-says : (why : Refusal) → ReadSays s line t why → lineReading s line t ≡ readingAs (Refused why) t
+  unfolding lineReading readRecord
   read-says BadLine e = rw e
   read-says TooSmall (e, f) = rw (e, f)
 
-  pub read-passes : ReadPasses s line t → readOf s line t ≡ reading (Accepted (after s (recordOf line))) (changeOf s (recordOf line) t)
-  unfolding readOf readRecord
+  pub read-passes : ReadPasses s line t → lineReading s line t ≡ readingAs (Accepted (afterRecord s (recordOf line))) (changeOf s (recordOf line) t)
+  unfolding lineReading readRecord
   read-passes (e, f) = rw (e, f)
 
   refused-as : {a b : Refusal} → Refused a ≡ Refused b → a ≡ b
@@ -48,54 +48,54 @@ module _ (s : Progress) (line : List ℕ) (t : Tables) where
 
   -- one of the three answers, with its case
   Answers : Type 0
-  Answers = ((why : Refusal) × (readOf s line t .answer ≡ Refused why) × ReadSays s line t why) ⊎ ((readOf s line t .answer ≡ Accepted (after s (recordOf line))) × ReadPasses s line t)
+  Answers = ((why : Refusal) × (lineReading s line t .answer ≡ Refused why) × ReadSays s line t why) ⊎ ((lineReading s line t .answer ≡ Accepted (afterRecord s (recordOf line))) × ReadPasses s line t)
 
   answers : Answers
   unfolding Answers
-  answers = by-tests (accepts s (recordOf line)) refl (fit (sizesOf (after s (recordOf line))) t) refl
+  answers = by-tests (accepts s (recordOf line)) refl (tablesFit (sizesListed (afterRecord s (recordOf line))) t) refl
     where
-      by-tests : (a : Bool) → accepts s (recordOf line) ≡ a → (b : Bool) → fit (sizesOf (after s (recordOf line))) t ≡ b
-          → ((why : Refusal) × (readOf s line t .answer ≡ Refused why) × ReadSays s line t why) ⊎ ((readOf s line t .answer ≡ Accepted (after s (recordOf line))) × ReadPasses s line t)
+      by-tests : (a : Bool) → accepts s (recordOf line) ≡ a → (b : Bool) → tablesFit (sizesListed (afterRecord s (recordOf line))) t ≡ b
+          → ((why : Refusal) × (lineReading s line t .answer ≡ Refused why) × ReadSays s line t why) ⊎ ((lineReading s line t .answer ≡ Accepted (afterRecord s (recordOf line))) × ReadPasses s line t)
       by-tests false q b w = inl (BadLine, ap (λ (r : Reading). r .answer) (read-says BadLine q), q)
       by-tests true q false w = inl (TooSmall, ap (λ (r : Reading). r .answer) (read-says TooSmall (q, w)), (q, w))
       by-tests true q true w = inr (ap (λ (r : Reading). r .answer) (read-passes (q, w)), (q, w))
 
   -- EACH REFUSAL exactly in its case: 22, then 23.
-  pub read-refused-exact : (why : Refusal) → (readOf s line t .answer ≡ Refused why) ↔ ReadSays s line t why
+  pub read-refused-exact : (why : Refusal) → (lineReading s line t .answer ≡ Refused why) ↔ ReadSays s line t why
   unfolding Answers
   read-refused-exact why = (λ e. by e answers, λ c. ap (λ (r : Reading). r .answer) (read-says why c))
     where
-      by : readOf s line t .answer ≡ Refused why → ((x : Refusal) × (readOf s line t .answer ≡ Refused x) × ReadSays s line t x) ⊎ ((readOf s line t .answer ≡ Accepted (after s (recordOf line))) × ReadPasses s line t) → ReadSays s line t why
+      by : lineReading s line t .answer ≡ Refused why → ((x : Refusal) × (lineReading s line t .answer ≡ Refused x) × ReadSays s line t x) ⊎ ((lineReading s line t .answer ≡ Accepted (afterRecord s (recordOf line))) × ReadPasses s line t) → ReadSays s line t why
       by e (inl (x, f, c)) = subst (ReadSays s line t) (refused-as (sym f ∙ e)) c
       by e (inr (f, c)) = absurd (apart (sym e ∙ f))
 
   -- ACCEPTED exactly if neither refusal is the case; then the record is what changes the tables.
-  pub read-accepted-exact : (u : Progress) → (readOf s line t .answer ≡ Accepted u) ↔ (ReadPasses s line t × (u ≡ after s (recordOf line)))
+  pub read-accepted-exact : (u : Progress) → (lineReading s line t .answer ≡ Accepted u) ↔ (ReadPasses s line t × (u ≡ afterRecord s (recordOf line)))
   unfolding Answers
   read-accepted-exact u = (λ e. by e answers, λ c. ap (λ (r : Reading). r .answer) (read-passes (c .0)) ∙ ap Accepted (sym (c .1)))
     where
       accepted-as : {a b : Progress} → Accepted a ≡ Accepted b → a ≡ b
       accepted-as e = cc
 
-      by : readOf s line t .answer ≡ Accepted u → ((x : Refusal) × (readOf s line t .answer ≡ Refused x) × ReadSays s line t x) ⊎ ((readOf s line t .answer ≡ Accepted (after s (recordOf line))) × ReadPasses s line t)
-          → ReadPasses s line t × (u ≡ after s (recordOf line))
+      by : lineReading s line t .answer ≡ Accepted u → ((x : Refusal) × (lineReading s line t .answer ≡ Refused x) × ReadSays s line t x) ⊎ ((lineReading s line t .answer ≡ Accepted (afterRecord s (recordOf line))) × ReadPasses s line t)
+          → ReadPasses s line t × (u ≡ afterRecord s (recordOf line))
       by e (inl (x, f, c)) = absurd (apart (sym f ∙ e))
       by e (inr (f, c)) = (c, accepted-as (sym e ∙ f))
 
   -- A REFUSED LINE leaves the tables as before it.
-  pub refused-unchanged : (why : Refusal) → readOf s line t .answer ≡ Refused why → readOf s line t .lent ≡ t
+  pub refused-unchanged : (why : Refusal) → lineReading s line t .answer ≡ Refused why → lineReading s line t .lent ≡ t
   refused-unchanged why e = ap (λ (r : Reading). r .lent) (read-says why (read-refused-exact why .0 e))
 
 -- THE END is refused, by 22, exactly if `P` and `D` were not both read.
-pub end-refused-exact : (s : Progress) → (endOf s ≡ ended.Refused BadLine) ↔ (rank (s .letter) < 2)
-unfolding endOf
+pub end-refused-exact : (s : Progress) → (listingEnd s ≡ ended.Refused BadLine) ↔ (rank (s .letter) < 2)
+unfolding listingEnd
 end-refused-exact s = (λ e. by-rank (leb 2 (rank (s .letter))) refl e, λ h. rw (lt-leb 2 (rank (s .letter)) h))
   where
     whole-not : {n : Numbers} {z : Sizes} → ended.Whole n z ≡ ended.Refused BadLine → ⊥
     whole-not {n} {z} e = let x : _≡_ {A = ℕ} 0 1 = cc in omega arith
 
-    by-rank : (b : Bool) → leb 2 (rank (s .letter)) ≡ b → endOf s ≡ ended.Refused BadLine → rank (s .letter) < 2
-    by-rank true q e = absurd (whole-not {n = s .numbers} {z = sizesOf s} (sym (rw q) ∙ e))
+    by-rank : (b : Bool) → leb 2 (rank (s .letter)) ≡ b → listingEnd s ≡ ended.Refused BadLine → rank (s .letter) < 2
+    by-rank true q e = absurd (whole-not {n = s .numbers} {z = sizesListed s} (sym (rw q) ∙ e))
     by-rank false q e = leb-false 2 (rank (s .letter)) q
 
 -- ---- the writer
@@ -103,17 +103,17 @@ module _ (p : CodePage) (cursor : Cursor) (room : ℕ) where
   abbrev next : ℕ
   next = nextPlace p (cursor .place)
 
-  write-says : (why : WriterRefusal) → WriteSays p cursor room why → listOf p cursor room ≡ unwritten (listed.Refused why)
+  write-says : (why : WriterRefusal) → WriteSays p cursor room why → listOf p cursor room ≡ noLine (listed.Refused why)
   unfolding listOf listRecord
   write-says BadShape bad = by-shape (isGood (firstFault p)) refl
     where
-      by-shape : (b : Bool) → isGood (firstFault p) ≡ b → listOf p cursor room ≡ unwritten (listed.Refused BadShape)
+      by-shape : (b : Bool) → isGood (firstFault p) ≡ b → listOf p cursor room ≡ noLine (listed.Refused BadShape)
       by-shape true q = absurd (bad (shape-exact p .0 q))
       by-shape false q = rw q
   write-says NoRoom (good, left, small) = rw (shape-exact p .1 good, lt-leb places next left, lt-ltb room (length (recordLine (recordAt p next))) small)
 
   -- done: the shape is good, and no record is left
-  write-done : GoodShape p → places ≤ next → listOf p cursor room ≡ unwritten listed.Done
+  write-done : GoodShape p → places ≤ next → listOf p cursor room ≡ noLine listed.Done
   unfolding listOf
   write-done good none = rw (shape-exact p .1 good, le-leb places next none)
 

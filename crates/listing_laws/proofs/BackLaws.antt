@@ -11,7 +11,7 @@ use Rattle.codepage.specs.CodePage.{pick, entryAt}
 use Rattle.codepage.proofs.ShapeLaws.{and-left, and-right}
 use Rattle.listing.specs.declared.Record.{Record}
 use Rattle.listing.specs.declared.Record.the-variants.{Page, Defaults, Single, Lead, Trail, Pair, Code, NoRecord}
-use Rattle.listing.specs.Form.{isDigit, isCapital, digit, byteAt, unitAt, decimalAt, fits, hasForm, digitsForm, pageForm, codeForm, pairForm, singleForm, bareForm, trailForm, leadForm, defaultsForm, unlessNone, smallPage, pageOf, recordOf}
+use Rattle.listing.specs.Form.{isDigit, isCapital, digit, hexByteAt, hexUnitAt, decimalAt, fitsSymbol, hasForm, digitsForm, pageForm, codeForm, pairForm, singleForm, bareForm, trailForm, leadForm, defaultsForm, unlessNone, smallPage, pageOf, recordOf}
 use Rattle.lister.specs.Lines.{hexByte, byteText, unitText, decimalText, pageText, singleText, line, line₂, recordLine}
 use Rattle.lister.specs.Lister.{isRecord}
 use Rattle.lister.proofs.LineLaws.{page-1, page-2, page-3, page-4, page-5}
@@ -48,8 +48,8 @@ digit-back byte q =
 abbrev symbolByte : (symbol byte : ℕ) → ℕ
 symbolByte symbol byte = pick (eqb symbol 0x23) (hexByte (digit byte)) (pick (eqb symbol 0x30) (0x30 + digit byte) (pick (eqb symbol 0x31) (0x30 + digit byte) symbol))
 
-symbol-back : (symbol byte : ℕ) → fits symbol byte ≡ true → byte ≡ symbolByte symbol byte
-unfolding fits
+symbol-back : (symbol byte : ℕ) → fitsSymbol symbol byte ≡ true → byte ≡ symbolByte symbol byte
+unfolding fitsSymbol
 symbol-back symbol byte e = by-symbol (eqb symbol 0x23) refl (eqb symbol 0x30) refl (eqb symbol 0x31) refl
   where
     by-symbol : (a : Bool) → eqb symbol 0x23 ≡ a → (b : Bool) → eqb symbol 0x30 ≡ b → (c : Bool) → eqb symbol 0x31 ≡ c → byte ≡ symbolByte symbol byte
@@ -71,54 +71,54 @@ form-back [] [] e = refl
 form-back [] (byte ∷ line) e = absurd (false≢true e)
 form-back (symbol ∷ form) [] e = absurd (false≢true e)
 form-back (symbol ∷ form) (byte ∷ line) e =
-    ap₂ (λ (b : ℕ) (l : List ℕ). b ∷ l) (symbol-back symbol byte (and-left (fits symbol byte) (hasForm form line) e)) (form-back form line (and-right (fits symbol byte) (hasForm form line) e))
+    ap₂ (λ (b : ℕ) (l : List ℕ). b ∷ l) (symbol-back symbol byte (and-left (fitsSymbol symbol byte) (hasForm form line) e)) (form-back form line (and-right (fitsSymbol symbol byte) (hasForm form line) e))
 
-fits-at : (form line : List ℕ) (i : ℕ) → hasForm form line ≡ true → i < length form → fits (entryAt form i) (entryAt line i) ≡ true
+fits-at : (form line : List ℕ) (i : ℕ) → hasForm form line ≡ true → i < length form → fitsSymbol (entryAt form i) (entryAt line i) ≡ true
 unfolding hasForm
 fits-at [] line i e h = absurd (omega arith)
 fits-at (symbol ∷ form) [] i e h = absurd (false≢true e)
-fits-at (symbol ∷ form) (byte ∷ line) zero e h = and-left (fits symbol byte) (hasForm form line) e
-fits-at (symbol ∷ form) (byte ∷ line) (suc i) e h = fits-at form line i (and-right (fits symbol byte) (hasForm form line) e) (omega arith)
+fits-at (symbol ∷ form) (byte ∷ line) zero e h = and-left (fitsSymbol symbol byte) (hasForm form line) e
+fits-at (symbol ∷ form) (byte ∷ line) (suc i) e h = fits-at form line i (and-right (fitsSymbol symbol byte) (hasForm form line) e) (omega arith)
 
 -- ---- bytes and units
-byte-back : (line : List ℕ) (place : ℕ) → byteText (byteAt line place) ≡ hexByte (digit (entryAt line place)) ∷ hexByte (digit (entryAt line (place + 1))) ∷ []
-unfolding byteAt
+byte-back : (line : List ℕ) (place : ℕ) → byteText (hexByteAt line place) ≡ hexByte (digit (entryAt line place)) ∷ hexByte (digit (entryAt line (place + 1))) ∷ []
+unfolding hexByteAt
 byte-back line place =
     let a : ℕ = digit (entryAt line place) in
     let high : (16 * digit (entryAt line place) + digit (entryAt line (place + 1))) / 16 ≡ digit (entryAt line place) = omega (arith, digit-small (entryAt line place), digit-small (entryAt line (place + 1))) in
     let low : (16 * digit (entryAt line place) + digit (entryAt line (place + 1))) % 16 ≡ digit (entryAt line (place + 1)) = omega (arith, digit-small (entryAt line place), digit-small (entryAt line (place + 1))) in
     rw (high, low)
 
-byte-under : (line : List ℕ) (place : ℕ) → byteAt line place < 256
-unfolding byteAt
+byte-under : (line : List ℕ) (place : ℕ) → hexByteAt line place < 256
+unfolding hexByteAt
 byte-under line place = omega (arith, digit-small (entryAt line place), digit-small (entryAt line (place + 1)))
 
-unit-back : (line : List ℕ) (place : ℕ) → unitText (unitAt line place) ≡ (hexByte (digit (entryAt line place)) ∷ hexByte (digit (entryAt line (place + 1))) ∷ []) ++ (hexByte (digit (entryAt line (place + 2))) ∷ hexByte (digit (entryAt line (place + 2 + 1))) ∷ [])
-unfolding unitAt
+unit-back : (line : List ℕ) (place : ℕ) → unitText (hexUnitAt line place) ≡ (hexByte (digit (entryAt line place)) ∷ hexByte (digit (entryAt line (place + 1))) ∷ []) ++ (hexByte (digit (entryAt line (place + 2))) ∷ hexByte (digit (entryAt line (place + 2 + 1))) ∷ [])
+unfolding hexUnitAt
 unit-back line place =
-    let high : (256 * byteAt line place + byteAt line (place + 2)) / 256 ≡ byteAt line place = omega (arith, byte-under line place, byte-under line (place + 2)) in
-    let low : (256 * byteAt line place + byteAt line (place + 2)) % 256 ≡ byteAt line (place + 2) = omega (arith, byte-under line place, byte-under line (place + 2)) in
+    let high : (256 * hexByteAt line place + hexByteAt line (place + 2)) / 256 ≡ hexByteAt line place = omega (arith, byte-under line place, byte-under line (place + 2)) in
+    let low : (256 * hexByteAt line place + hexByteAt line (place + 2)) % 256 ≡ hexByteAt line (place + 2) = omega (arith, byte-under line place, byte-under line (place + 2)) in
     ap₂ (λ (x y : ℕ). byteText x ++ byteText y) high low
     ∙ ap₂ (λ (x y : List ℕ). x ++ y) (byte-back line place) (byte-back line (place + 2))
 
 -- ---- each form
 module _ (text : List ℕ) where
-  lead-back : (letter : ℕ) → eqb letter 0x23 ≡ false → eqb letter 0x30 ≡ false → eqb letter 0x31 ≡ false → hasForm (letter ∷ 9 ∷ 0x23 ∷ 0x23 ∷ 10 ∷ []) text ≡ true → line letter (byteText (byteAt text 2)) ≡ text
+  lead-back : (letter : ℕ) → eqb letter 0x23 ≡ false → eqb letter 0x30 ≡ false → eqb letter 0x31 ≡ false → hasForm (letter ∷ 9 ∷ 0x23 ∷ 0x23 ∷ 10 ∷ []) text ≡ true → line letter (byteText (hexByteAt text 2)) ≡ text
   lead-back letter x y z e = ap (line letter) (byte-back text 2) ∙ sym (form-back (letter ∷ 9 ∷ 0x23 ∷ 0x23 ∷ 10 ∷ []) text e ∙ rw (x, y, z))
 
   byte-unit-back : (letter : ℕ) → eqb letter 0x23 ≡ false → eqb letter 0x30 ≡ false → eqb letter 0x31 ≡ false → hasForm (letter ∷ 9 ∷ 0x23 ∷ 0x23 ∷ 9 ∷ 0x23 ∷ 0x23 ∷ 0x23 ∷ 0x23 ∷ 10 ∷ []) text ≡ true
-      → line₂ letter (byteText (byteAt text 2)) (unitText (unitAt text 5)) ≡ text
+      → line₂ letter (byteText (hexByteAt text 2)) (unitText (hexUnitAt text 5)) ≡ text
   byte-unit-back letter x y z e =
       ap₂ (line₂ letter) (byte-back text 2) (unit-back text 5)
       ∙ sym (form-back (letter ∷ 9 ∷ 0x23 ∷ 0x23 ∷ 9 ∷ 0x23 ∷ 0x23 ∷ 0x23 ∷ 0x23 ∷ 10 ∷ []) text e ∙ rw (x, y, z))
 
   units-back : (letter : ℕ) → eqb letter 0x23 ≡ false → eqb letter 0x30 ≡ false → eqb letter 0x31 ≡ false → hasForm (letter ∷ 9 ∷ 0x23 ∷ 0x23 ∷ 0x23 ∷ 0x23 ∷ 9 ∷ 0x23 ∷ 0x23 ∷ 0x23 ∷ 0x23 ∷ 10 ∷ []) text ≡ true
-      → line₂ letter (unitText (unitAt text 2)) (unitText (unitAt text 7)) ≡ text
+      → line₂ letter (unitText (hexUnitAt text 2)) (unitText (hexUnitAt text 7)) ≡ text
   units-back letter x y z e =
       ap₂ (line₂ letter) (unit-back text 2) (unit-back text 7)
       ∙ sym (form-back (letter ∷ 9 ∷ 0x23 ∷ 0x23 ∷ 0x23 ∷ 0x23 ∷ 9 ∷ 0x23 ∷ 0x23 ∷ 0x23 ∷ 0x23 ∷ 10 ∷ []) text e ∙ rw (x, y, z))
 
-  bare-back : hasForm bareForm text ≡ true → line₂ 0x53 (byteText (byteAt text 2)) (singleText 0xFFFF) ≡ text
+  bare-back : hasForm bareForm text ≡ true → line₂ 0x53 (byteText (hexByteAt text 2)) (singleText 0xFFFF) ≡ text
   unfolding singleText
   bare-back e = ap (λ (x : List ℕ). line₂ 0x53 x (0x2D ∷ [])) (byte-back text 2) ∙ sym (form-back bareForm text e)
 
@@ -141,9 +141,9 @@ decimal-back (suc count) line place small =
 module _ (text : List ℕ) where
   -- the digits of a page's line
   first-of : (more : ℕ) → hasForm (pageForm more) text ≡ true → (1 ≤ digit (entryAt text 2)) × (digit (entryAt text 2) < 10)
-  unfolding fits
+  unfolding fitsSymbol
   first-of more e =
-      let known : fits 0x31 (entryAt text 2) ≡ true = fits-at (pageForm more) text 2 e (omega arith) in
+      let known : fitsSymbol 0x31 (entryAt text 2) ≡ true = fits-at (pageForm more) text 2 e (omega arith) in
       (first-digit (entryAt text 2) known, digit-back (entryAt text 2) (and-left (isDigit (entryAt text 2)) (not (eqb (entryAt text 2) 0x30)) known) .1)
 
   more-digits : (more i : ℕ) → i < more → entryAt (digitsForm more) i ≡ 0x30
@@ -155,16 +155,16 @@ module _ (text : List ℕ) where
   more-length zero = refl
   more-length (suc more) = let e : length (digitsForm more) ≡ more + 1 = more-length more in omega arith
 
-  as-digit : (j k : ℕ) → j ≡ k → fits 0x30 (entryAt text j) ≡ true → digit (entryAt text k) < 10
-  unfolding fits
+  as-digit : (j k : ℕ) → j ≡ k → fitsSymbol 0x30 (entryAt text j) ≡ true → digit (entryAt text k) < 10
+  unfolding fitsSymbol
   as-digit j k same f = omega (arith, digit-back (entryAt text j) f .1, ap (λ (n : ℕ). digit (entryAt text n)) same)
 
   digits-of : (more : ℕ) → hasForm (pageForm more) text ≡ true → (i : ℕ) → i < suc more → digit (entryAt text (2 + i)) < 10
   digits-of more e zero h = first-of more e .1
   digits-of more e (suc i) h =
-      let here : fits (entryAt (digitsForm more) i) (entryAt text (suc (suc (suc i)))) ≡ true = fits-at (pageForm more) text (suc (suc (suc i))) e (omega (arith, more-length more)) in
+      let here : fitsSymbol (entryAt (digitsForm more) i) (entryAt text (suc (suc (suc i)))) ≡ true = fits-at (pageForm more) text (suc (suc (suc i))) e (omega (arith, more-length more)) in
       let place : suc (suc (suc i)) ≡ 2 + suc i = omega arith in
-      as-digit (suc (suc (suc i))) (2 + suc i) place (ap (λ (s : ℕ). fits s (entryAt text (suc (suc (suc i))))) (sym (more-digits more i (omega arith))) ∙ here)
+      as-digit (suc (suc (suc i))) (2 + suc i) place (ap (λ (s : ℕ). fitsSymbol s (entryAt text (suc (suc (suc i))))) (sym (more-digits more i (omega arith))) ∙ here)
 
   page-text : (more : ℕ) → hasForm (pageForm more) text ≡ true → pageText (decimalAt (suc more) text 2) ≡ decimalText (suc more) (decimalAt (suc more) text 2) → pageText (decimalAt (suc more) text 2) ≡ digitsAt (suc more) text 2
   page-text more e size = size ∙ decimal-back (suc more) text 2 (digits-of more e)
@@ -219,7 +219,7 @@ module _ (text : List ℕ) where
       by-right true q = rw q none-back
       by-right false q = rw q (λ x. e q)
 
-  single-back : (unit : ℕ) → line₂ 0x53 (byteText (byteAt text 2)) (unitText unit) ≡ text → eqb unit 0xFFFF ≡ false → recordLine (Single (byteAt text 2) unit) ≡ text
+  single-back : (unit : ℕ) → line₂ 0x53 (byteText (hexByteAt text 2)) (unitText unit) ≡ text → eqb unit 0xFFFF ≡ false → recordLine (Single (hexByteAt text 2) unit) ≡ text
   unfolding singleText
   single-back unit e q = rw q e
 
@@ -229,9 +229,9 @@ module _ (text : List ℕ) where
   pub line-back : isRecord (recordOf text) ≡ true → recordLine (recordOf text) ≡ text
   unfolding recordOf pageOf
   line-back =
-      either (hasForm codeForm text) _ _ (λ e. unless-back (unitAt text 7) (Code (unitAt text 2) (unitAt text 7)) (λ q. units-back text 0x57 refl refl refl e))
-      (either (hasForm pairForm text) _ _ (λ e. unless-back (unitAt text 7) (Pair (unitAt text 2) (unitAt text 7)) (λ q. units-back text 0x4D refl refl refl e))
-      (either (hasForm singleForm text) _ _ (λ e. unless-back (unitAt text 5) (Single (byteAt text 2) (unitAt text 5)) (single-back (unitAt text 5) (byte-unit-back text 0x53 refl refl refl e)))
+      either (hasForm codeForm text) _ _ (λ e. unless-back (hexUnitAt text 7) (Code (hexUnitAt text 2) (hexUnitAt text 7)) (λ q. units-back text 0x57 refl refl refl e))
+      (either (hasForm pairForm text) _ _ (λ e. unless-back (hexUnitAt text 7) (Pair (hexUnitAt text 2) (hexUnitAt text 7)) (λ q. units-back text 0x4D refl refl refl e))
+      (either (hasForm singleForm text) _ _ (λ e. unless-back (hexUnitAt text 5) (Single (hexByteAt text 2) (hexUnitAt text 5)) (single-back (hexUnitAt text 5) (byte-unit-back text 0x53 refl refl refl e)))
       (either (hasForm bareForm text) _ _ (λ e x. bare-back text e)
       (either (hasForm trailForm text) _ _ (λ e x. lead-back text 0x54 refl refl refl e)
       (either (hasForm leadForm text) _ _ (λ e x. lead-back text 0x4C refl refl refl e)
@@ -266,8 +266,8 @@ right-unless right r e = by-right (eqb right 0xFFFF) refl
     by-right true q = rw q tt
     by-right false q = rw q (e q)
 
-unit-under : (line : List ℕ) (place : ℕ) → unitAt line place < 65536
-unfolding unitAt
+unit-under : (line : List ℕ) (place : ℕ) → hexUnitAt line place < 65536
+unfolding hexUnitAt
 unit-under line place = omega (arith, byte-under line place, byte-under line (place + 2))
 
 right-page : (page : ℕ) → RightSome (smallPage page)
@@ -277,9 +277,9 @@ right-page page = right-either (leb page 65535) (Page page) NoRecord tt tt
 pub right-some : (text : List ℕ) → RightSome (recordOf text)
 unfolding recordOf pageOf
 right-some text =
-    right-either (hasForm codeForm text) _ _ (right-unless (unitAt text 7) (Code (unitAt text 2) (unitAt text 7)) (λ q. q))
-    (right-either (hasForm pairForm text) _ _ (right-unless (unitAt text 7) (Pair (unitAt text 2) (unitAt text 7)) (λ q. (unit-under text 2, q)))
-    (right-either (hasForm singleForm text) _ _ (right-unless (unitAt text 5) (Single (byteAt text 2) (unitAt text 5)) (λ q. tt))
+    right-either (hasForm codeForm text) _ _ (right-unless (hexUnitAt text 7) (Code (hexUnitAt text 2) (hexUnitAt text 7)) (λ q. q))
+    (right-either (hasForm pairForm text) _ _ (right-unless (hexUnitAt text 7) (Pair (hexUnitAt text 2) (hexUnitAt text 7)) (λ q. (unit-under text 2, q)))
+    (right-either (hasForm singleForm text) _ _ (right-unless (hexUnitAt text 5) (Single (hexByteAt text 2) (hexUnitAt text 5)) (λ q. tt))
     (right-either (hasForm bareForm text) _ _ tt
     (right-either (hasForm trailForm text) _ _ tt
     (right-either (hasForm leadForm text) _ _ tt

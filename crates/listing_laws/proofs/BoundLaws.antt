@@ -9,7 +9,7 @@ use borrow.Author.Tests.{leb-true, eqb-false, not-true}
 use Rattle.codepage.specs.CodePage.{pick, entryAt}
 use Rattle.listing.specs.declared.Record.{Record}
 use Rattle.listing.specs.declared.Record.the-variants.{Page, Defaults, Single, Lead, Trail, Pair, Code, NoRecord}
-use Rattle.listing.specs.Form.{isDigit, isCapital, digit, byteAt, unitAt, decimalAt, fits, hasForm, digitsForm, pageForm, codeForm, pairForm, singleForm, bareForm, trailForm, leadForm, defaultsForm, unlessNone, smallPage, pageOf, recordOf}
+use Rattle.listing.specs.Form.{isDigit, isCapital, digit, hexByteAt, hexUnitAt, decimalAt, fitsSymbol, hasForm, digitsForm, pageForm, codeForm, pairForm, singleForm, bareForm, trailForm, leadForm, defaultsForm, unlessNone, smallPage, pageOf, recordOf}
 use Rattle.codepage.proofs.ShapeLaws.{and-left, and-right}
 
 -- what the proofs need of a record: a page that is not 0, bytes below 256 and units below 65,536
@@ -41,17 +41,17 @@ digit-small byte = by-case (leb 0x30 byte) refl (leb byte 0x39) refl (leb 0x41 b
     by-case false p b q true r false t = rw (p, r, t) (omega arith)
     by-case false p b q false r d t = rw (p, r) (omega arith)
 
-byte-small : (line : List ℕ) (place : ℕ) → byteAt line place < 256
-unfolding byteAt
+byte-small : (line : List ℕ) (place : ℕ) → hexByteAt line place < 256
+unfolding hexByteAt
 byte-small line place = omega (arith, digit-small (entryAt line place), digit-small (entryAt line (place + 1)))
 
-unit-small : (line : List ℕ) (place : ℕ) → unitAt line place < 65536
-unfolding unitAt
+unit-small : (line : List ℕ) (place : ℕ) → hexUnitAt line place < 65536
+unfolding hexUnitAt
 unit-small line place = omega (arith, byte-small line place, byte-small line (place + 2))
 
 -- ---- the page
-pub first-digit : (byte : ℕ) → fits 0x31 byte ≡ true → 1 ≤ digit byte
-unfolding fits digit isDigit
+pub first-digit : (byte : ℕ) → fitsSymbol 0x31 byte ≡ true → 1 ≤ digit byte
+unfolding fitsSymbol digit isDigit
 first-digit byte e =
     let known : (leb 0x30 byte && leb byte 0x39) ≡ true = and-left (leb 0x30 byte && leb byte 0x39) (not (eqb byte 0x30)) e in
     let low : leb 0x30 byte ≡ true = and-left (leb 0x30 byte) (leb byte 0x39) known in
@@ -59,16 +59,16 @@ first-digit byte e =
     let other : byte ≡ 0x30 → ⊥ = eqb-false byte 0x30 (not-true (eqb byte 0x30) (and-right (leb 0x30 byte && leb byte 0x39) (not (eqb byte 0x30)) e)) in
     rw (low, high) (omega (arith, leb-true 0x30 byte low))
 
-third : (a b c : ℕ) (form line : List ℕ) → hasForm (a ∷ b ∷ c ∷ form) line ≡ true → fits c (entryAt line 2) ≡ true
+third : (a b c : ℕ) (form line : List ℕ) → hasForm (a ∷ b ∷ c ∷ form) line ≡ true → fitsSymbol c (entryAt line 2) ≡ true
 unfolding hasForm
 third a b c form [] e = absurd (false≢true e)
-third a b c form (x ∷ []) e = absurd (false≢true (sym (and-false (fits a x)) ∙ e))
+third a b c form (x ∷ []) e = absurd (false≢true (sym (and-false (fitsSymbol a x)) ∙ e))
   where
     and-false : (t : Bool) → (t && false) ≡ false
     and-false true = refl
     and-false false = refl
-third a b c form (x ∷ y ∷ []) e = absurd (false≢true (and-right (fits b y) false (and-right (fits a x) (fits b y && false) e)))
-third a b c form (x ∷ y ∷ z ∷ line) e = and-left (fits c z) (hasForm form line) (and-right (fits b y) (fits c z && hasForm form line) (and-right (fits a x) (fits b y && (fits c z && hasForm form line)) e))
+third a b c form (x ∷ y ∷ []) e = absurd (false≢true (and-right (fitsSymbol b y) false (and-right (fitsSymbol a x) (fitsSymbol b y && false) e)))
+third a b c form (x ∷ y ∷ z ∷ line) e = and-left (fitsSymbol c z) (hasForm form line) (and-right (fitsSymbol b y) (fitsSymbol c z && hasForm form line) (and-right (fitsSymbol a x) (fitsSymbol b y && (fitsSymbol c z && hasForm form line)) e))
 
 decimal-some : (line : List ℕ) (count : ℕ) → 1 ≤ digit (entryAt line 2) → 1 ≤ decimalAt (suc count) line 2
 unfolding decimalAt
@@ -88,9 +88,9 @@ none-bounded right r b = either (eqb right 0xFFFF) NoRecord r (λ t. tt) b
 pub bounded : (line : List ℕ) → Bounded (recordOf line)
 unfolding recordOf pageOf
 bounded line =
-    either (hasForm codeForm line) _ _ (λ t. none-bounded (unitAt line 7) _ (unit-small line 2))
-    (either (hasForm pairForm line) _ _ (λ t. none-bounded (unitAt line 7) (Pair (unitAt line 2) (unitAt line 7)) tt)
-    (either (hasForm singleForm line) _ _ (λ t. none-bounded (unitAt line 5) (Single (byteAt line 2) (unitAt line 5)) (byte-small line 2))
+    either (hasForm codeForm line) _ _ (λ t. none-bounded (hexUnitAt line 7) _ (unit-small line 2))
+    (either (hasForm pairForm line) _ _ (λ t. none-bounded (hexUnitAt line 7) (Pair (hexUnitAt line 2) (hexUnitAt line 7)) tt)
+    (either (hasForm singleForm line) _ _ (λ t. none-bounded (hexUnitAt line 5) (Single (hexByteAt line 2) (hexUnitAt line 5)) (byte-small line 2))
     (either (hasForm bareForm line) _ _ (λ t. byte-small line 2)
     (either (hasForm trailForm line) _ _ (λ t. byte-small line 2)
     (either (hasForm leadForm line) _ _ (λ t. byte-small line 2)

@@ -12,8 +12,8 @@ use Rattle.listing.specs.declared.Progress.{Progress}
 use Rattle.listing.specs.declared.Letter.the-variants.{S, L, T, M, W}
 use Rattle.listing.specs.declared.Record.{Record}
 use Rattle.listing.specs.declared.Record.the-variants.{Page, Defaults, Single, Lead, Trail, Pair, Code, NoRecord}
-use Rattle.listing.specs.Order.{rank, follows, accepts, isNewHigh, codeBlock, after}
-use Rattle.listing.specs.Tables.{Tables, filled, opened, changeOf}
+use Rattle.listing.specs.Order.{rank, follows, accepts, isNewHigh, codeBlock, afterRecord}
+use Rattle.listing.specs.Tables.{Tables, filled, openedBlock, changeOf}
 use Rattle.listing_laws.proofs.FilledLaws.{filled-front}
 use Rattle.listing_laws.proofs.NumberLaws.{Numbered, numbered-on, numbered-none, OneChanged, same-half, same-changed, block-small, new-half, new-changed, last-half, last-changed}
 use Rattle.listing_laws.proofs.HoldLaws.{follows-late, follows-order, follows-key, lead-follows, pair-follows}
@@ -43,7 +43,7 @@ by-halves t u unit code small one v h = one (v / 256) (v % 256) (omega arith) (o
 
 -- ---- a `W` record
 pub record CodePut (s : Progress) (t : Tables) (unit code : ℕ) : Type 0 where
-  pub numbers : NumberedBy (after s (Code unit code)) (changeOf s (Code unit code) t)
+  pub numbers : NumberedBy (afterRecord s (Code unit code)) (changeOf s (Code unit code) t)
   pub one : OneCode t (changeOf s (Code unit code) t) unit code
 
 module _ (s : Progress) (t : Tables) (n : NumberedBy s t) (unit code : ℕ) (small : unit < 65536) (next : follows s W unit ≡ true) (wide : 256 ≤ length (t .index)) (room : 256 * codeBlock s unit + 256 ≤ length (t .blocks)) where
@@ -55,7 +55,7 @@ module _ (s : Progress) (t : Tables) (n : NumberedBy s t) (unit code : ℕ) (sma
 
   -- the first of its high half
   new-put : isNewHigh s unit ≡ true → (eqb (rank (s .letter)) 7 ≡ true → s .key / 256 < unit / 256) → CodePut s t unit code
-  unfolding codeBlock opened
+  unfolding codeBlock openedBlock
   new-put new fresh = by-last (eqb (s .block) 255) refl
     where
       most : s .block ≤ unit / 256
@@ -116,7 +116,7 @@ module _ (s : Progress) (t : Tables) where
 
   -- every record keeps the numbers
   pub number-record : (r : Record) → accepts s r ≡ true → ((1 ≤ rank (s .letter)) → NumberedBy s t) → 256 ≤ length (t .index) → 256 ≤ length (t .blocks)
-      → ((unit code : ℕ) → r ≡ Code unit code → (unit < 65536) × (256 * codeBlock s unit + 256 ≤ length (t .blocks))) → NumberedBy (after s r) (changeOf s r t)
+      → ((unit code : ℕ) → r ≡ Code unit code → (unit < 65536) × (256 * codeBlock s unit + 256 ≤ length (t .blocks))) → NumberedBy (afterRecord s r) (changeOf s r t)
   number-record (Page page) e n wide long room = numbered-none 0 (filled (t .index) 0 256 0) (filled (t .blocks) 0 256 0xFFFF) (λ i h. filled-front (t .index) 256 0 i h wide) (λ i h. filled-front (t .blocks) 256 0xFFFF i h long)
   number-record (Defaults byte unit) e n wide long room = let one : rank (s .letter) ≡ 1 = eqb-true (rank (s .letter)) 1 e in early 0 (omega arith) (n (omega arith))
   number-record (Single byte unit) e n wide long room = early (byte / 256) (omega (arith, follows-order s S byte e)) (n (omega (arith, follows-late s S byte e)))

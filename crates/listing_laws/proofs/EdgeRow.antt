@@ -5,7 +5,7 @@ use Prim.Native.Nat.{ℕ, zero, suc, _+_, _*_, _/_, _≤_}
 use native.Mathlib.Omega.{arith}
 use borrow.Author.Tests.{eq-eqb, ne-eqb}
 use Rattle.listing.specs.declared.Progress.{Progress}
-use Rattle.listing.specs.Order.{rank, isNewHigh, codeBlock, blockCount, sizesOf}
+use Rattle.listing.specs.Order.{rank, isNewHigh, codeBlock, blocksListed, sizesListed}
 use Rattle.listing_laws.specs.Edge.{halvesRead}
 
 -- each high half is new
@@ -30,23 +30,23 @@ late : (n : ℕ) → rank (halvesRead (suc n) .letter) ≡ 7
 unfolding halvesRead
 late n = refl
 
-count : (s : Progress) (n : ℕ) → rank (s .letter) ≡ 7 → s .block ≡ n → (n ≡ 0 → ⊥) → sizesOf s .blocks ≡ 256 * (n + 1)
-unfolding sizesOf blockCount
+count : (s : Progress) (n : ℕ) → rank (s .letter) ≡ 7 → s .block ≡ n → (n ≡ 0 → ⊥) → sizesListed s .blocks ≡ 256 * (n + 1)
+unfolding sizesListed blocksListed
 count s n e b ne = rw (eq-eqb (rank (s .letter)) 7 e, ne-eqb (s .block) 0 (λ z. ne (sym b ∙ z)), b)
 
-count-full : (s : Progress) → rank (s .letter) ≡ 7 → s .block ≡ 0 → sizesOf s .blocks ≡ 65536
-unfolding sizesOf blockCount
+count-full : (s : Progress) → rank (s .letter) ≡ 7 → s .block ≡ 0 → sizesListed s .blocks ≡ 65536
+unfolding sizesListed blocksListed
 count-full s e b = rw (eq-eqb (rank (s .letter)) 7 e, eq-eqb (s .block) 0 b)
 
 -- What the end of such a listing reports, and where the codes of the last high halves are.
 pub record Edge : Type 0 where
   -- 254 high halves need 255 blocks
-  pub blocks-254 : sizesOf (halvesRead 254) .blocks ≡ 65280
+  pub blocks-254 : sizesListed (halvesRead 254) .blocks ≡ 65280
   -- 255 need all 256: FE has block 255, and block 0 is still empty
-  pub blocks-255 : sizesOf (halvesRead 255) .blocks ≡ 65536
+  pub blocks-255 : sizesListed (halvesRead 255) .blocks ≡ 65536
   pub block-of-FE : halvesRead 255 .block ≡ 255
   -- 256 need no more: FF takes block 0
-  pub blocks-256 : sizesOf (halvesRead 256) .blocks ≡ 65536
+  pub blocks-256 : sizesListed (halvesRead 256) .blocks ≡ 65536
   pub block-of-FF : halvesRead 256 .block ≡ 0
   -- a further unit of FF is in the same block, which is not opened again
   pub more-of-FF : isNewHigh (halvesRead 256) 0xFF01 ≡ false

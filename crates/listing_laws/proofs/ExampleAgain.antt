@@ -9,7 +9,7 @@ use Rattle.listing.specs.declared.Read.{Read}
 use Rattle.listing.specs.declared.Read.the-variants.{Accepted, Refused}
 use Rattle.listing.specs.declared.Ended.the-variants as ended
 use Rattle.listing.specs.Order.{nothingRead}
-use Rattle.listing.specs.Tables.{reading, endOf}
+use Rattle.listing.specs.Tables.{readingAs, listingEnd}
 use Rattle.listing.specs.Whole.{readAll}
 use Rattle.listing.specs.Example.{exampleLines, exampleRoom, exampleTables, exampleEnd}
 use Rattle.listing.proofs.ExampleRow.{example-tables, example-end}
@@ -33,8 +33,8 @@ example-written = by-answer (readAll nothingRead exampleLines exampleRoom .answe
   where
     by-answer : (a : Read) → readAll nothingRead exampleLines exampleRoom .answer ≡ a → wholeListing (cutSet exampleNumbers exampleSizes exampleTables) ≡ exampleLines
     by-answer (Accepted s) q =
-        let e : endOf s ≡ ended.Whole exampleNumbers exampleSizes = rw q at example-end in
-        listing-again exampleLines exampleRoom s exampleTables exampleNumbers exampleSizes (ap₂ reading q example-tables) e
+        let e : listingEnd s ≡ ended.Whole exampleNumbers exampleSizes = rw q at example-end in
+        listing-again exampleLines exampleRoom s exampleTables exampleNumbers exampleSizes (ap₂ readingAs q example-tables) e
     by-answer (Refused why) q =
         let e : ended.Refused why ≡ ended.Whole exampleNumbers exampleSizes = rw q at example-end in
         absurd (refused-not e)

@@ -14,7 +14,7 @@ use Rattle.listing.specs.declared.Letter.{Letter}
 use Rattle.listing.specs.declared.Letter.the-variants.{S, L, T, M, W}
 use Rattle.listing.specs.declared.Record.the-variants.{Page, Defaults, Single, Lead, Trail, Pair, Code}
 use Rattle.listing.specs.Sets.{inBytes, addToHalf, emptyHalf}
-use Rattle.listing.specs.Order.{rank, follows, isListedLead, accepts, isNewHigh, codeBlock, withLead, afterPage, after, blockCount, classOf}
+use Rattle.listing.specs.Order.{rank, follows, isListedLead, accepts, isNewHigh, codeBlock, withLead, afterPage, afterRecord, blocksListed, classOf}
 use Rattle.listing.specs.Tables.{Tables, changeOf}
 use Rattle.codepage.proofs.ShapeLaws.{and-left, and-right}
 use Rattle.listing_laws.proofs.BitLaws.{half-none, bytes-none, bytes-other, lead-other, with-small}
@@ -26,7 +26,7 @@ pub record Holds (s : Progress) (t : Tables) : Type 0 where
   pub classes : (byte : ℕ) → byte < 256 → entryAt (t .classes) byte ≡ classOf s byte
   pub low-word : s .leads .low < 2 ^ 64
   pub high-word : s .leads .high < 2 ^ 64
-  pub index : (high : ℕ) → high < 256 → entryAt (t .index) high < blockCount s
+  pub index : (high : ℕ) → high < 256 → entryAt (t .index) high < blocksListed s
   pub block : s .block ≤ 255
   pub before : (rank (s .letter) ≡ 7 → ⊥) → s .block ≡ 0
   pub during : rank (s .letter) ≡ 7 → (s .block ≡ 0 → 255 ≤ s .key / 256) × (s .block ≤ s .key / 256 + 1)
@@ -46,22 +46,22 @@ module _ (classes : List ℕ) (long : 256 ≤ length classes) (s n : Progress) (
           getD-set-other classes byte b (classOf n byte) 0 ne ∙ held b h ∙ sym (same b ne)
 
 -- ---- the blocks of `W`
-pub count-early : (s : Progress) → (rank (s .letter) ≡ 7 → ⊥) → blockCount s ≡ s .block + 1
-unfolding blockCount
+pub count-early : (s : Progress) → (rank (s .letter) ≡ 7 → ⊥) → blocksListed s ≡ s .block + 1
+unfolding blocksListed
 count-early s ne = rw (ne-eqb (rank (s .letter)) 7 ne)
 
 -- while every high half has a number
-pub count-late : (s : Progress) → rank (s .letter) ≡ 7 → (s .block ≡ 0 → ⊥) → blockCount s ≡ s .block + 1
-unfolding blockCount
+pub count-late : (s : Progress) → rank (s .letter) ≡ 7 → (s .block ≡ 0 → ⊥) → blocksListed s ≡ s .block + 1
+unfolding blocksListed
 count-late s e ne = rw (eq-eqb (rank (s .letter)) 7 e, ne-eqb (s .block) 0 ne)
 
 -- once the 256th took block 0
-pub count-full : (s : Progress) → rank (s .letter) ≡ 7 → s .block ≡ 0 → blockCount s ≡ 256
-unfolding blockCount
+pub count-full : (s : Progress) → rank (s .letter) ≡ 7 → s .block ≡ 0 → blocksListed s ≡ 256
+unfolding blocksListed
 count-full s e z = rw (eq-eqb (rank (s .letter)) 7 e, eq-eqb (s .block) 0 z)
 
 -- what a letter before `W` needs of the block
-plain-count : (s n : Progress) → (rank (s .letter) ≡ 7 → ⊥) → (rank (n .letter) ≡ 7 → ⊥) → n .block ≡ s .block → blockCount n ≡ blockCount s
+plain-count : (s n : Progress) → (rank (s .letter) ≡ 7 → ⊥) → (rank (n .letter) ≡ 7 → ⊥) → n .block ≡ s .block → blocksListed n ≡ blocksListed s
 plain-count s n a b e = omega (arith, count-early s a, count-early n b, e)
 
 -- a letter that follows, and the one before it
@@ -117,7 +117,7 @@ no-class page byte = rw (bytes-none byte, lead-none byte)
 
 -- `P`
 pub hold-page : (s : Progress) (page : ℕ) (t : Tables) → (page ≡ 0 → ⊥) → 256 ≤ length (t .classes) → 256 ≤ length (t .index) → Holds (afterPage page) (changeOf s (Page page) t)
-unfolding blockCount
+unfolding blocksListed
 hold-page s page t ne long wide =
     record {
       page = ne;
@@ -148,28 +148,28 @@ module _ (s n : Progress) (t u : Tables) (held : Holds s t) (early : rank (s .le
 
 module _ (s : Progress) (t : Tables) (held : Holds s t) where
   -- `D`
-  pub hold-defaults : (byte unit : ℕ) → accepts s (Defaults byte unit) ≡ true → Holds (after s (Defaults byte unit)) (changeOf s (Defaults byte unit) t)
+  pub hold-defaults : (byte unit : ℕ) → accepts s (Defaults byte unit) ≡ true → Holds (afterRecord s (Defaults byte unit)) (changeOf s (Defaults byte unit) t)
   hold-defaults byte unit e =
-      plain s (after s (Defaults byte unit)) t t held (omega (arith, eqb-true (rank (s .letter)) 1 e)) (omega arith) refl refl refl (held .classes) (held .low-word) (held .high-word)
+      plain s (afterRecord s (Defaults byte unit)) t t held (omega (arith, eqb-true (rank (s .letter)) 1 e)) (omega arith) refl refl refl (held .classes) (held .low-word) (held .high-word)
 
   -- `S`
-  pub hold-single : (byte unit : ℕ) → byte < 256 → 256 ≤ length (t .classes) → accepts s (Single byte unit) ≡ true → Holds (after s (Single byte unit)) (changeOf s (Single byte unit) t)
+  pub hold-single : (byte unit : ℕ) → byte < 256 → 256 ≤ length (t .classes) → accepts s (Single byte unit) ≡ true → Holds (afterRecord s (Single byte unit)) (changeOf s (Single byte unit) t)
   hold-single byte unit small long e =
-      plain s (after s (Single byte unit)) t (changeOf s (Single byte unit) t) held (omega (arith, follows-order s S byte e)) (omega arith) refl refl refl
-      (classes-set (t .classes) long s (after s (Single byte unit)) byte small (held .classes) (λ b ne. rw (bytes-other (s .singles) byte b ne)))
+      plain s (afterRecord s (Single byte unit)) t (changeOf s (Single byte unit) t) held (omega (arith, follows-order s S byte e)) (omega arith) refl refl refl
+      (classes-set (t .classes) long s (afterRecord s (Single byte unit)) byte small (held .classes) (λ b ne. rw (bytes-other (s .singles) byte b ne)))
       (held .low-word) (held .high-word)
 
   -- `T`
-  pub hold-trail : (byte : ℕ) → byte < 256 → 256 ≤ length (t .classes) → accepts s (Trail byte) ≡ true → Holds (after s (Trail byte)) (changeOf s (Trail byte) t)
+  pub hold-trail : (byte : ℕ) → byte < 256 → 256 ≤ length (t .classes) → accepts s (Trail byte) ≡ true → Holds (afterRecord s (Trail byte)) (changeOf s (Trail byte) t)
   hold-trail byte small long e =
-      plain s (after s (Trail byte)) t (changeOf s (Trail byte) t) held (omega (arith, follows-order s T byte e)) (omega arith) refl refl refl
-      (classes-set (t .classes) long s (after s (Trail byte)) byte small (held .classes) (λ b ne. rw (bytes-other (s .trails) byte b ne)))
+      plain s (afterRecord s (Trail byte)) t (changeOf s (Trail byte) t) held (omega (arith, follows-order s T byte e)) (omega arith) refl refl refl
+      (classes-set (t .classes) long s (afterRecord s (Trail byte)) byte small (held .classes) (λ b ne. rw (bytes-other (s .trails) byte b ne)))
       (held .low-word) (held .high-word)
 
   -- `M`
-  pub hold-pair : (code unit : ℕ) → accepts s (Pair code unit) ≡ true → Holds (after s (Pair code unit)) (changeOf s (Pair code unit) t)
+  pub hold-pair : (code unit : ℕ) → accepts s (Pair code unit) ≡ true → Holds (afterRecord s (Pair code unit)) (changeOf s (Pair code unit) t)
   hold-pair code unit e =
-      plain s (after s (Pair code unit)) t (changeOf s (Pair code unit) t) held (omega (arith, follows-order s M code (pair-follows s code unit e))) (omega arith) refl refl refl (held .classes) (held .low-word) (held .high-word)
+      plain s (afterRecord s (Pair code unit)) t (changeOf s (Pair code unit) t) held (omega (arith, follows-order s M code (pair-follows s code unit e))) (omega arith) refl refl refl (held .classes) (held .low-word) (held .high-word)
 
   lead-words : (byte : ℕ) → byte < 256 → (withLead (s .leads) byte .low < 2 ^ 64) × (withLead (s .leads) byte .high < 2 ^ 64)
   unfolding withLead addToHalf
@@ -181,27 +181,27 @@ module _ (s : Progress) (t : Tables) (held : Holds s t) where
       by-half false q false r = rw (q, r) (held .low-word, with-small (s .leads .high) (byte - 0x80 - 64) (held .high-word) (omega arith))
 
   -- `L`
-  pub hold-lead : (byte : ℕ) → byte < 256 → 256 ≤ length (t .classes) → accepts s (Lead byte) ≡ true → Holds (after s (Lead byte)) (changeOf s (Lead byte) t)
+  pub hold-lead : (byte : ℕ) → byte < 256 → 256 ≤ length (t .classes) → accepts s (Lead byte) ≡ true → Holds (afterRecord s (Lead byte)) (changeOf s (Lead byte) t)
   hold-lead byte small long e =
-      plain s (after s (Lead byte)) t (changeOf s (Lead byte) t) held (omega (arith, follows-order s L byte (lead-follows s byte e))) (omega arith) refl refl refl
-      (classes-set (t .classes) long s (after s (Lead byte)) byte small (held .classes) (λ b ne. rw (lead-other (s .leads) byte b ne)))
+      plain s (afterRecord s (Lead byte)) t (changeOf s (Lead byte) t) held (omega (arith, follows-order s L byte (lead-follows s byte e))) (omega arith) refl refl refl
+      (classes-set (t .classes) long s (afterRecord s (Lead byte)) byte small (held .classes) (λ b ne. rw (lead-other (s .leads) byte b ne)))
       (lead-words byte small .0) (lead-words byte small .1)
 
   -- ---- `W`
   module _ (unit code : ℕ) (small : unit < 65536) (wide : 256 ≤ length (t .index)) (next : follows s W unit ≡ true) where
     -- the first of its high half: the next block, which the index names
-    new-block : isNewHigh s unit ≡ true → (s .block ≤ unit / 256) → blockCount s ≡ s .block + 1 → Holds (after s (Code unit code)) (changeOf s (Code unit code) t)
-    unfolding codeBlock blockCount
+    new-block : isNewHigh s unit ≡ true → (s .block ≤ unit / 256) → blocksListed s ≡ s .block + 1 → Holds (afterRecord s (Code unit code)) (changeOf s (Code unit code) t)
+    unfolding codeBlock blocksListed
     new-block new low count = by-last (eqb (s .block) 255) refl
       where
-        index-set : (b n : ℕ) → b < n → blockCount s ≤ n → (high : ℕ) → high < 256 → entryAt (set (t .index) (unit / 256) b) high < n
+        index-set : (b n : ℕ) → b < n → blocksListed s ≤ n → (high : ℕ) → high < 256 → entryAt (set (t .index) (unit / 256) b) high < n
         index-set b n h l high k = by-place (eqb high (unit / 256)) refl
           where
             by-place : (x : Bool) → eqb high (unit / 256) ≡ x → entryAt (set (t .index) (unit / 256) b) high < n
             by-place true q = omega (arith, ap (λ (m : ℕ). entryAt (set (t .index) (unit / 256) b) m) (eqb-true high (unit / 256) q), getD-set-same (t .index) (unit / 256) b 0 (omega arith))
             by-place false q = omega (arith, getD-set-other (t .index) (unit / 256) high b 0 (eqb-false high (unit / 256) q), held .index high k)
 
-        by-last : (x : Bool) → eqb (s .block) 255 ≡ x → Holds (after s (Code unit code)) (changeOf s (Code unit code) t)
+        by-last : (x : Bool) → eqb (s .block) 255 ≡ x → Holds (afterRecord s (Code unit code)) (changeOf s (Code unit code) t)
         by-last true q =
             let e : (s .block + 1) % 256 ≡ 0 = omega (arith, eqb-true (s .block) 255 q) in
             rw (new, e)
@@ -231,8 +231,8 @@ module _ (s : Progress) (t : Tables) (held : Holds s t) where
             })
 
     -- one more of the last high half: the same block
-    same-block : isNewHigh s unit ≡ false → rank (s .letter) ≡ 7 → s .key / 256 ≡ unit / 256 → Holds (after s (Code unit code)) (changeOf s (Code unit code) t)
-    unfolding codeBlock blockCount
+    same-block : isNewHigh s unit ≡ false → rank (s .letter) ≡ 7 → s .key / 256 ≡ unit / 256 → Holds (afterRecord s (Code unit code)) (changeOf s (Code unit code) t)
+    unfolding codeBlock blocksListed
     same-block old seven same =
         rw old
         (record {
@@ -247,11 +247,11 @@ module _ (s : Progress) (t : Tables) (held : Holds s t) where
         })
 
     -- `W`
-    pub hold-code : Holds (after s (Code unit code)) (changeOf s (Code unit code) t)
+    pub hold-code : Holds (afterRecord s (Code unit code)) (changeOf s (Code unit code) t)
     unfolding isNewHigh
     hold-code = by-letter (eqb (rank (s .letter)) 7) refl (eqb (s .key / 256) (unit / 256)) refl
       where
-        by-letter : (a : Bool) → eqb (rank (s .letter)) 7 ≡ a → (b : Bool) → eqb (s .key / 256) (unit / 256) ≡ b → Holds (after s (Code unit code)) (changeOf s (Code unit code) t)
+        by-letter : (a : Bool) → eqb (rank (s .letter)) 7 ≡ a → (b : Bool) → eqb (s .key / 256) (unit / 256) ≡ b → Holds (afterRecord s (Code unit code)) (changeOf s (Code unit code) t)
         by-letter true q true r = same-block (rw (q, r)) (eqb-true (rank (s .letter)) 7 q) (eqb-true (s .key / 256) (unit / 256) r)
         by-letter true q false r =
             let seven : rank (s .letter) ≡ 7 = eqb-true (rank (s .letter)) 7 q in

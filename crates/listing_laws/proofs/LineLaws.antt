@@ -7,17 +7,17 @@ use native.Mathlib.Omega.{arith}
 use lib.Dec.{leb, ltb, eqb}
 use borrow.Author.Tests.{ltb-true, ltb-false, le-leb, lt-leb, ne-eqb, eq-eqb, eqb-true}
 use Rattle.listing.specs.declared.Record.the-variants.{Page, Defaults, Single, Lead, Trail, Pair, Code}
-use Rattle.listing.specs.Form.{isDigit, isCapital, digit, byteAt, unitAt, decimalAt, fits, hasForm, pageForm, codeForm, pairForm, singleForm, bareForm, trailForm, leadForm, defaultsForm, smallPage, pageOf, recordOf}
+use Rattle.listing.specs.Form.{isDigit, isCapital, digit, hexByteAt, hexUnitAt, decimalAt, fitsSymbol, hasForm, pageForm, codeForm, pairForm, singleForm, bareForm, trailForm, leadForm, defaultsForm, smallPage, pageOf, recordOf}
 use Rattle.listing.proofs.FormLaws.{form-other}
 use Rattle.lister.proofs.LineLaws.{page-1, page-2, page-3, page-4, page-5}
 use Rattle.lister.specs.Lines.{hexByte, byteText, unitText, decimalText, pageText, singleText, line, line₂, recordLine}
 
 -- ---- digits
-hex-known : (v : ℕ) → v < 16 → (fits 0x23 (hexByte v) ≡ true) × (digit (hexByte v) ≡ v)
-unfolding hexByte fits digit isDigit isCapital
+hex-known : (v : ℕ) → v < 16 → (fitsSymbol 0x23 (hexByte v) ≡ true) × (digit (hexByte v) ≡ v)
+unfolding hexByte fitsSymbol digit isDigit isCapital
 hex-known v h = by-size (ltb v 10) refl
   where
-    by-size : (t : Bool) → ltb v 10 ≡ t → (fits 0x23 (hexByte v) ≡ true) × (digit (hexByte v) ≡ v)
+    by-size : (t : Bool) → ltb v 10 ≡ t → (fitsSymbol 0x23 (hexByte v) ≡ true) × (digit (hexByte v) ≡ v)
     by-size true q =
         let low : leb 0x30 (0x30 + v) ≡ true = le-leb 0x30 (0x30 + v) (omega arith) in
         let high : leb (0x30 + v) 0x39 ≡ true = le-leb (0x30 + v) 0x39 (omega (arith, ltb-true v 10 q)) in
@@ -30,7 +30,7 @@ hex-known v h = by-size (ltb v 10) refl
         let high : leb (0x41 + (v - 10)) 0x46 ≡ true = le-leb (0x41 + (v - 10)) 0x46 (omega arith) in
         (rw (q, digit-low, digit-high, low, high), rw (q, digit-low, digit-high, low, high) (omega arith))
 
-hex-fits : (v : ℕ) → v < 16 → fits 0x23 (hexByte v) ≡ true
+hex-fits : (v : ℕ) → v < 16 → fitsSymbol 0x23 (hexByte v) ≡ true
 hex-fits v h = hex-known v h .0
 
 hex-digit : (v : ℕ) → v < 16 → digit (hexByte v) ≡ v
@@ -40,18 +40,18 @@ hex-digit v h = hex-known v h .1
 both : {a b : Bool} → a ≡ true → b ≡ true → (a && b) ≡ true
 both {a} {b} x y = rw (x, y)
 
-starts : (a b : ℕ) (form rest : List ℕ) → fits a b ≡ false → hasForm (a ∷ form) (b ∷ rest) ≡ false
+starts : (a b : ℕ) (form rest : List ℕ) → fitsSymbol a b ≡ false → hasForm (a ∷ form) (b ∷ rest) ≡ false
 unfolding hasForm
 starts a b form rest e = rw e
 
-itself : (b : ℕ) → eqb b 0x23 ≡ false → eqb b 0x30 ≡ false → eqb b 0x31 ≡ false → fits b b ≡ true
-unfolding fits
+itself : (b : ℕ) → eqb b 0x23 ≡ false → eqb b 0x30 ≡ false → eqb b 0x31 ≡ false → fitsSymbol b b ≡ true
+unfolding fitsSymbol
 itself b x y z = rw (x, y, z) (eq-eqb b b refl)
 
-fits-tab : fits 9 9 ≡ true
+fits-tab : fitsSymbol 9 9 ≡ true
 fits-tab = itself 9 refl refl refl
 
-fits-feed : fits 10 10 ≡ true
+fits-feed : fitsSymbol 10 10 ≡ true
 fits-feed = itself 10 refl refl refl
 
 -- the digits of a byte and of a unit, and what stands behind them
@@ -63,7 +63,7 @@ unit-form : (form rest : List ℕ) (unit : ℕ) → unit < 65536 → hasForm for
     → hasForm (0x23 ∷ 0x23 ∷ 0x23 ∷ 0x23 ∷ form) (hexByte (unit / 256 / 16) ∷ hexByte (unit / 256 % 16) ∷ hexByte (unit % 256 / 16) ∷ hexByte (unit % 256 % 16) ∷ rest) ≡ true
 unit-form form rest unit h e = byte-form (0x23 ∷ 0x23 ∷ form) (hexByte (unit % 256 / 16) ∷ hexByte (unit % 256 % 16) ∷ rest) (unit / 256) (omega arith) (byte-form form rest (unit % 256) (omega arith) e)
 
-with-letter : (letter : ℕ) (form rest : List ℕ) → fits letter letter ≡ true → hasForm form rest ≡ true → hasForm (letter ∷ 9 ∷ form) (letter ∷ 9 ∷ rest) ≡ true
+with-letter : (letter : ℕ) (form rest : List ℕ) → fitsSymbol letter letter ≡ true → hasForm form rest ≡ true → hasForm (letter ∷ 9 ∷ form) (letter ∷ 9 ∷ rest) ≡ true
 unfolding hasForm
 with-letter letter form rest a e = both a (both fits-tab e)
 
@@ -89,19 +89,19 @@ unit-value unit h = omega (arith, byte-value (unit / 256) (omega arith), byte-va
 
 -- ---- a form that begins with another letter
 other : (a b : ℕ) (form rest : List ℕ) → eqb a 0x23 ≡ false → eqb a 0x30 ≡ false → eqb a 0x31 ≡ false → eqb b a ≡ false → hasForm (a ∷ form) (b ∷ rest) ≡ false
-unfolding fits
+unfolding fitsSymbol
 other a b form rest x y z e = starts a b form rest (rw (x, y, z) e)
 
 -- ---- each record
 pub read-code : (unit code : ℕ) → unit < 65536 → code < 65536 → (code ≡ 0xFFFF → ⊥) → recordOf (recordLine (Code unit code)) ≡ Code unit code
-unfolding recordOf unitAt byteAt
+unfolding recordOf hexUnitAt hexByteAt
 read-code unit code h k ne =
     let form : hasForm codeForm (recordLine (Code unit code)) ≡ true = with-letter 0x57 _ _ (itself 0x57 refl refl refl) (unit-form _ _ unit h (with-tab _ _ (unit-form _ _ code k closed))) in
     rw (form, unit-value code k, unit-value unit h, ne-eqb code 0xFFFF ne)
 
 -- `M` is read back
 pub read-pair : (code unit : ℕ) → code < 65536 → unit < 65536 → (unit ≡ 0xFFFF → ⊥) → recordOf (recordLine (Pair code unit)) ≡ Pair code unit
-unfolding recordOf unitAt byteAt
+unfolding recordOf hexUnitAt hexByteAt
 read-pair code unit h k ne =
     let form : hasForm pairForm (recordLine (Pair code unit)) ≡ true = with-letter 0x4D _ _ (itself 0x4D refl refl refl) (unit-form _ _ code h (with-tab _ _ (unit-form _ _ unit k closed))) in
     let a : hasForm codeForm (recordLine (Pair code unit)) ≡ false = other 0x57 0x4D _ _ refl refl refl refl in
@@ -109,7 +109,7 @@ read-pair code unit h k ne =
 
 -- `S` is read back
 pub read-single : (byte unit : ℕ) → byte < 256 → unit < 65536 → recordOf (recordLine (Single byte unit)) ≡ Single byte unit
-unfolding recordOf unitAt byteAt singleText
+unfolding recordOf hexUnitAt hexByteAt singleText
 read-single byte unit h k = by-unit (eqb unit 0xFFFF) refl
   where
     by-unit : (t : Bool) → eqb unit 0xFFFF ≡ t → recordOf (recordLine (Single byte unit)) ≡ Single byte unit
@@ -127,7 +127,7 @@ read-single byte unit h k = by-unit (eqb unit 0xFFFF) refl
 
 -- `T` is read back
 pub read-trail : (byte : ℕ) → byte < 256 → recordOf (recordLine (Trail byte)) ≡ Trail byte
-unfolding recordOf byteAt
+unfolding recordOf hexByteAt
 read-trail byte h =
     let form : hasForm trailForm (recordLine (Trail byte)) ≡ true = with-letter 0x54 _ _ (itself 0x54 refl refl refl) (byte-form _ _ byte h closed) in
     let a : hasForm codeForm (recordLine (Trail byte)) ≡ false = other 0x57 0x54 _ _ refl refl refl refl in
@@ -138,7 +138,7 @@ read-trail byte h =
 
 -- `L` is read back
 pub read-lead : (byte : ℕ) → byte < 256 → recordOf (recordLine (Lead byte)) ≡ Lead byte
-unfolding recordOf byteAt
+unfolding recordOf hexByteAt
 read-lead byte h =
     let form : hasForm leadForm (recordLine (Lead byte)) ≡ true = with-letter 0x4C _ _ (itself 0x4C refl refl refl) (byte-form _ _ byte h closed) in
     let a : hasForm codeForm (recordLine (Lead byte)) ≡ false = other 0x57 0x4C _ _ refl refl refl refl in
@@ -150,7 +150,7 @@ read-lead byte h =
 
 -- `D` is read back
 pub read-defaults : (byte unit : ℕ) → byte < 256 → unit < 65536 → recordOf (recordLine (Defaults byte unit)) ≡ Defaults byte unit
-unfolding recordOf unitAt byteAt
+unfolding recordOf hexUnitAt hexByteAt
 read-defaults byte unit h k =
     let form : hasForm defaultsForm (recordLine (Defaults byte unit)) ≡ true = with-letter 0x44 _ _ (itself 0x44 refl refl refl) (byte-form _ _ byte h (with-tab _ _ (unit-form _ _ unit k closed))) in
     let a : hasForm codeForm (recordLine (Defaults byte unit)) ≡ false = other 0x57 0x44 _ _ refl refl refl refl in
@@ -162,15 +162,15 @@ read-defaults byte unit h k =
     rw (a, b, c, d, e, f, form, unit-value unit k, byte-value byte h)
 
 -- ---- the page
-dec-known : (d : ℕ) → d < 10 → (fits 0x30 (0x30 + d) ≡ true) × (digit (0x30 + d) ≡ d)
-unfolding fits digit isDigit
+dec-known : (d : ℕ) → d < 10 → (fitsSymbol 0x30 (0x30 + d) ≡ true) × (digit (0x30 + d) ≡ d)
+unfolding fitsSymbol digit isDigit
 dec-known d h =
     let low : leb 0x30 (0x30 + d) ≡ true = le-leb 0x30 (0x30 + d) (omega arith) in
     let high : leb (0x30 + d) 0x39 ≡ true = le-leb (0x30 + d) 0x39 (omega arith) in
     (rw (low, high), rw (low, high) (omega arith))
 
-dec-first : (d : ℕ) → 1 ≤ d → d < 10 → fits 0x31 (0x30 + d) ≡ true
-unfolding fits isDigit
+dec-first : (d : ℕ) → 1 ≤ d → d < 10 → fitsSymbol 0x31 (0x30 + d) ≡ true
+unfolding fitsSymbol isDigit
 dec-first d l h =
     let low : leb 0x30 (0x30 + d) ≡ true = le-leb 0x30 (0x30 + d) (omega arith) in
     let high : leb (0x30 + d) 0x39 ≡ true = le-leb (0x30 + d) 0x39 (omega arith) in

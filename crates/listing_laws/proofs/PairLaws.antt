@@ -14,7 +14,7 @@ use Rattle.listing.specs.declared.Record.{Record}
 use Rattle.listing.specs.declared.Record.the-variants.{Lead, Pair, NoRecord}
 use Rattle.listing.specs.Tables.{Tables, filled, changeOf}
 use Rattle.listing.specs.Form.{unlessNone}
-use Rattle.listing.specs.Order.{accepts, after, isListedLead, sizesOf}
+use Rattle.listing.specs.Order.{accepts, afterRecord, isListedLead, sizesListed}
 use Rattle.listing.proofs.TableLaws.{listed-below}
 use Rattle.listing.specs.Sets.{countHalf}
 use Rattle.listing.specs.Tables.{leadBlock}
@@ -119,12 +119,12 @@ module _ (p : CodePage) (good : GoodShape p) where
   unfolding leadBlock
   block-fits n t lead listed block room = omega (arith, room, listed-below (n .leads) lead listed, block)
 
-  whole-front : (n : Progress) (t : Tables) → FitsAll (sizesOf n) t → (256 ≤ length (t .classes)) × (256 ≤ length (t .index))
-  unfolding sizesOf
+  whole-front : (n : Progress) (t : Tables) → FitsAll (sizesListed n) t → (256 ≤ length (t .classes)) × (256 ≤ length (t .index))
+  unfolding sizesListed
   whole-front n t f = (f .classes-fit, f .index-fit)
 
-  pairs-fit : (n : Progress) (t : Tables) → FitsAll (sizesOf n) t → 256 * countHalf (n .leads) ≤ length (t .pairs)
-  unfolding sizesOf
+  pairs-fit : (n : Progress) (t : Tables) → FitsAll (sizesListed n) t → 256 * countHalf (n .leads) ≤ length (t .pairs)
+  unfolding sizesListed
   pairs-fit n t f = f .pairs-fit
 
   lead-kept : (k : ℕ) (n : Progress) (t : Tables) (b : ℕ) → b < 256 → k ≡ 258 + b → isLead (entryAt (p .classes) b) ≡ true → 256 * leadsBelow (p .classes) b + 256 ≤ length (t .pairs) → leadBlock n b ≡ leadsBelow (p .classes) b → Pairs p k t
@@ -173,22 +173,22 @@ module _ (p : CodePage) (good : GoodShape p) where
       by-code false q w r = apart (by-order (ltb l a) refl (eqb-false l a q)) (λ e. eqb-false l a q (omega arith))
 
   -- ---- every record
-  module _ (m : InWidths p) (k : ℕ) (s : Progress) (t : Tables) (late : 2 ≤ k) (most : k < 131842) (b : Before p k s) (sound : Sound s t) (fits : FitsAll (sizesOf (after s (recordAt p k))) t) (held : Pairs p k t) (q : isRecord (recordAt p k) ≡ true) where
+  module _ (m : InWidths p) (k : ℕ) (s : Progress) (t : Tables) (late : 2 ≤ k) (most : k < 131842) (b : Before p k s) (sound : Sound s t) (fits : FitsAll (sizesListed (afterRecord s (recordAt p k))) t) (held : Pairs p k t) (q : isRecord (recordAt p k) ≡ true) where
     accepted : accepts s (recordAt p k) ≡ true
     accepted = fine p good m k s b late most .0 q .1 .0
 
-    next : Before p (k + 1) (after s (recordAt p k))
+    next : Before p (k + 1) (afterRecord s (recordAt p k))
     next = fine p good m k s b late most .0 q .1 .1
 
     at-l : (d : ℕ) → d < 256 → k ≡ 258 + d → (x : Bool) → isLead (entryAt (p .classes) d) ≡ x → Pairs p (k + 1) (changeOf s (recordAt p k) t)
     unfolding leadAt
     at-l d h e true on =
         let here : recordAt p k ≡ Lead d = ap (recordAt p) e ∙ lead-here d h on in
-        let before : Before p (k + 1) (after s (Lead d)) = subst (λ (r : Record). Before p (k + 1) (after s r)) here next in
-        let low : Holds (after s (Lead d)) (changeOf s (Lead d) t) = hold-record s t sound (Lead d) h (ap (accepts s) (sym here) ∙ accepted) (whole-front (after s (recordAt p k)) t fits .0) (whole-front (after s (recordAt p k)) t fits .1) in
-        let block : leadBlock (after s (Lead d)) d ≡ leadsBelow (p .classes) d = same-block p good (k + 1) (after s (Lead d)) before (low .low-word) d (high-lead d on) h (omega arith) in
-        let listed : isListedLead (after s (Lead d) .leads) d ≡ true = before .leads d h ∙ ap₂ (λ (x y : Bool). x && y) (lt-ltb (258 + d) (k + 1) (omega arith)) on in
-        lead-kept k (after s (Lead d)) t d h e on (block-fits (after s (Lead d)) t d listed block (pairs-fit (after s (Lead d)) t (subst (λ (r : Record). FitsAll (sizesOf (after s r)) t) here fits))) block held (changeOf s (recordAt p k) t) (ap (λ (r : Record). changeOf s r t .pairs) here)
+        let before : Before p (k + 1) (afterRecord s (Lead d)) = subst (λ (r : Record). Before p (k + 1) (afterRecord s r)) here next in
+        let low : Holds (afterRecord s (Lead d)) (changeOf s (Lead d) t) = hold-record s t sound (Lead d) h (ap (accepts s) (sym here) ∙ accepted) (whole-front (afterRecord s (recordAt p k)) t fits .0) (whole-front (afterRecord s (recordAt p k)) t fits .1) in
+        let block : leadBlock (afterRecord s (Lead d)) d ≡ leadsBelow (p .classes) d = same-block p good (k + 1) (afterRecord s (Lead d)) before (low .low-word) d (high-lead d on) h (omega arith) in
+        let listed : isListedLead (afterRecord s (Lead d) .leads) d ≡ true = before .leads d h ∙ ap₂ (λ (x y : Bool). x && y) (lt-ltb (258 + d) (k + 1) (omega arith)) on in
+        lead-kept k (afterRecord s (Lead d)) t d h e on (block-fits (afterRecord s (Lead d)) t d listed block (pairs-fit (afterRecord s (Lead d)) t (subst (λ (r : Record). FitsAll (sizesListed (afterRecord s r)) t) here fits))) block held (changeOf s (recordAt p k) t) (ap (λ (r : Record). changeOf s r t .pairs) here)
     at-l d h e false on =
         let none : recordAt p k ≡ NoRecord = ap (recordAt p) e ∙ at-lead d h ∙ rw on in
         absurd (false≢true (sym (ap isRecord none) ∙ q))
@@ -203,7 +203,7 @@ module _ (p : CodePage) (good : GoodShape p) where
         let y : (256 * a + d) % 256 ≡ d = omega arith in
         let place : 256 * leadBlock s ((256 * a + d) / 256) + (256 * a + d) % 256 ≡ pairPlace p a d = ap₂ (λ (i j : ℕ). 256 * leadBlock s i + j) x y ∙ ap (λ (n : ℕ). 256 * n + d) block in
         let listed : isListedLead (s .leads) a ≡ true = b .leads a h ∙ ap₂ (λ (x y : Bool). x && y) (lt-ltb (258 + a) k (omega arith)) on in
-        pair-kept k t (changeOf s (recordAt p k) t) a d h l e on (block-fits s t a listed block (pairs-fit (after s (Pair (256 * a + d) (entryAt (p .pairs) (pairPlace p a d)))) t (subst (λ (r : Record). FitsAll (sizesOf (after s r)) t) here fits))) held
+        pair-kept k t (changeOf s (recordAt p k) t) a d h l e on (block-fits s t a listed block (pairs-fit (afterRecord s (Pair (256 * a + d) (entryAt (p .pairs) (pairPlace p a d)))) t (subst (λ (r : Record). FitsAll (sizesListed (afterRecord s r)) t) here fits))) held
         (ap (λ (r : Record). changeOf s r t .pairs) here ∙ ap (λ (n : ℕ). set (t .pairs) n (entryAt (p .pairs) (pairPlace p a d))) place)
     at-m a d h l e true on true trail true some =
         let none : recordAt p k ≡ NoRecord = ap (recordAt p) e ∙ pair-here a d h l on trail ∙ rw some in

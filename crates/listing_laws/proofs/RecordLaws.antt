@@ -16,7 +16,7 @@ use Rattle.listing.specs.declared.Letter.the-variants.{S, L, T, M, W}
 use Rattle.listing.specs.declared.Record.{Record}
 use Rattle.listing.specs.declared.Record.the-variants.{Single, Lead, Trail, Pair, Code, NoRecord}
 use Rattle.listing.specs.Sets.{inBytes, countHalf}
-use Rattle.listing.specs.Order.{rank, follows, isListedLead, withLead, accepts, after}
+use Rattle.listing.specs.Order.{rank, follows, isListedLead, withLead, accepts, afterRecord}
 use Rattle.listing.specs.Tables.{Tables, leadBlock, changeOf}
 use Rattle.listing.proofs.TableLaws.{listed-below}
 use Rattle.lister.specs.Lister.{singleAt, leadAt, trailAt, pairAt, codeAt, recordAt, isRecord}
@@ -42,8 +42,8 @@ pub record Standing (s : Progress) (t : Tables) : Type 0 where
 -- a record put at its place
 pub record Put (s : Progress) (t : Tables) (r : Record) : Type 0 where
   pub order : lastPlace s < placeOf r
-  pub others : (k : ℕ) → 2 ≤ k → k < 131842 → (k ≡ placeOf r → ⊥) → recordAt (setOf (after s r) (changeOf s r t)) k ≡ recordAt (setOf s t) k
-  pub here : recordAt (setOf (after s r) (changeOf s r t)) (placeOf r) ≡ r
+  pub others : (k : ℕ) → 2 ≤ k → k < 131842 → (k ≡ placeOf r → ⊥) → recordAt (setOf (afterRecord s r) (changeOf s r t)) k ≡ recordAt (setOf s t) k
+  pub here : recordAt (setOf (afterRecord s r) (changeOf s r t)) (placeOf r) ≡ r
 
 -- leads below a lead, by the tests
 pub below-same : (classes classes′ : List ℕ) → 256 ≤ length classes → 256 ≤ length classes′ → ((i : ℕ) → i < 256 → isLead (entryAt classes′ i) ≡ isLead (entryAt classes i)) → (l : ℕ) → l < 256 → leadsBelow classes′ l ≡ leadsBelow classes l
@@ -106,9 +106,9 @@ module _ (s : Progress) (t : Tables) (held : Holds s t) (st : Standing s t) (lon
       by-trail false q = q
 
   -- ---- `S`
-  module _ (byte unit : ℕ) (small : byte < 256) (e : accepts s (Single byte unit) ≡ true) (held′ : Holds (after s (Single byte unit)) (changeOf s (Single byte unit) t)) (wide : 256 ≤ length (t .singles)) where
+  module _ (byte unit : ℕ) (small : byte < 256) (e : accepts s (Single byte unit) ≡ true) (held′ : Holds (afterRecord s (Single byte unit)) (changeOf s (Single byte unit) t)) (wide : 256 ≤ length (t .singles)) where
     abbrev s₁ : Progress
-    s₁ = after s (Single byte unit)
+    s₁ = afterRecord s (Single byte unit)
 
     abbrev t₁ : Tables
     t₁ = changeOf s (Single byte unit) t
@@ -150,9 +150,9 @@ module _ (s : Progress) (t : Tables) (held : Holds s t) (st : Standing s t) (lon
     put-single = record { order = single-order; others = by-parts (setOf s t) (setOf s₁ t₁) (2 + byte) single-parts; here = single-here }
 
   -- ---- `T`
-  module _ (byte : ℕ) (small : byte < 256) (e : accepts s (Trail byte) ≡ true) (held′ : Holds (after s (Trail byte)) (changeOf s (Trail byte) t)) where
+  module _ (byte : ℕ) (small : byte < 256) (e : accepts s (Trail byte) ≡ true) (held′ : Holds (afterRecord s (Trail byte)) (changeOf s (Trail byte) t)) where
     abbrev s₂ : Progress
-    s₂ = after s (Trail byte)
+    s₂ = afterRecord s (Trail byte)
 
     abbrev t₂ : Tables
     t₂ = changeOf s (Trail byte) t
@@ -207,9 +207,9 @@ module _ (s : Progress) (t : Tables) (held : Holds s t) (st : Standing s t) (lon
     put-trail = record { order = trail-order; others = by-parts (setOf s t) (setOf s₂ t₂) (514 + byte) trail-parts; here = trail-here }
 
   -- ---- `L`
-  module _ (byte : ℕ) (small : byte < 256) (e : accepts s (Lead byte) ≡ true) (held′ : Holds (after s (Lead byte)) (changeOf s (Lead byte) t)) where
+  module _ (byte : ℕ) (small : byte < 256) (e : accepts s (Lead byte) ≡ true) (held′ : Holds (afterRecord s (Lead byte)) (changeOf s (Lead byte) t)) where
     abbrev s₃ : Progress
-    s₃ = after s (Lead byte)
+    s₃ = afterRecord s (Lead byte)
 
     abbrev t₃ : Tables
     t₃ = changeOf s (Lead byte) t
@@ -302,7 +302,7 @@ module _ (s : Progress) (t : Tables) (held : Holds s t) (st : Standing s t) (lon
     t₄ = changeOf s (Pair code unit) t
 
     abbrev s₄ : Progress
-    s₄ = after s (Pair code unit)
+    s₄ = afterRecord s (Pair code unit)
 
     block-here : leadBlock s (code / 256) ≡ leadsBelow (t .classes) (code / 256)
     block-here = block-as s t held (code / 256) (listed-from-80 (s .leads) (code / 256) pair-lead) (omega arith) long
@@ -353,7 +353,7 @@ module _ (s : Progress) (t : Tables) (held : Holds s t) (st : Standing s t) (lon
     t₅ = changeOf s (Code unit code) t
 
     abbrev s₅ : Progress
-    s₅ = after s (Code unit code)
+    s₅ = afterRecord s (Code unit code)
 
     code-order : lastPlace s < 66306 + unit
     code-order = order-W (s .letter) (s .key) unit (st .key) (st .late) (follows-order s W unit e) (follows-key s W unit e)

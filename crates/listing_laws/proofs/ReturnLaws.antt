@@ -13,9 +13,9 @@ use Rattle.codepage.specs.declared.Kind.the-variants.{UndefinedSingle, Undefine
 use Rattle.codepage_lookup.specs.Profile.{unitEntry}
 use Rattle.listing.specs.declared.Progress.{Progress}
 use Rattle.listing.specs.declared.Ended.the-variants.{Whole}
-use Rattle.listing.specs.Order.{nothingRead, rank, sizesOf}
+use Rattle.listing.specs.Order.{nothingRead, rank, sizesListed}
 use Rattle.listing.specs.declared.Read.the-variants.{Accepted}
-use Rattle.listing.specs.Tables.{Tables, tables, fit, reading, endOf}
+use Rattle.listing.specs.Tables.{Tables, tables, tablesFit, readingAs, listingEnd}
 use Rattle.listing.specs.Whole.{readAll}
 use Rattle.lister.proofs.PlaceLaws.{pairs-inside}
 use Rattle.listing_laws.specs.Cut.{cutSet}
@@ -47,21 +47,21 @@ module _ (p : CodePage) (good : GoodShape p) {t : Tables} (a : Arrived p (AllKep
   kept = a .sound (omega (arith, a .before .late))
 
   abbrev back : CodePage
-  back = cutSet (a .state .numbers) (sizesOf (a .state)) (a .lent)
+  back = cutSet (a .state .numbers) (sizesListed (a .state)) (a .lent)
 
   back-good : GoodShape back
   back-good = good-shape (a .state) (a .lent) kept
 
-  whole-end : endOf (a .state) ≡ Whole (a .state .numbers) (sizesOf (a .state))
-  unfolding endOf
+  whole-end : listingEnd (a .state) ≡ Whole (a .state .numbers) (sizesListed (a .state))
+  unfolding listingEnd
   whole-end = rw (le-leb 2 (rank (a .state .letter)) (a .before .late))
 
   class-back : (byte : ℕ) → byte < 256 → entryAt (back .classes) byte ≡ entryAt (p .classes) byte
-  unfolding cutSet sizesOf
+  unfolding cutSet sizesListed
   class-back byte h = getD-take 256 (a .lent .classes) byte 0 h ∙ same-classes p good a byte h
 
   single-back : (byte : ℕ) → byte < 256 → isSingle (entryAt (p .classes) byte) ≡ true → entryAt (back .singles) byte ≡ entryAt (p .singles) byte
-  unfolding cutSet sizesOf
+  unfolding cutSet sizesListed
   single-back byte h on = getD-take 256 (a .lent .singles) byte 0 h ∙ a .kept .0 .0 byte h (omega arith) on
 
   below-back : (lead : ℕ) → lead < 256 → leadsBelow (back .classes) lead ≡ leadsBelow (p .classes) lead
@@ -73,15 +73,15 @@ module _ (p : CodePage) (good : GoodShape p) {t : Tables} (a : Arrived p (AllKep
 
   -- an entry of a table that is cut behind it
   pair-entry : (i : ℕ) → i < length (back .pairs) → entryAt (back .pairs) i ≡ entryAt (a .lent .pairs) i
-  unfolding cutSet sizesOf
-  pair-entry i h = getD-take (sizesOf (a .state) .pairs) (a .lent .pairs) i 0 (omega (arith, length-take-le (sizesOf (a .state) .pairs) (a .lent .pairs) (kept .fits .pairs-fit)))
+  unfolding cutSet sizesListed
+  pair-entry i h = getD-take (sizesListed (a .state) .pairs) (a .lent .pairs) i 0 (omega (arith, length-take-le (sizesListed (a .state) .pairs) (a .lent .pairs) (kept .fits .pairs-fit)))
 
   block-entry : (i : ℕ) → i < length (back .blocks) → entryAt (back .blocks) i ≡ entryAt (a .lent .blocks) i
-  unfolding cutSet sizesOf
-  block-entry i h = getD-take (sizesOf (a .state) .blocks) (a .lent .blocks) i 0 (omega (arith, length-take-le (sizesOf (a .state) .blocks) (a .lent .blocks) (kept .fits .blocks-fit)))
+  unfolding cutSet sizesListed
+  block-entry i h = getD-take (sizesListed (a .state) .blocks) (a .lent .blocks) i 0 (omega (arith, length-take-le (sizesListed (a .state) .blocks) (a .lent .blocks) (kept .fits .blocks-fit)))
 
   index-entry : (i : ℕ) → i < 256 → entryAt (back .index) i ≡ entryAt (a .lent .index) i
-  unfolding cutSet sizesOf
+  unfolding cutSet sizesListed
   index-entry i h = getD-take 256 (a .lent .index) i 0 h
 
   pair-back : (lead byte : ℕ) → lead < 256 → byte < 256 → isLead (entryAt (p .classes) lead) ≡ true → bytePair (back .classes) (back .pairs) lead byte ≡ bytePair (p .classes) (p .pairs) lead byte
@@ -120,7 +120,7 @@ module _ (p : CodePage) (good : GoodShape p) {t : Tables} (a : Arrived p (AllKep
         progress = a .state;
         lent = a .lent;
         numbers = a .state .numbers;
-        sizes = sizesOf (a .state);
+        sizes = sizesListed (a .state);
         accepted = a .accepted;
         end = whole-end;
         shape = back-good;
@@ -149,7 +149,7 @@ same-size n e =
 most : (n : ℕ) × (n ≡ 65536)
 most = (65536, refl)
 
-all-lines : (p : CodePage) (t : Tables) (s′ : Progress) (t′ : Tables) → readAll nothingRead (wholeListing p) t ≡ reading (Accepted s′) t′ → (n : ℕ) → n ≡ 131842 → readAll nothingRead (linesFrom p n 0) t ≡ reading (Accepted s′) t′
+all-lines : (p : CodePage) (t : Tables) (s′ : Progress) (t′ : Tables) → readAll nothingRead (wholeListing p) t ≡ readingAs (Accepted s′) t′ → (n : ℕ) → n ≡ 131842 → readAll nothingRead (linesFrom p n 0) t ≡ readingAs (Accepted s′) t′
 unfolding wholeListing
 all-lines p t s′ t′ e n same = ap (λ (c : ℕ). readAll nothingRead (linesFrom p c 0) t) same ∙ e
 
@@ -168,17 +168,17 @@ module _ (p : CodePage) (good : GoodShape p) (m : InWidths p) where
   keeps-all : Keeps p (AllKept p)
   keeps-all = both-keep p (λ k u. Singles p k u × Pairs p k u) (Codes p) (both-keep p (Singles p) (Pairs p) (singles-keep p) (pairs-keep p good m)) (codes-keep p good m)
 
-  pub listing-returns : (t : Tables) → fit (neededSizes (wholeListing p)) t ≡ true → Returned p t
-  listing-returns t room = arrived p good (listing-accepted p good m (AllKept p) keeps-all (λ count k n u. readAll n (linesFrom p count k) u ≡ reading (Accepted (once .state)) (too .0)) (by-acceptance p (once .state) (too .0)) nothingRead t refl (all-lines p t (once .state) (too .0) (too .1)))
+  pub listing-returns : (t : Tables) → tablesFit (neededSizes (wholeListing p)) t ≡ true → Returned p t
+  listing-returns t room = arrived p good (listing-accepted p good m (AllKept p) keeps-all (λ count k n u. readAll n (linesFrom p count k) u ≡ readingAs (Accepted (once .state)) (too .0)) (by-acceptance p (once .state) (too .0)) nothingRead t refl (all-lines p t (once .state) (too .0) (too .1)))
     where
-      too : (u : Tables) × (readAll nothingRead (wholeListing p) t ≡ reading (Accepted (once .state)) u)
+      too : (u : Tables) × (readAll nothingRead (wholeListing p) t ≡ readingAs (Accepted (once .state)) u)
       too =
           accepted-too (wholeListing p) nothingRead (tables (replicate (most .0) 0) (replicate (most .0) 0) (replicate (most .0) 0) (replicate (most .0) 0) (replicate (most .0) 0)) t (λ h. absurd (omega arith)) (once .state) (once .lent) (once .accepted)
-          (subst (λ (n : Progress). fit (sizesOf n) t ≡ true) (sym once-needs) room)
+          (subst (λ (n : Progress). tablesFit (sizesListed n) t ≡ true) (sym once-needs) room)
 
   -- tables of the largest sizes have room for every listing
-  pub large-enough : (t : Tables) → LargeEnough t → fit (neededSizes (wholeListing p)) t ≡ true
+  pub large-enough : (t : Tables) → LargeEnough t → tablesFit (neededSizes (wholeListing p)) t ≡ true
   large-enough t large =
       let a : Arrived p (λ k u. Unit {0}) nothingRead (wholeListing p) t = in-large t large in
-      subst (λ (n : Progress). fit (sizesOf n) t ≡ true) (progress-as (wholeListing p) nothingRead t (a .state) (a .lent) (a .accepted))
+      subst (λ (n : Progress). tablesFit (sizesListed n) t ≡ true) (progress-as (wholeListing p) nothingRead t (a .state) (a .lent) (a .accepted))
       (large-fits (a .state) (a .lent) t (a .sound (omega (arith, a .before .late)) .holds) large)

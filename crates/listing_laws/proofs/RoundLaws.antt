@@ -18,7 +18,7 @@ use Rattle.listing.specs.declared.Letter.the-variants.{Start, P, D, S, L, T, M,
 use Rattle.listing.specs.declared.Record.{Record}
 use Rattle.listing.specs.declared.Record.the-variants.{Page, Defaults, Single, Lead, Trail, Pair, Code, NoRecord}
 use Rattle.listing.specs.Sets.{inBytes, addToBytes, countHalf}
-use Rattle.listing.specs.Order.{rank, follows, isListedLead, withLead, accepts, after}
+use Rattle.listing.specs.Order.{rank, follows, isListedLead, withLead, accepts, afterRecord}
 use Rattle.listing.proofs.SetLaws.{half-with}
 use Rattle.listing.specs.declared.Sizes.{Sizes}
 use Rattle.listing.specs.declared.Refusal.the-variants.{TooSmall}
@@ -26,8 +26,8 @@ use Rattle.listing.specs.declared.Read.the-variants.{Accepted, Refused}
 use Rattle.listing.specs.Steps.{Fits}
 use Rattle.listing.proofs.ChangeLaws.{fit-known}
 use Rattle.listing.specs.Form.{recordOf, unlessNone}
-use Rattle.listing.specs.Order.{blockCount, sizesOf, afterPage, classOf}
-use Rattle.listing.specs.Tables.{Tables, changeOf, fit, Reading, reading, readRecord, readOf}
+use Rattle.listing.specs.Order.{blocksListed, sizesListed, afterPage, classOf}
+use Rattle.listing.specs.Tables.{Tables, changeOf, tablesFit, Reading, readingAs, readRecord, lineReading}
 use Rattle.listing.specs.Whole.{readAll, thenRead}
 use Rattle.lister.specs.Lines.{recordLine}
 use Rattle.lister.specs.Lister.{places, singleAt, leadAt, trailAt, pairAt, codeAt, recordAt, isRecord}
@@ -183,7 +183,7 @@ lead-not-single class e = by-two (eqb class 2) refl
 -- ---- each record is accepted at its place
 module _ (p : CodePage) (good : GoodShape p) (k : ℕ) (s : Progress) (b : Before p k s) where
   step-single : (byte unit : ℕ) → byte < 256 → k ≡ 2 + byte → isSingle (entryAt (p .classes) byte) ≡ true
-      → (accepts s (Single byte unit) ≡ true) × Before p (k + 1) (after s (Single byte unit))
+      → (accepts s (Single byte unit) ≡ true) × Before p (k + 1) (afterRecord s (Single byte unit))
   unfolding follows
   step-single byte unit small at on = (
     later-S (s .letter) (s .key) byte small (b .late) (omega (arith, b .place)),
@@ -200,7 +200,7 @@ module _ (p : CodePage) (good : GoodShape p) (k : ℕ) (s : Progress) (b : Befor
   )
 
   step-lead : (byte : ℕ) → byte < 256 → k ≡ 258 + byte → isLead (entryAt (p .classes) byte) ≡ true
-      → (accepts s (Lead byte) ≡ true) × Before p (k + 1) (after s (Lead byte))
+      → (accepts s (Lead byte) ≡ true) × Before p (k + 1) (afterRecord s (Lead byte))
   unfolding follows
   step-lead byte small at on = (
     both (both (later-L (s .letter) (s .key) byte small (b .late) (omega (arith, b .place))) (le-leb 0x80 byte high)) (ap not single),
@@ -227,7 +227,7 @@ module _ (p : CodePage) (good : GoodShape p) (k : ℕ) (s : Progress) (b : Befor
       single = b .singles byte small ∙ ap (λ (x : Bool). ltb (2 + byte) k && x) (lead-not-single (entryAt (p .classes) byte) on) ∙ and-none (ltb (2 + byte) k)
 
   step-trail : (byte : ℕ) → byte < 256 → k ≡ 514 + byte → isTrail (entryAt (p .classes) byte) ≡ true
-      → (accepts s (Trail byte) ≡ true) × Before p (k + 1) (after s (Trail byte))
+      → (accepts s (Trail byte) ≡ true) × Before p (k + 1) (afterRecord s (Trail byte))
   unfolding follows
   step-trail byte small at on = (
     later-T (s .letter) (s .key) byte small (b .late) (omega (arith, b .place)),
@@ -244,7 +244,7 @@ module _ (p : CodePage) (good : GoodShape p) (k : ℕ) (s : Progress) (b : Befor
   )
 
   step-pair : (code unit : ℕ) → code < 65536 → k ≡ 770 + code → isLead (entryAt (p .classes) (code / 256)) ≡ true → isTrail (entryAt (p .classes) (code % 256)) ≡ true
-      → (accepts s (Pair code unit) ≡ true) × Before p (k + 1) (after s (Pair code unit))
+      → (accepts s (Pair code unit) ≡ true) × Before p (k + 1) (afterRecord s (Pair code unit))
   unfolding follows
   step-pair code unit small at lead trail = (
     both
@@ -262,7 +262,7 @@ module _ (p : CodePage) (good : GoodShape p) (k : ℕ) (s : Progress) (b : Befor
     },
   )
 
-  step-code : (unit code : ℕ) → unit < 65536 → k ≡ 66306 + unit → (accepts s (Code unit code) ≡ true) × Before p (k + 1) (after s (Code unit code))
+  step-code : (unit code : ℕ) → unit < 65536 → k ≡ 66306 + unit → (accepts s (Code unit code) ≡ true) × Before p (k + 1) (afterRecord s (Code unit code))
   unfolding follows
   step-code unit code small at = (
     later-W (s .letter) (s .key) unit small (b .late) (omega (arith, b .place)),
@@ -280,7 +280,7 @@ module _ (p : CodePage) (good : GoodShape p) (k : ℕ) (s : Progress) (b : Befor
 
 -- ---- the record of a place: it is read back, and accepted; where there is none, nothing is passed over
 abbrev Fine : CodePage → ℕ → Progress → Record → Type 0
-Fine p k s r = (isRecord r ≡ true → (recordOf (recordLine r) ≡ r) × ((accepts s r ≡ true) × Before p (k + 1) (after s r))) × (isRecord r ≡ false → Before p (k + 1) s)
+Fine p k s r = (isRecord r ≡ true → (recordOf (recordLine r) ≡ r) × ((accepts s r ≡ true) × Before p (k + 1) (afterRecord s r))) × (isRecord r ≡ false → Before p (k + 1) s)
 
 module _ (p : CodePage) (good : GoodShape p) (m : InWidths p) (k : ℕ) (s : Progress) (b : Before p k s) where
   skip : ((c : ℕ) → c < 256 → 2 + c ≡ k → isSingle (entryAt (p .classes) c) ≡ false)
@@ -401,8 +401,8 @@ large-after s r t l =
     }
 
 -- large tables fit what has been read
-pub large-fits : (n : Progress) (u t : Tables) → Holds n u → LargeEnough t → fit (sizesOf n) t ≡ true
-unfolding fit sizesOf countHalf blockCount
+pub large-fits : (n : Progress) (u t : Tables) → Holds n u → LargeEnough t → tablesFit (sizesListed n) t ≡ true
+unfolding tablesFit sizesListed countHalf blocksListed
 large-fits n u t h l =
     both
     (both
@@ -416,33 +416,33 @@ large-fits n u t h l =
     by-case false = omega (arith, h .block)
 
 -- a record that is read back, accepted, in tables that fit
-pub read-as : (s : Progress) (r : Record) (t : Tables) → recordOf (recordLine r) ≡ r → accepts s r ≡ true → fit (sizesOf (after s r)) t ≡ true → readOf s (recordLine r) t ≡ reading (Accepted (after s r)) (changeOf s r t)
-unfolding readOf readRecord
+pub read-as : (s : Progress) (r : Record) (t : Tables) → recordOf (recordLine r) ≡ r → accepts s r ≡ true → tablesFit (sizesListed (afterRecord s r)) t ≡ true → lineReading s (recordLine r) t ≡ readingAs (Accepted (afterRecord s r)) (changeOf s r t)
+unfolding lineReading readRecord
 read-as s r t back accepted roomy = ap (λ (q : Record). readRecord s q t) back ∙ rw (accepted, roomy, readRecord)
 
-read-small : (s : Progress) (r : Record) (t : Tables) → recordOf (recordLine r) ≡ r → accepts s r ≡ true → fit (sizesOf (after s r)) t ≡ false → readOf s (recordLine r) t ≡ reading (Refused TooSmall) t
-unfolding readOf readRecord
+read-small : (s : Progress) (r : Record) (t : Tables) → recordOf (recordLine r) ≡ r → accepts s r ≡ true → tablesFit (sizesListed (afterRecord s r)) t ≡ false → lineReading s (recordLine r) t ≡ readingAs (Refused TooSmall) t
+unfolding lineReading readRecord
 read-small s r t back accepted small = ap (λ (q : Record). readRecord s q t) back ∙ rw (accepted, small, readRecord)
 
 -- one line
 record Took (s : Progress) (r : Record) (t : Tables) : Type 0 where
-  reads : readOf s (recordLine r) t ≡ reading (Accepted (after s r)) (changeOf s r t)
-  sound : Sound (after s r) (changeOf s r t)
-  fits : FitsAll (sizesOf (after s r)) t
+  reads : lineReading s (recordLine r) t ≡ readingAs (Accepted (afterRecord s r)) (changeOf s r t)
+  sound : Sound (afterRecord s r) (changeOf s r t)
+  fits : FitsAll (sizesListed (afterRecord s r)) t
 
-take : (s : Progress) (r : Record) (t : Tables) → Sound s t → fit (sizesOf (after s r)) t ≡ true → recordOf (recordLine r) ≡ r → accepts s r ≡ true → Took s r t
-take s r t sound roomy back accepted = record { reads = reads; sound = kept; fits = fit-known (sizesOf (after s r)) (t .classes) (t .singles) (t .pairs) (t .index) (t .blocks) roomy }
+take : (s : Progress) (r : Record) (t : Tables) → Sound s t → tablesFit (sizesListed (afterRecord s r)) t ≡ true → recordOf (recordLine r) ≡ r → accepts s r ≡ true → Took s r t
+take s r t sound roomy back accepted = record { reads = reads; sound = kept; fits = fit-known (sizesListed (afterRecord s r)) (t .classes) (t .singles) (t .pairs) (t .index) (t .blocks) roomy }
   where
-    reads : readOf s (recordLine r) t ≡ reading (Accepted (after s r)) (changeOf s r t)
+    reads : lineReading s (recordLine r) t ≡ readingAs (Accepted (afterRecord s r)) (changeOf s r t)
     reads = read-as s r t back accepted roomy
 
-    kept : Sound (after s r) (changeOf s r t)
-    kept = subst (λ (u : Tables). Sound (after s r) u) (ap (λ (x : Reading). x .lent) reads) (step s t sound (recordLine r) (after s r) (ap (λ (x : Reading). x .answer) reads))
+    kept : Sound (afterRecord s r) (changeOf s r t)
+    kept = subst (λ (u : Tables). Sound (afterRecord s r) u) (ap (λ (x : Reading). x .lent) reads) (step s t sound (recordLine r) (afterRecord s r) (ap (λ (x : Reading). x .answer) reads))
 
 -- where the room for each line comes from: what is known at a place, with so many places left
 pub record Supply (p : CodePage) (G : (count k : ℕ) → Progress → Tables → Type 0) : Type 0 where
   pub line : (count k : ℕ) (s : Progress) (t : Tables) (r : Record) → r ≡ recordAt p k → G (suc count) k s t → isRecord r ≡ true → recordOf (recordLine r) ≡ r → accepts s r ≡ true → Sound s t
-      → (fit (sizesOf (after s r)) t ≡ true) × G count (suc k) (after s r) (changeOf s r t)
+      → (tablesFit (sizesListed (afterRecord s r)) t ≡ true) × G count (suc k) (afterRecord s r) (changeOf s r t)
   pub skip : (count k : ℕ) (s : Progress) (t : Tables) → G (suc count) k s t → isRecord (recordAt p k) ≡ false → G count (suc k) s t
 
 -- from tables large enough for every listing
@@ -450,16 +450,16 @@ pub by-size : (p : CodePage) → Supply p (λ count k s t. LargeEnough t)
 by-size p =
     record {
       line = λ count k s t r e large q back accepted sound.
-          (large-fits (after s r) (changeOf s r t) t (hold-record s t sound r (subst Bounded back (bounded (recordLine r))) accepted (large .classes) (large .index)) large, large-after s r t large);
+          (large-fits (afterRecord s r) (changeOf s r t) t (hold-record s t sound r (subst Bounded back (bounded (recordLine r))) accepted (large .classes) (large .index)) large, large-after s r t large);
       skip = λ count k s t large q. large;
     }
 
 -- from an acceptance of the lines that are left
-pub by-acceptance : (p : CodePage) (s′ : Progress) (t′ : Tables) → Supply p (λ count k s t. readAll s (linesFrom p count k) t ≡ reading (Accepted s′) t′)
+pub by-acceptance : (p : CodePage) (s′ : Progress) (t′ : Tables) → Supply p (λ count k s t. readAll s (linesFrom p count k) t ≡ readingAs (Accepted s′) t′)
 unfolding readAll linesFrom
 by-acceptance p s′ t′ =
     record {
-      line = λ count k s t r e acc q back accepted sound. by-fit count k s t r e acc q back accepted (fit (sizesOf (after s r)) t) refl;
+      line = λ count k s t r e acc q back accepted sound. by-fit count k s t r e acc q back accepted (tablesFit (sizesListed (afterRecord s r)) t) refl;
       skip = λ count k s t acc q. sym (rw q) ∙ acc;
     }
   where
@@ -467,9 +467,9 @@ by-acceptance p s′ t′ =
     first count k s t r e q = ap (λ (x : Record). pick (isRecord x) (recordLine x ∷ linesFrom p count (suc k)) (linesFrom p count (suc k))) (sym e) ∙ rw q
 
     by-fit : (count k : ℕ) (s : Progress) (t : Tables) (r : Record) → r ≡ recordAt p k
-        → readAll s (pick (isRecord (recordAt p k)) (recordLine (recordAt p k) ∷ linesFrom p count (suc k)) (linesFrom p count (suc k))) t ≡ reading (Accepted s′) t′
-        → isRecord r ≡ true → recordOf (recordLine r) ≡ r → accepts s r ≡ true → (b : Bool) → fit (sizesOf (after s r)) t ≡ b
-        → (fit (sizesOf (after s r)) t ≡ true) × (readAll (after s r) (linesFrom p count (suc k)) (changeOf s r t) ≡ reading (Accepted s′) t′)
+        → readAll s (pick (isRecord (recordAt p k)) (recordLine (recordAt p k) ∷ linesFrom p count (suc k)) (linesFrom p count (suc k))) t ≡ readingAs (Accepted s′) t′
+        → isRecord r ≡ true → recordOf (recordLine r) ≡ r → accepts s r ≡ true → (b : Bool) → tablesFit (sizesListed (afterRecord s r)) t ≡ b
+        → (tablesFit (sizesListed (afterRecord s r)) t ≡ true) × (readAll (afterRecord s r) (linesFrom p count (suc k)) (changeOf s r t) ≡ readingAs (Accepted s′) t′)
     by-fit count k s t r e acc q back accepted true w = (
       w,
       sym (ap (λ (x : Reading). thenRead (x .answer) (x .lent) (λ n u. readAll n (linesFrom p count (suc k)) u)) (read-as s r t back accepted w))
@@ -485,21 +485,21 @@ by-acceptance p s′ t′ =
 
 -- what is asked of the tables at a place, kept by every record and where there is none
 pub record Keeps (p : CodePage) (Q : ℕ → Tables → Type 0) : Type 0 where
-  pub starts : (s : Progress) (page : ℕ) (t : Tables) → FitsAll (sizesOf (afterPage page)) t → Q 2 (changeOf s (Page page) t)
-  pub record-kept : (k : ℕ) (s : Progress) (t : Tables) → 2 ≤ k → k < 131842 → Before p k s → Sound s t → FitsAll (sizesOf (after s (recordAt p k))) t → Q k t → isRecord (recordAt p k) ≡ true → Q (k + 1) (changeOf s (recordAt p k) t)
+  pub starts : (s : Progress) (page : ℕ) (t : Tables) → FitsAll (sizesListed (afterPage page)) t → Q 2 (changeOf s (Page page) t)
+  pub record-kept : (k : ℕ) (s : Progress) (t : Tables) → 2 ≤ k → k < 131842 → Before p k s → Sound s t → FitsAll (sizesListed (afterRecord s (recordAt p k))) t → Q k t → isRecord (recordAt p k) ≡ true → Q (k + 1) (changeOf s (recordAt p k) t)
   pub none-kept : (k : ℕ) (t : Tables) → 2 ≤ k → k < 131842 → Q k t → isRecord (recordAt p k) ≡ false → Q (k + 1) t
 
 -- what a whole reading arrives at
 pub record Arrived (p : CodePage) (Q : ℕ → Tables → Type 0) (s : Progress) (lines : List (List ℕ)) (t : Tables) : Type 0 where
   pub state : Progress
   pub lent : Tables
-  pub accepted : readAll s lines t ≡ reading (Accepted state) lent
+  pub accepted : readAll s lines t ≡ readingAs (Accepted state) lent
   pub before : Before p places state
   pub sound : Sound state lent
   pub kept : Q places lent
 
 module _ (p : CodePage) (good : GoodShape p) (m : InWidths p) (Q : ℕ → Tables → Type 0) (keeps : Keeps p Q) (G : (count k : ℕ) → Progress → Tables → Type 0) (supply : Supply p G) where
-  arrive-line : (s : Progress) (r : Record) (lines : List (List ℕ)) (t : Tables) → Took s r t → Arrived p Q (after s r) lines (changeOf s r t) → Arrived p Q s (recordLine r ∷ lines) t
+  arrive-line : (s : Progress) (r : Record) (lines : List (List ℕ)) (t : Tables) → Took s r t → Arrived p Q (afterRecord s r) lines (changeOf s r t) → Arrived p Q s (recordLine r ∷ lines) t
   unfolding readAll
   arrive-line s r lines t took a =
       record {
@@ -518,15 +518,15 @@ module _ (p : CodePage) (good : GoodShape p) (m : InWidths p) (Q : ℕ → Table
       → ((n : Progress) (u : Tables) → Before p (suc k) n → Sound n u → G count (suc k) n u → Q (suc k) u → Arrived p Q n (linesFrom p count (suc k)) u) → Arrived p Q s (recordLine (recordAt p k) ∷ linesFrom p count (suc k)) t
   line-arrives count k s t l h b sound g here q more =
       arrive-line s r (linesFrom p count (suc k)) t took
-      (more (after s r) (changeOf s r t) (next-place k (after s r) (known .1 .1)) (took .sound) (room .1) (subst (λ (i : ℕ). Q i (changeOf s r t)) (add-one k) (keeps .record-kept k s t l h b sound (took .fits) here q)))
+      (more (afterRecord s r) (changeOf s r t) (next-place k (afterRecord s r) (known .1 .1)) (took .sound) (room .1) (subst (λ (i : ℕ). Q i (changeOf s r t)) (add-one k) (keeps .record-kept k s t l h b sound (took .fits) here q)))
     where
       r : Record
       r = recordAt p k
 
-      known : (recordOf (recordLine (recordAt p k)) ≡ recordAt p k) × ((accepts s (recordAt p k) ≡ true) × Before p (k + 1) (after s (recordAt p k)))
+      known : (recordOf (recordLine (recordAt p k)) ≡ recordAt p k) × ((accepts s (recordAt p k) ≡ true) × Before p (k + 1) (afterRecord s (recordAt p k)))
       known = fine p good m k s b l h .0 q
 
-      room : (fit (sizesOf (after s (recordAt p k))) t ≡ true) × G count (suc k) (after s (recordAt p k)) (changeOf s (recordAt p k) t)
+      room : (tablesFit (sizesListed (afterRecord s (recordAt p k))) t ≡ true) × G count (suc k) (afterRecord s (recordAt p k)) (changeOf s (recordAt p k) t)
       room = supply .line count k s t (recordAt p k) refl g q (known .0) (known .1 .0) sound
 
       took : Took s (recordAt p k) t
@@ -549,7 +549,7 @@ module _ (p : CodePage) (good : GoodShape p) (m : InWidths p) (Q : ℕ → Table
       by-record more false q = rw q (more s t (next-place k s (fine p good m k s b l (omega arith) .1 q)) sound (supply .skip count k s t g q) (subst (λ (i : ℕ). Q i t) (add-one k) (keeps .none-kept k t l (omega arith) here q)))
 
   -- ---- the first two lines
-  first-place : (page byte unit : ℕ) (s : Progress) → page ≡ p .page → byte ≡ p .defaultByte → unit ≡ p .defaultUnit → Before p 2 (after (afterPage page) (Defaults byte unit))
+  first-place : (page byte unit : ℕ) (s : Progress) → page ≡ p .page → byte ≡ p .defaultByte → unit ≡ p .defaultUnit → Before p 2 (afterRecord (afterPage page) (Defaults byte unit))
   first-place page byte unit s e f g =
       record {
         late = omega arith;
@@ -567,7 +567,7 @@ module _ (p : CodePage) (good : GoodShape p) (m : InWidths p) (Q : ℕ → Table
   begin n e s t start g =
       arrive-line s (Page (p .page)) (recordLine (Defaults (p .defaultByte) (p .defaultUnit)) ∷ linesFrom p n 2) t first
       (arrive-line (afterPage (p .page)) (Defaults (p .defaultByte) (p .defaultUnit)) (linesFrom p n 2) (changeOf s (Page (p .page)) t) second
-      (every-place n 2 (after (afterPage (p .page)) (Defaults (p .defaultByte) (p .defaultUnit))) (changeOf (afterPage (p .page)) (Defaults (p .defaultByte) (p .defaultUnit)) (changeOf s (Page (p .page)) t)) e (omega arith)
+      (every-place n 2 (afterRecord (afterPage (p .page)) (Defaults (p .defaultByte) (p .defaultUnit))) (changeOf (afterPage (p .page)) (Defaults (p .defaultByte) (p .defaultUnit)) (changeOf s (Page (p .page)) t)) e (omega arith)
       (first-place (p .page) (p .defaultByte) (p .defaultUnit) s refl refl refl)
       (second .sound)
       (room₂ .1) (keeps .starts s (p .page) t (first .fits))))
@@ -582,14 +582,14 @@ module _ (p : CodePage) (good : GoodShape p) (m : InWidths p) (Q : ℕ → Table
       none-yet : Sound s t
       none-yet h = absurd (omega (arith, ap rank start))
 
-      room₁ : (fit (sizesOf (afterPage (p .page))) t ≡ true) × G (suc n) 1 (afterPage (p .page)) (changeOf s (Page (p .page)) t)
+      room₁ : (tablesFit (sizesListed (afterPage (p .page))) t ≡ true) × G (suc n) 1 (afterPage (p .page)) (changeOf s (Page (p .page)) t)
       room₁ = supply .line (suc n) 0 s t (Page (p .page)) refl g refl (read-page (p .page) some-page (m .page)) (eq-eqb (rank (s .letter)) 0 (ap rank start)) none-yet
 
       first : Took s (Page (p .page)) t
       first = take s (Page (p .page)) t none-yet (room₁ .0) (read-page (p .page) some-page (m .page)) (eq-eqb (rank (s .letter)) 0 (ap rank start))
 
-      room₂ : (fit (sizesOf (after (afterPage (p .page)) (Defaults (p .defaultByte) (p .defaultUnit)))) (changeOf s (Page (p .page)) t) ≡ true)
-          × G n 2 (after (afterPage (p .page)) (Defaults (p .defaultByte) (p .defaultUnit))) (changeOf s (Page (p .page)) t)
+      room₂ : (tablesFit (sizesListed (afterRecord (afterPage (p .page)) (Defaults (p .defaultByte) (p .defaultUnit)))) (changeOf s (Page (p .page)) t) ≡ true)
+          × G n 2 (afterRecord (afterPage (p .page)) (Defaults (p .defaultByte) (p .defaultUnit))) (changeOf s (Page (p .page)) t)
       room₂ = supply .line n 1 (afterPage (p .page)) (changeOf s (Page (p .page)) t) (Defaults (p .defaultByte) (p .defaultUnit)) refl (room₁ .1) refl (read-defaults (p .defaultByte) (p .defaultUnit) (m .byte) (m .unit)) refl (first .sound)
 
       second : Took (afterPage (p .page)) (Defaults (p .defaultByte) (p .defaultUnit)) (changeOf s (Page (p .page)) t)

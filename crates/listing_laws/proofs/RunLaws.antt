@@ -15,7 +15,7 @@ use Rattle.listing.specs.declared.Record.the-variants.{Page, Defaults, Single, 
 use Rattle.lister.specs.declared.Cursor.{Cursor}
 use Rattle.lister.specs.declared.Listed.the-variants.{Line, Done}
 use Rattle.lister.specs.Lines.{decimalText, pageText, unitText, singleText, recordLine}
-use Rattle.lister.specs.Lister.{places, recordAt, isRecord, NextLine, unwritten, listRecord, listOf, firstLine}
+use Rattle.lister.specs.Lister.{places, recordAt, isRecord, NextLine, noLine, listRecord, listOf, firstLine}
 use Rattle.lister.proofs.PlaceLaws.{next-end, next-here, next-turn}
 use Rattle.listing_laws.specs.Round.{linesFrom, wholeListing}
 use Rattle.listing_laws.specs.Run.{lineThen, thenWrite, writeAll}
@@ -59,7 +59,7 @@ module _ (p : CodePage) (good : GoodShape p) (room : ℕ) (roomy : 12 ≤ room) 
   abbrev at : Cursor
   at = record { place = place }
 
-  call-done : places ≤ place → listOf p at room ≡ unwritten Done
+  call-done : places ≤ place → listOf p at room ≡ noLine Done
   unfolding listOf
   call-done h = rw (shaped, next-end p place h, le-leb places place h)
 

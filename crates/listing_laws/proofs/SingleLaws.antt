@@ -13,7 +13,7 @@ use Rattle.codepage.specs.Reading.{byteAlone}
 use Rattle.listing.specs.declared.Progress.{Progress}
 use Rattle.listing.specs.declared.Record.{Record}
 use Rattle.listing.specs.declared.Record.the-variants.{Single, NoRecord}
-use Rattle.listing.specs.Order.{after, sizesOf}
+use Rattle.listing.specs.Order.{afterRecord, sizesListed}
 use Rattle.listing.specs.Tables.{Tables, changeOf}
 use Rattle.lister.specs.Lister.{singleAt, leadAt, trailAt, pairAt, codeAt, recordAt, isRecord}
 use Rattle.listing_laws.proofs.RoundLaws.{FitsAll, Keeps}
@@ -78,8 +78,8 @@ single-kept p k s t l long held q c h less on = by-part (ltb k 258) refl
     by-part false w = ap (λ (x : List ℕ). entryAt x c) (later-leaves p s t k (ltb-false k 258 w)) ∙ held c h (omega (arith, ltb-false k 258 w)) on
 
 -- tables that fit have all singles
-wide : (n : Progress) (t : Tables) → FitsAll (sizesOf n) t → 256 ≤ length (t .singles)
-unfolding sizesOf
+wide : (n : Progress) (t : Tables) → FitsAll (sizesListed n) t → 256 ≤ length (t .singles)
+unfolding sizesListed
 wide n t f = f .singles-fit
 
 -- the characters of singles are kept
@@ -87,7 +87,7 @@ pub singles-keep : (p : CodePage) → Keeps p (Singles p)
 singles-keep p =
     record {
       starts = λ s page t fits c h less on. absurd (omega arith);
-      record-kept = λ k s t l h b sound fits held q. single-kept p k s t l (wide (after s (recordAt p k)) t fits) held q;
+      record-kept = λ k s t l h b sound fits held q. single-kept p k s t l (wide (afterRecord s (recordAt p k)) t fits) held q;
       none-kept = λ k t l h held q c small less on. by-place p k t held q c small less on (eqb (2 + c) k) refl;
     }
   where

@@ -12,8 +12,8 @@ use Rattle.codepage_lookup.specs.Profile.{unitEntry}
 use Rattle.listing.specs.declared.Progress.{Progress}
 use Rattle.listing.specs.declared.Record.{Record}
 use Rattle.listing.specs.declared.Record.the-variants.{Page, Code, NoRecord}
-use Rattle.listing.specs.Order.{accepts, afterPage, after, blockCount, sizesOf}
-use Rattle.listing.specs.Steps.{Ready}
+use Rattle.listing.specs.Order.{accepts, afterPage, afterRecord, blocksListed, sizesListed}
+use Rattle.listing.specs.Steps.{RecordReady}
 use Rattle.listing.proofs.ChangeLaws.{code-room}
 use Rattle.listing.specs.Tables.{Tables, filled, changeOf}
 use Rattle.lister.specs.Lister.{singleAt, leadAt, trailAt, pairAt, codeAt, recordAt, isRecord}
@@ -32,12 +32,12 @@ abbrev pub Codes : CodePage → ℕ → Tables → Type 0
 Codes p k t = (u : ℕ) → u < 65536 → unitEntry (t .index) (t .blocks) u ≡ pick (ltb (66306 + u) k) (codeIn p u) 0xFFFF
 
 -- tables that fit have the whole index, and the block of a code
-wide-index : (n : Progress) (t : Tables) → FitsAll (sizesOf n) t → 256 ≤ length (t .index)
-unfolding sizesOf
+wide-index : (n : Progress) (t : Tables) → FitsAll (sizesListed n) t → 256 ≤ length (t .index)
+unfolding sizesListed
 wide-index n t f = f .index-fit
 
-one-block : (page : ℕ) (t : Tables) → FitsAll (sizesOf (afterPage page)) t → 256 ≤ length (t .blocks)
-unfolding sizesOf blockCount
+one-block : (page : ℕ) (t : Tables) → FitsAll (sizesListed (afterPage page)) t → 256 ≤ length (t .blocks)
+unfolding sizesListed blocksListed
 one-block page t f = f .blocks-fit
 
 module _ (p : CodePage) where
@@ -94,7 +94,7 @@ module _ (p : CodePage) where
       (leaves-pick s t (isLead (entryAt (p .classes) ((k - 770) / 256)) && isTrail (entryAt (p .classes) ((k - 770) % 256))) _ _
       (leaves-pick s t (eqb (entryAt (p .pairs) (256 * leadsBelow (p .classes) ((k - 770) / 256) + (k - 770) % 256)) 0xFFFF) _ _ (refl, refl) (refl, refl)) (refl, refl)))))
 
-  module _ (good : GoodShape p) (m : InWidths p) (k : ℕ) (s : Progress) (t : Tables) (late : 2 ≤ k) (most : k < 131842) (b : Before p k s) (sound : Sound s t) (fits : FitsAll (sizesOf (after s (recordAt p k))) t) (held : Codes p k t) (q : isRecord (recordAt p k) ≡ true) where
+  module _ (good : GoodShape p) (m : InWidths p) (k : ℕ) (s : Progress) (t : Tables) (late : 2 ≤ k) (most : k < 131842) (b : Before p k s) (sound : Sound s t) (fits : FitsAll (sizesListed (afterRecord s (recordAt p k))) t) (held : Codes p k t) (q : isRecord (recordAt p k) ≡ true) where
     early-kept : k < 66306 → Codes p (k + 1) (changeOf s (recordAt p k) t)
     early-kept h u k₁ =
         let same = early-leaves s t k late h in
@@ -113,14 +113,14 @@ module _ (p : CodePage) where
         accepted : accepts s (Code c (codeIn p c)) ≡ true
         accepted = ap (accepts s) (sym here) ∙ fine p good m k s b late most .0 q .1 .0
 
-        fits-code : FitsAll (sizesOf (after s (Code c (codeIn p c)))) t
-        fits-code = subst (λ (r : Record). FitsAll (sizesOf (after s r)) t) here fits
+        fits-code : FitsAll (sizesListed (afterRecord s (Code c (codeIn p c)))) t
+        fits-code = subst (λ (r : Record). FitsAll (sizesListed (afterRecord s r)) t) here fits
 
-        ready : Ready s (after s (Code c (codeIn p c))) (Code c (codeIn p c)) (t .classes) (t .singles) (t .pairs) (t .index) (t .blocks)
+        ready : RecordReady s (afterRecord s (Code c (codeIn p c))) (Code c (codeIn p c)) (t .classes) (t .singles) (t .pairs) (t .index) (t .blocks)
         ready = record { accepted = accepted; next = refl; fits = fits-code }
 
         put : CodePut s t c (codeIn p c)
-        put = code-put s t (sound (omega (arith, b .late)) .numbers) c (codeIn p c) h accepted (wide-index (after s (Code c (codeIn p c))) t fits-code) (code-room ready c (codeIn p c) refl)
+        put = code-put s t (sound (omega (arith, b .late)) .numbers) c (codeIn p c) h accepted (wide-index (afterRecord s (Code c (codeIn p c))) t fits-code) (code-room ready c (codeIn p c) refl)
 
         by-unit : (x : Bool) → eqb u c ≡ x → pick (eqb u c) (codeIn p c) (unitEntry (t .index) (t .blocks) u) ≡ pick (ltb (66306 + u) (k + 1)) (codeIn p u) 0xFFFF
         by-unit true o =
@@ -138,7 +138,7 @@ module _ (p : CodePage) where
         by-size false w = code-kept (k - 66306) (omega (arith, ltb-false k 66306 w)) (omega (arith, ltb-false k 66306 w)) (eqb (codeIn p (k - 66306)) 0xFFFF) refl
 
   -- once `P` was read no unit has a code
-  codes-start : (s : Progress) (page : ℕ) (t : Tables) → FitsAll (sizesOf (afterPage page)) t → Codes p 2 (changeOf s (Page page) t)
+  codes-start : (s : Progress) (page : ℕ) (t : Tables) → FitsAll (sizesListed (afterPage page)) t → Codes p 2 (changeOf s (Page page) t)
   codes-start s page t fits u h =
       let zero-there : entryAt (filled (t .index) 0 256 0) (u / 256) ≡ 0 = filled-front (t .index) 256 0 (u / 256) (omega arith) (wide-index (afterPage page) t fits) in
       let place : 256 * entryAt (filled (t .index) 0 256 0) (u / 256) + u % 256 ≡ u % 256 = omega (arith, zero-there) in

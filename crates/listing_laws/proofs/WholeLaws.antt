@@ -18,10 +18,10 @@ use Rattle.listing.specs.declared.Record.the-variants.{Page, Defaults, Single, 
 use Rattle.listing.specs.declared.Read.{Read}
 use Rattle.listing.specs.declared.Read.the-variants.{Accepted, Refused}
 use Rattle.listing.specs.Sets.{countHalf, inBytes}
-use Rattle.listing.specs.Order.{rank, isListedLead, accepts, after, isNewHigh, codeBlock, blockCount, sizesOf, classOf}
+use Rattle.listing.specs.Order.{rank, isListedLead, accepts, afterRecord, isNewHigh, codeBlock, blocksListed, sizesListed, classOf}
 use Rattle.listing.specs.Form.{recordOf}
-use Rattle.listing.specs.Steps.{Fits, Ready}
-use Rattle.listing.specs.Tables.{Tables, filled, opened, changeOf, fit, Reading, reading, readRecord, readOf, endOf}
+use Rattle.listing.specs.Steps.{Fits, RecordReady}
+use Rattle.listing.specs.Tables.{Tables, filled, openedBlock, changeOf, tablesFit, Reading, readingAs, readRecord, lineReading, listingEnd}
 use Rattle.codepage.specs.declared.Numbers.{Numbers}
 use Rattle.listing.specs.declared.Sizes.{Sizes}
 use Rattle.listing.specs.declared.Refusal.{Refusal}
@@ -77,7 +77,7 @@ leads-tally classes (suc n) h = by-class (isLead (entryAt classes n)) refl (lead
 pub record Kept (s : Progress) (t : Tables) : Type 0 where
   pub holds : Holds s t
   pub numbers : NumberedBy s t
-  pub fits : Fits (sizesOf s) (t .classes) (t .singles) (t .pairs) (t .index) (t .blocks)
+  pub fits : Fits (sizesListed s) (t .classes) (t .singles) (t .pairs) (t .index) (t .blocks)
 
 abbrev pub Sound : Progress → Tables → Type 0
 Sound s t = 1 ≤ rank (s .letter) → Kept s t
@@ -85,7 +85,7 @@ Sound s t = 1 ≤ rank (s .letter) → Kept s t
 -- an accepted record in tables that fit
 module _ (s : Progress) (t : Tables) (sound : Sound s t) where
   -- what holds is kept by every accepted record
-  pub hold-record : (r : Record) → Bounded r → accepts s r ≡ true → 256 ≤ length (t .classes) → 256 ≤ length (t .index) → Holds (after s r) (changeOf s r t)
+  pub hold-record : (r : Record) → Bounded r → accepts s r ≡ true → 256 ≤ length (t .classes) → 256 ≤ length (t .index) → Holds (afterRecord s r) (changeOf s r t)
   hold-record (Page page) b e long wide = hold-page s page t b long wide
   hold-record (Defaults byte unit) b e long wide = hold-defaults s t (sound (omega (arith, eqb-true (rank (s .letter)) 1 e)) .holds) byte unit e
   hold-record (Single byte unit) b e long wide = hold-single s t (sound (omega (arith, follows-late s S byte e)) .holds) byte unit b long e
@@ -100,8 +100,8 @@ pick-length : (t : Bool) (a b : List ℕ) (n : ℕ) → length a ≡ n → lengt
 pick-length true a b n x y = x
 pick-length false a b n x y = y
 
-opened-length : (blocks : List ℕ) (block : ℕ) → length (opened blocks block) ≡ length blocks
-unfolding opened
+opened-length : (blocks : List ℕ) (block : ℕ) → length (openedBlock blocks block) ≡ length blocks
+unfolding openedBlock
 opened-length blocks block = pick-length (eqb block 0) blocks (filled blocks (256 * block) 256 0xFFFF) (length blocks) refl (filled-length blocks (256 * block) 256 0xFFFF)
 
 pub record SameSizes (t u : Tables) : Type 0 where
@@ -125,7 +125,7 @@ same-sizes s (Code unit code) t =
       singles = refl;
       pairs = refl;
       index = pick-length (isNewHigh s unit) (set (t .index) (unit / 256) (codeBlock s unit)) (t .index) (length (t .index)) (length-set (t .index) (unit / 256) (codeBlock s unit)) refl;
-      blocks = simp length-set (pick-length (isNewHigh s unit) (opened (t .blocks) (codeBlock s unit)) (t .blocks) (length (t .blocks)) (opened-length (t .blocks) (codeBlock s unit)) refl);
+      blocks = simp length-set (pick-length (isNewHigh s unit) (openedBlock (t .blocks) (codeBlock s unit)) (t .blocks) (length (t .blocks)) (opened-length (t .blocks) (codeBlock s unit)) refl);
     }
 same-sizes s NoRecord t = record { classes = refl; singles = refl; pairs = refl; index = refl; blocks = refl }
 
@@ -134,8 +134,8 @@ pub accepted-same : {s u : Progress} → Accepted s ≡ Accepted u → s ≡ u
 accepted-same e = cc
 
 module _ (s : Progress) (t : Tables) (sound : Sound s t) where
-  kept : (r : Record) → Bounded r → Fits (sizesOf (after s r)) (t .classes) (t .singles) (t .pairs) (t .index) (t .blocks) → accepts s r ≡ true → Kept (after s r) (changeOf s r t)
-  unfolding sizesOf
+  kept : (r : Record) → Bounded r → Fits (sizesListed (afterRecord s r)) (t .classes) (t .singles) (t .pairs) (t .index) (t .blocks) → accepts s r ≡ true → Kept (afterRecord s r) (changeOf s r t)
+  unfolding sizesListed
   kept r bound roomy q =
       record {
         holds = hold-record s t sound r bound q (roomy .classes-fit) (roomy .index-fit);
@@ -150,14 +150,14 @@ module _ (s : Progress) (t : Tables) (sound : Sound s t) where
             };
       }
     where
-      ready : Ready s (after s r) r (t .classes) (t .singles) (t .pairs) (t .index) (t .blocks)
+      ready : RecordReady s (afterRecord s r) r (t .classes) (t .singles) (t .pairs) (t .index) (t .blocks)
       ready = record { accepted = q; next = refl; fits = roomy }
 
   step-record : (r : Record) → Bounded r → (u : Progress) → readRecord s r t .answer ≡ Accepted u → Sound u (readRecord s r t .lent)
   unfolding readRecord
-  step-record r bound u e = by-case (accepts s r) refl (fit (sizesOf (after s r)) t) refl
+  step-record r bound u e = by-case (accepts s r) refl (tablesFit (sizesListed (afterRecord s r)) t) refl
     where
-      by-case : (a : Bool) → accepts s r ≡ a → (b : Bool) → fit (sizesOf (after s r)) t ≡ b → Sound u (readRecord s r t .lent)
+      by-case : (a : Bool) → accepts s r ≡ a → (b : Bool) → tablesFit (sizesListed (afterRecord s r)) t ≡ b → Sound u (readRecord s r t .lent)
       by-case false q b w = let z : _≡_ {A = ℕ} 0 1 = refused (sym (rw (q, readRecord)) ∙ e) in absurd (omega arith)
         where
           refused : Refused BadLine ≡ Accepted u → _≡_ {A = ℕ} 0 1
@@ -167,17 +167,17 @@ module _ (s : Progress) (t : Tables) (sound : Sound s t) where
           refused : Refused TooSmall ≡ Accepted u → _≡_ {A = ℕ} 0 1
           refused x = cc
       by-case true q true w =
-          let same : after s r ≡ u = accepted-same (sym (rw (q, w, readRecord)) ∙ e) in
-          let roomy : Fits (sizesOf (after s r)) (t .classes) (t .singles) (t .pairs) (t .index) (t .blocks) = fit-known (sizesOf (after s r)) (t .classes) (t .singles) (t .pairs) (t .index) (t .blocks) w in
+          let same : afterRecord s r ≡ u = accepted-same (sym (rw (q, w, readRecord)) ∙ e) in
+          let roomy : Fits (sizesListed (afterRecord s r)) (t .classes) (t .singles) (t .pairs) (t .index) (t .blocks) = fit-known (sizesListed (afterRecord s r)) (t .classes) (t .singles) (t .pairs) (t .index) (t .blocks) w in
           λ late. rw (q, w, readRecord) (subst (λ (n : Progress). Kept n (changeOf s r t)) same (kept r bound roomy q))
 
   -- and by every accepted line
-  pub step : (line : List ℕ) (u : Progress) → readOf s line t .answer ≡ Accepted u → Sound u (readOf s line t .lent)
-  unfolding readOf
+  pub step : (line : List ℕ) (u : Progress) → lineReading s line t .answer ≡ Accepted u → Sound u (lineReading s line t .lent)
+  unfolding lineReading
   step line u e = step-record (recordOf line) (bounded line) u e
 
 -- equal readings have equal parts
-pub reading-same : {a b : Read} {t u : Tables} → reading a t ≡ reading b u → (a ≡ b) × (t ≡ u)
+pub reading-same : {a b : Read} {t u : Tables} → readingAs a t ≡ readingAs b u → (a ≡ b) × (t ≡ u)
 reading-same e = (ap (λ (r : Reading). r .answer) e, ap (λ (r : Reading). r .lent) e)
 
 -- a refusal is no acceptance
@@ -185,22 +185,22 @@ pub refused-not : {why : Refusal} {u : Progress} → Refused why ≡ Accepted u 
 refused-not {why} {u} e = let z : _≡_ {A = ℕ} 0 1 = cc in omega arith
 
 -- and by every accepted listing
-pub every-line : (lines : List (List ℕ)) (s : Progress) (t : Tables) → Sound s t → (s′ : Progress) (t′ : Tables) → readAll s lines t ≡ reading (Accepted s′) t′ → Sound s′ t′
+pub every-line : (lines : List (List ℕ)) (s : Progress) (t : Tables) → Sound s t → (s′ : Progress) (t′ : Tables) → readAll s lines t ≡ readingAs (Accepted s′) t′ → Sound s′ t′
 unfolding readAll
 every-line [] s t sound s′ t′ e =
     subst (λ (u : Tables). Sound s′ u) (reading-same e .1) (subst (λ (n : Progress). Sound n t) (accepted-same (reading-same e .0)) sound)
 every-line (line ∷ lines) s t sound s′ t′ e =
-    by-answer (λ u k. every-line lines u (readOf s line t .lent) (step s t sound line u k) s′ t′) (readOf s line t .answer) refl e
+    by-answer (λ u k. every-line lines u (lineReading s line t .lent) (step s t sound line u k) s′ t′) (lineReading s line t .answer) refl e
   where
-    by-answer : ((u : Progress) → readOf s line t .answer ≡ Accepted u → readAll u lines (readOf s line t .lent) ≡ reading (Accepted s′) t′ → Sound s′ t′)
-        → (a : Read) → readOf s line t .answer ≡ a → thenRead a (readOf s line t .lent) (λ n v. readAll n lines v) ≡ reading (Accepted s′) t′ → Sound s′ t′
+    by-answer : ((u : Progress) → lineReading s line t .answer ≡ Accepted u → readAll u lines (lineReading s line t .lent) ≡ readingAs (Accepted s′) t′ → Sound s′ t′)
+        → (a : Read) → lineReading s line t .answer ≡ a → thenRead a (lineReading s line t .lent) (λ n v. readAll n lines v) ≡ readingAs (Accepted s′) t′ → Sound s′ t′
     by-answer more (Accepted u) q k = more u q k
     by-answer more (Refused why) q k = absurd (refused-not (reading-same k .0))
 
 -- ---- the shape
 module _ (s : Progress) (t : Tables) (kept : Kept s t) where
-  small-count : blockCount s ≤ 256
-  unfolding blockCount
+  small-count : blocksListed s ≤ 256
+  unfolding blocksListed
   small-count = by-case (eqb (rank (s .letter)) 7 && eqb (s .block) 0)
     where
       by-case : (b : Bool) → pick b 256 (s .block + 1) ≤ 256
@@ -211,7 +211,7 @@ module _ (s : Progress) (t : Tables) (kept : Kept s t) where
   same-class byte h = getD-take 256 (t .classes) byte 0 h ∙ kept .holds .classes byte h
 
   long : 256 ≤ length (t .classes)
-  unfolding sizesOf
+  unfolding sizesListed
   long = kept .fits .classes-fit
 
   lead-count : leads (take 256 (t .classes)) ≡ countHalf (s .leads)
@@ -225,41 +225,41 @@ module _ (s : Progress) (t : Tables) (kept : Kept s t) where
   low-lead byte h = rw (lt-leb 0x80 byte h)
 
   -- what holds is a good shape
-  pub good-shape : GoodShape (cutSet (s .numbers) (sizesOf s) t)
-  unfolding cutSet sizesOf
+  pub good-shape : GoodShape (cutSet (s .numbers) (sizesListed s) t)
+  unfolding cutSet sizesListed
   good-shape =
-      let blocks-long : length (take (256 * blockCount s) (t .blocks)) ≡ 256 * blockCount s = length-take-le (256 * blockCount s) (t .blocks) (kept .fits .blocks-fit) in
+      let blocks-long : length (take (256 * blocksListed s) (t .blocks)) ≡ 256 * blocksListed s = length-take-le (256 * blocksListed s) (t .blocks) (kept .fits .blocks-fit) in
       record {
         page = kept .holds .page;
         classes = length-take-le 256 (t .classes) (kept .fits .classes-fit);
         singles = length-take-le 256 (t .singles) (kept .fits .singles-fit);
         pairs = length-take-le (256 * countHalf (s .leads)) (t .pairs) (kept .fits .pairs-fit) ∙ ap (λ (n : ℕ). 256 * n) (sym lead-count);
         index = length-take-le 256 (t .index) (kept .fits .index-fit);
-        blocks = (blockCount s, some-block s, small-count, blocks-long);
+        blocks = (blocksListed s, some-block s, small-count, blocks-long);
         class = λ byte h. ap isKnown (same-class byte h) ∙ class-known s byte;
         low = λ byte h. ap isLead (same-class byte (omega arith)) ∙ class-lead s byte ∙ low-lead byte h;
         number = λ high h. omega (arith, blocks-long, getD-take 256 (t .index) high 0 h, kept .holds .index high h);
       }
 
 -- an end that is whole: `D` was read, and these are the numbers and sizes
-pub end-whole : (s : Progress) (numbers : Numbers) (sizes : Sizes) → endOf s ≡ ended.Whole numbers sizes → (2 ≤ rank (s .letter)) × ((s .numbers ≡ numbers) × (sizesOf s ≡ sizes))
-unfolding endOf
+pub end-whole : (s : Progress) (numbers : Numbers) (sizes : Sizes) → listingEnd s ≡ ended.Whole numbers sizes → (2 ≤ rank (s .letter)) × ((s .numbers ≡ numbers) × (sizesListed s ≡ sizes))
+unfolding listingEnd
 end-whole s numbers sizes f = by-letter (leb 2 (rank (s .letter))) refl
   where
-    whole-same : ended.Whole (s .numbers) (sizesOf s) ≡ ended.Whole numbers sizes → (s .numbers ≡ numbers) × (sizesOf s ≡ sizes)
+    whole-same : ended.Whole (s .numbers) (sizesListed s) ≡ ended.Whole numbers sizes → (s .numbers ≡ numbers) × (sizesListed s ≡ sizes)
     whole-same k = (cc, cc)
 
     unfinished : ended.Refused BadLine ≡ ended.Whole numbers sizes → ⊥
     unfinished k = let z : _≡_ {A = ℕ} 0 1 = cc in omega arith
 
-    by-letter : (b : Bool) → leb 2 (rank (s .letter)) ≡ b → (2 ≤ rank (s .letter)) × ((s .numbers ≡ numbers) × (sizesOf s ≡ sizes))
+    by-letter : (b : Bool) → leb 2 (rank (s .letter)) ≡ b → (2 ≤ rank (s .letter)) × ((s .numbers ≡ numbers) × (sizesListed s ≡ sizes))
     by-letter true q = (leb-true 2 (rank (s .letter)) q, whole-same (sym (rw q) ∙ f))
     by-letter false q = absurd (unfinished (sym (rw q) ∙ f))
 
 -- THE SHAPE: a whole listing that is accepted from its first line to its end gives, each table cut to the size needed, a good
 -- shape.
 pub listing-shape : (lines : List (List ℕ)) (s : Progress) (t : Tables) (s′ : Progress) (t′ : Tables) (numbers : Numbers) (sizes : Sizes)
-    → s .letter ≡ Start → readAll s lines t ≡ reading (Accepted s′) t′ → endOf s′ ≡ ended.Whole numbers sizes → GoodShape (cutSet numbers sizes t′)
+    → s .letter ≡ Start → readAll s lines t ≡ readingAs (Accepted s′) t′ → listingEnd s′ ≡ ended.Whole numbers sizes → GoodShape (cutSet numbers sizes t′)
 listing-shape lines s t s′ t′ numbers sizes start e f =
     let (late, same) = end-whole s′ numbers sizes f in
     subst (λ (n : Numbers). GoodShape (cutSet n sizes t′)) (same .0)

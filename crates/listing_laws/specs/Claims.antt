@@ -14,8 +14,8 @@ use Rattle.listing.specs.declared.Refusal.the-variants.{BadLine, TooSmall}
 use Rattle.listing.specs.declared.Read.the-variants.{Accepted}
 use Rattle.listing.specs.declared.Ended.the-variants.{Whole}
 use Rattle.listing.specs.Form.{recordOf}
-use Rattle.listing.specs.Order.{nothingRead, accepts, after, sizesOf}
-use Rattle.listing.specs.Tables.{Tables, fit, reading, endOf}
+use Rattle.listing.specs.Order.{nothingRead, accepts, afterRecord, sizesListed}
+use Rattle.listing.specs.Tables.{Tables, tablesFit, readingAs, listingEnd}
 use Rattle.listing.specs.Whole.{readAll}
 use Rattle.lister.specs.declared.Cursor.{Cursor}
 use Rattle.lister.specs.declared.Refusal.{Refusal as WriterRefusal}
@@ -60,8 +60,8 @@ pub record Returned (p : CodePage) (t : Tables) : Type 0 where
   pub lent : Tables
   pub numbers : Numbers
   pub sizes : Sizes
-  pub accepted : readAll nothingRead (wholeListing p) t ≡ reading (Accepted progress) lent
-  pub end : endOf progress ≡ Whole numbers sizes
+  pub accepted : readAll nothingRead (wholeListing p) t ≡ readingAs (Accepted progress) lent
+  pub end : listingEnd progress ≡ Whole numbers sizes
   pub shape : GoodShape (cutSet numbers sizes lent)
   pub same : SameMeaning p (cutSet numbers sizes lent)
 
@@ -69,11 +69,11 @@ pub record Returned (p : CodePage) (t : Tables) : Type 0 where
 -- 22: the line is no record, or not one that may come next. 23: it is one, and a lent table is too small for it or the place reached.
 abbrev pub ReadSays : Progress → (line : List ℕ) → Tables → Refusal → Type 0
 ReadSays s line t BadLine = accepts s (recordOf line) ≡ false
-ReadSays s line t TooSmall = (accepts s (recordOf line) ≡ true) × (fit (sizesOf (after s (recordOf line))) t ≡ false)
+ReadSays s line t TooSmall = (accepts s (recordOf line) ≡ true) × (tablesFit (sizesListed (afterRecord s (recordOf line))) t ≡ false)
 
 -- a line that is accepted
 abbrev pub ReadPasses : Progress → (line : List ℕ) → Tables → Type 0
-ReadPasses s line t = (accepts s (recordOf line) ≡ true) × (fit (sizesOf (after s (recordOf line))) t ≡ true)
+ReadPasses s line t = (accepts s (recordOf line) ≡ true) × (tablesFit (sizesListed (afterRecord s (recordOf line))) t ≡ true)
 
 -- ---- The cases of the answers of the writer: 10, then done, then 19.
 -- a record is left, from a cursor on

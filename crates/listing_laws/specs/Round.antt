@@ -5,7 +5,7 @@ use Rattle.codepage.specs.CodePage.{CodePage, pick}
 use Rattle.listing.specs.declared.Progress.{Progress}
 use Rattle.listing.specs.declared.Sizes.{Sizes}
 use Rattle.listing.specs.Form.{recordOf}
-use Rattle.listing.specs.Order.{nothingRead, after, sizesOf}
+use Rattle.listing.specs.Order.{nothingRead, afterRecord, sizesListed}
 use Rattle.lister.specs.Lines.{recordLine}
 use Rattle.lister.specs.Lister.{places, recordAt, isRecord}
 
@@ -21,9 +21,9 @@ wholeListing p = linesFrom p places 0
 -- what has been read after some lines, if each of them is accepted
 unfoldable pub progressAfter : Progress → (lines : List (List ℕ)) → Progress
 progressAfter s [] = s
-progressAfter s (line ∷ lines) = progressAfter (after s (recordOf line)) lines
+progressAfter s (line ∷ lines) = progressAfter (afterRecord s (recordOf line)) lines
 
 -- The sizes that a whole listing needs: those that its end reports. They are whole classes, singles and index, 256 pairs for each `L`, one
 -- empty block and one for each high half among the `W` units, but for a 256th.
 abbrev pub neededSizes : (lines : List (List ℕ)) → Sizes
-neededSizes lines = sizesOf (progressAfter nothingRead lines)
+neededSizes lines = sizesListed (progressAfter nothingRead lines)

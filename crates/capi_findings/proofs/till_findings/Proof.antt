@@ -48,7 +48,7 @@ use Rattle.engine.proofs.Policy as P
 use Rattle.engine.proofs.Policy.Laws as P′
 use Rattle.findings.specs.declared.Finding.{Finding}
 use Rattle.findings.specs.declared.Listed.{Listed}
-use Rattle.findings.specs.Calls.{Call, findingsCall, ListedAs}
+use Rattle.findings.specs.Calls.{FindingsCall, findingsCall, FindingsListed}
 use Rattle.findings.proofs.Finding as F
 use Rattle.findings.proofs.Listed as A′
 use Rattle.findings.proofs.Listed.Laws as A″
@@ -135,11 +135,11 @@ module _ {M : Type 1} (𝓤 : URA M) (H : Heap 𝓤) (A : Atoms 𝓤) (W : Given
   args = (policy, (numbers, (c, (s, (p, (i, (b, (x, (y, tt)))))))))
 
   -- what the rules give
-  abbrev called : Call
+  abbrev called : FindingsCall
   called = findingsCall policy (tillPage g d u (c .now) (s .now) (p .now) (i .now) (b .now)) (x .now)
 
   abbrev Said : Listed → List Finding → Type 0
-  Said r zs = ListedAs called r ys zs
+  Said r zs = FindingsListed called r ys zs
 
   abbrev Post : Val → SProp 𝓤
   Post = walkOf 𝓤 H A till.ended stayed (till.clauses 𝓤 H A at-mem run) .post ((κall, qall, tt, a, vals), tt)

@@ -60,9 +60,9 @@ use Rattle.engine.proofs.Policy.Laws as P′
 use Rattle.findings.specs.declared.Finding.{Finding}
 use Rattle.findings.specs.declared.Turn.{Turn}
 use Rattle.findings.specs.declared.Listed.{Listed}
-use Rattle.findings.specs.Findings.{filled}
-use Rattle.findings.specs.Calls.{Call, findingsCall, ListedAs}
-use Rattle.findings.specs.Steps.{Turned, NextTurn}
+use Rattle.findings.specs.Findings.{filledFront}
+use Rattle.findings.specs.Calls.{FindingsCall, findingsCall, FindingsListed}
+use Rattle.findings.specs.Steps.{CallTurn, NextTurn}
 use Rattle.findings.proofs.FillLaws.{filled-start, filled-length, filled-next, filled-end}
 use Rattle.findings.proofs.Shared.{sliceOf, Six, Four, six-twice, six-four, tokens-all, tokens-six, tokens-four, tokens-two, list-apart, two-apart, all-again}
 use Rattle.findings.proofs.Finding as F
@@ -169,15 +169,15 @@ module _ {M : Type 1} (𝓤 : URA M) (H : Heap 𝓤) (A : Atoms 𝓤) (W : Given
   qall = (qc, (qs, (qp, (qi, (qb, (qx, (qy, tt)))))))
 
   -- what the rules give
-  abbrev called : Call
+  abbrev called : FindingsCall
   called = findingsCall g (codePage n (c .now) (s .now) (p .now) (i .now) (b .now)) (x .now)
 
   abbrev Good : Turn → Type 0
-  Good t = Turned called (c .now) (s .now) (p .now) g (x .now) (length ys) t
+  Good t = CallTurn called (c .now) (s .now) (p .now) g (x .now) (length ys) t
 
   -- the list at a turn
   abbrev ls : ℕ → List Finding
-  ls count = filled ys (take count (called .entries))
+  ls count = filledFront ys (take count (called .entries))
 
   abbrev Post : Val → SProp 𝓤
   Post = walkOf 𝓤 H A lister.ended stayed (lister.clauses 𝓤 H A at-mem run) .post ((κall, qall, tt, a, vals), tt)

@@ -1,7 +1,7 @@
 use native.Mathlib.Omega.{arith}
 use borrow.Author.Needs.{needs}
 use Rattle.listing.specs.Tables.{leadBlock}
-use Rattle.listing.specs.Order.{sizesOf}
+use Rattle.listing.specs.Order.{sizesListed}
 use Rattle.listing.proofs.TableLaws.{listed-high, listed-below}
 use Rattle.listing.proofs.change.lead_block.Statement.{statement}
 use Rattle.listing.proofs.change.lead_block.Tie as tie
@@ -13,7 +13,7 @@ below-in-half-requires : tie.Need-below-in-half-requires
 below-in-half-requires c κs = search needs
 
 returns : tie.Need-returns
-unfolding leadBlock sizesOf
+unfolding leadBlock sizesListed
 returns c = (c .below-in-half .ensures .0, omega (arith, c .below-in-half .ensures .0, listed-below _ _ (c .before .before .pre)))
 
 pub lead-block-spec : {M : Type 1} → statement M

@@ -1,5 +1,5 @@
 use borrow.Author.Needs.{needs}
-use Rattle.listing.specs.Form.{byteAt}
+use Rattle.listing.specs.Form.{hexByteAt}
 use Rattle.listing.proofs.form.byte_at.Statement.{statement}
 use Rattle.listing.proofs.form.byte_at.Tie as tie
 
@@ -25,7 +25,7 @@ add-result : tie.Need-add-result
 add-result c = search needs
 
 returns : tie.Need-returns
-unfolding byteAt
+unfolding hexByteAt
 returns c = rw (← c .before .before .digit-of .ensures .0, ← c .digit-of2 .ensures .0)
 
 pub byte-at-spec : {M : Type 1} → statement M

@@ -1,5 +1,5 @@
 use borrow.Author.Needs.{needs}
-use Rattle.listing.specs.Form.{unitAt}
+use Rattle.listing.specs.Form.{hexUnitAt}
 use Rattle.listing.proofs.form.unit_at.Statement.{statement}
 use Rattle.listing.proofs.form.unit_at.Tie as tie
 
@@ -25,7 +25,7 @@ add-result : tie.Need-add-result
 add-result c = search needs
 
 returns : tie.Need-returns
-unfolding unitAt
+unfolding hexUnitAt
 returns c = rw (← c .before .byte-at .ensures, ← c .byte-at2 .ensures)
 
 pub unit-at-spec : {M : Type 1} → statement M

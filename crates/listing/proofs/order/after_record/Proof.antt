@@ -1,6 +1,6 @@
 use mathlib.Core.Path.{sym, ap, _∙_}
 use borrow.Author.Needs.{needs}
-use Rattle.listing.specs.Order.{after}
+use Rattle.listing.specs.Order.{afterRecord}
 use Rattle.listing.proofs.order.after_record.Statement.{statement}
 use Rattle.listing.proofs.order.after_record.Tie as tie
 
@@ -53,10 +53,10 @@ enum-told : tie.Need-enum-told
 enum-told c = search needs
 
 returns : tie.Need-returns
-returns c = c .after-page .ensures ∙ ap (after (c .before .before .before .before .before .before .before .before .args .progress)) (sym (c .before .before .item .given .1))
+returns c = c .after-page .ensures ∙ ap (afterRecord (c .before .before .before .before .before .before .before .before .args .progress)) (sym (c .before .before .item .given .1))
 
 returns-2 : tie.Need-returns-2
-returns-2 c = ap (after (c .before .before .before .before .before .before .before .args .progress)) (sym (c .before .item2 .given .1))
+returns-2 c = ap (afterRecord (c .before .before .before .before .before .before .before .args .progress)) (sym (c .before .item2 .given .1))
 
 returns-3 : tie.Need-returns-3
 returns-3 c = rw (c .before .before .item3 .given .1, ← c .add-to-bytes .ensures)
@@ -68,13 +68,13 @@ returns-5 : tie.Need-returns-5
 returns-5 c = rw (c .before .before .item5 .given .1, ← c .add-to-bytes2 .ensures)
 
 returns-6 : tie.Need-returns-6
-returns-6 c = ap (after (c .before .before .before .before .before .before .before .args .progress)) (sym (c .before .item6 .given .1))
+returns-6 c = ap (afterRecord (c .before .before .before .before .before .before .before .args .progress)) (sym (c .before .item6 .given .1))
 
 returns-7 : tie.Need-returns-7
 returns-7 c = rw (c .before .before .item7 .given .1, ← c .code-block .ensures)
 
 returns-8 : tie.Need-returns-8
-returns-8 c = ap (after (c .before .before .before .before .before .before .args .progress)) (sym (c .enum-told .given .1))
+returns-8 c = ap (afterRecord (c .before .before .before .before .before .before .args .progress)) (sym (c .enum-told .given .1))
 
 pub after-record-spec : {M : Type 1} → statement M
 after-record-spec =

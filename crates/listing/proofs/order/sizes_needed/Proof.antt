@@ -1,5 +1,5 @@
 use borrow.Author.Needs.{needs}
-use Rattle.listing.specs.Order.{sizesOf}
+use Rattle.listing.specs.Order.{sizesListed}
 use Rattle.listing.proofs.order.sizes_needed.Statement.{statement}
 use Rattle.listing.proofs.order.sizes_needed.Tie as tie
 
@@ -16,7 +16,7 @@ mul-t6 : tie.Need-mul-t6
 mul-t6 c = search needs
 
 returns : tie.Need-returns
-unfolding sizesOf
+unfolding sizesListed
 returns c = rw (← c .before .count-half .ensures .0, ← c .block-count .ensures .0)
 
 pub sizes-needed-spec : {M : Type 1} → statement M
