@@ -18,10 +18,11 @@ use Rattle.capi_record.proofs.TillHere.Laws as N′
 abbrev pub R : RattleType
 R = T.the-row
 
--- the machine values of a run and of a call's result
+-- the machine value of a run
 abbrev pub mach : TillRun → Val
 mach = LL.val T.the-type T′.the-laws
 
+-- the machine value of a call's result
 abbrev pub machN : TillHere → Val
 machN = LL.val N.the-type N′.the-laws
 
@@ -29,9 +30,10 @@ machN = LL.val N.the-type N′.the-laws
 abbrev pub hereOf : TillOutcome → TillHere
 hereOf r = record { read = r .read; written = r .written; number = r .number }
 
--- what whoever holds an outcome knows of the run in it, and of the result that is made of it
+-- what whoever holds an outcome knows of the run in it
 pub run-in : (r : TillOutcome) (vs : List Val) → Is O.the-row r vs → Is R (r .run) (mach (r .run) ∷ [])
 run-in r vs is = LL.owed O.the-type O′.the-laws r vs is .0
 
+-- what whoever holds an outcome knows of the result that is made of it
 pub here-in : (r : TillOutcome) (vs : List Val) → Is O.the-row r vs → Is N.the-row (hereOf r) (machN (hereOf r) ∷ [])
 here-in r vs is = let f = LL.owed O.the-type O′.the-laws r vs is in LL.owes N.the-type N′.the-laws (hereOf r) (f .1 .0, (f .1 .1 .0, (f .1 .1 .1 .0, tt)))

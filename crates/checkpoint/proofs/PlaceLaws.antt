@@ -38,9 +38,11 @@ module _ (line : List ℕ) (place : ℕ) where
     unfolding readAt
     read-nowhere e = rw (e, readAt)
 
+    -- a place within the line: the parser reads what is from there on
     pub read-in : place ≤ length line → readAt p line place ≡ p (drop place line)
     read-in h = read-from (drop place line) (from-in h)
 
+    -- a place behind the line: nothing is read
     pub read-out : length line < place → readAt p line place ≡ none
     read-out h = read-nowhere (from-out h)
 
@@ -239,6 +241,7 @@ module _ (limit : ℕ) where
         ∙ same-then (moreDigits value) (moreDigits (10 * value + digit)) (atMost limit) _ (drop (i + 1) line) (more-digit value (getD line i 0) (drop (i + 1) line) digit e)
         ∙ sym (read-in line (i + 1) (upTo limit (moreDigits (10 * value + digit))) (omega arith))
 
+    -- a byte that is no digit ends the number, if it is within the limit
     pub digits-stop : (value i : ℕ) → i < length line → value ≤ limit → digitValue (getD line i 0) ≡ none
         → foundAt value line i ≡ readAt (upTo limit (moreDigits value)) line i
     digits-stop value i h k e =
@@ -246,6 +249,7 @@ module _ (limit : ℕ) where
         ∙ sym (up-to (moreDigits value) _ value _ (more-other value (getD line i 0) (drop (i + 1) line) e) k)
         ∙ sym (read-cons line i (upTo limit (moreDigits value)) h)
 
+    -- the end of the line ends the number, if it is within the limit
     pub digits-end : (value i : ℕ) → length line ≤ i → i ≤ length line → value ≤ limit
         → foundAt value line i ≡ readAt (upTo limit (moreDigits value)) line i
     digits-end value i l h k =
@@ -256,18 +260,21 @@ module _ (limit : ℕ) where
         ∙ ap (upTo limit (moreDigits value)) (sym e)
         ∙ sym (read-in line i (upTo limit (moreDigits value)) h)
 
+    -- a number over the limit is not read, whatever follows
     pub digits-over : (value i : ℕ) → i ≤ length line → limit < value → readAt (upTo limit (moreDigits value)) line i ≡ none
     digits-over value i h k = read-in line i (upTo limit (moreDigits value)) h ∙ over-limit value (drop i line) k
 
-    -- a number by its first byte
+    -- at the end of the line no number is read
     pub limited-end : (at : ℕ) → length line ≤ at → readAt (upTo limit number) line at ≡ none
     unfolding upTo
     limited-end at h = read-then-none number (atMost limit) line at (read-end line at number number-empty h)
 
+    -- where no digit stands no number is read
     pub limited-none : (at : ℕ) → at < length line → digitValue (getD line at 0) ≡ none → readAt (upTo limit number) line at ≡ none
     unfolding upTo
     limited-none at h e = read-then-none number (atMost limit) line at (read-cons line at number h ∙ number-none (getD line at 0) (drop (at + 1) line) e)
 
+    -- a first digit 0 is the whole number
     pub limited-zero : (at : ℕ) → at < length line → digitValue (getD line at 0) ≡ some 0 → foundAt 0 line (at + 1) ≡ readAt (upTo limit number) line at
     limited-zero at h e =
         found-in line (at + 1) 0 (omega arith)
@@ -275,6 +282,7 @@ module _ (limit : ℕ) where
         ∙ ap (λ (b : ℕ). upTo limit number (b ∷ drop (at + 1) line)) (sym (digit-back (getD line at 0) 0 e .0))
         ∙ sym (read-cons line at (upTo limit number) h)
 
+    -- another first digit: the digits behind it belong to the number
     pub limited-first : (at digit : ℕ) → at < length line → digitValue (getD line at 0) ≡ some digit → 1 ≤ digit
         → readAt (upTo limit number) line at ≡ readAt (upTo limit (moreDigits digit)) line (at + 1)
     unfolding upTo

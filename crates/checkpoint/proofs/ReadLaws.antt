@@ -169,6 +169,7 @@ module _ (line : List ℕ) (run : Run) (next : ℕ) (e : readAt limited line 0 �
   unfolding runOf
   whole = kept-limited line ∙ ap kept (sym (read-in line 0 limited (omega arith)) ∙ e)
 
+  -- fields that end behind the line are no line: 18
   pub not-a-line : length line < next → readOf line ≡ record { number = 18; run = none }
   unfolding readOf loaded
   not-a-line h = ap loaded (whole ∙ ap kept (read-out line next (succeed run) h) ∙ kept-none)
@@ -176,6 +177,7 @@ module _ (line : List ℕ) (run : Run) (next : ℕ) (e : readAt limited line 0 �
   kept-found : next ≤ length line → runOf line ≡ kept (got run (drop next line))
   kept-found h = whole ∙ ap kept (found-in line next run h)
 
+  -- fields that name a run which breaks the rules are no line: 18
   pub not-valid : next ≤ length line → validRun run ≡ false → readOf line ≡ record { number = 18; run = none }
   unfolding readOf loaded
   not-valid h v =
@@ -184,6 +186,7 @@ module _ (line : List ℕ) (run : Run) (next : ℕ) (e : readAt limited line 0 �
       ∙ ap kept (sym (return-some run (drop next line)))
       ∙ broken run (drop next line) (λ p w. true≢false (sym w ∙ v)))
 
+  -- fields of a valid run within the line give that run
   pub a-line : next ≤ length line → run .page ≤ 65535 → validRun run ≡ true → readOf line ≡ record { number = 0; run = some run }
   unfolding readOf loaded
   a-line h p v = ap loaded (kept-found h ∙ kept-some run (drop next line) p v)

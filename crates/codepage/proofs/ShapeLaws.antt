@@ -296,6 +296,7 @@ pub record Inside (p : CodePage) : Type 0 where
   pub high : (unit : ℕ) → unit < 65536 → unit / 256 < length (p .index)
   pub code : (unit : ℕ) → unit < 65536 → 256 * entryAt (p .index) (unit / 256) + unit % 256 < length (p .blocks)
 
+-- the tables of a good shape are asked within their sizes
 pub inside : (p : CodePage) → GoodShape p → Inside p
 inside p g =
     record {

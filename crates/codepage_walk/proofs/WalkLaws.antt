@@ -82,10 +82,12 @@ module _ (r : Reader) (text : List ℕ) (place : ℕ) where
   unfolding settled
   settled-one a b e = rw e
 
+  -- a unit that waits and joins the next one: the code at its place has both
   pub at-two : place + 1 < length text → r .waits (entryAt text place) ≡ true → r .joins (entryAt text place) (entryAt text (place + 1)) ≡ true
       → CodeAt r text place (together r (entryAt text place) (entryAt text (place + 1)))
   at-two h e j = subst (CodeAt r text place) (settled-two _ _ j) (at-settled h e)
 
+  -- a unit that waits and does not join the next one: the code at its place has it alone
   pub at-alone : place + 1 < length text → r .waits (entryAt text place) ≡ true → r .joins (entryAt text place) (entryAt text (place + 1)) ≡ false
       → CodeAt r text place (alone r (entryAt text place))
   at-alone h e j = subst (CodeAt r text place) (settled-one _ _ j) (at-settled h e)

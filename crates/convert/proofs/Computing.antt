@@ -17,6 +17,7 @@ unfoldable pub readingRules : Type 0
 unfolding isSingle isLead isTrail leads leadsBelow lookup byteAlone byteJoins bytePair isHigh isLow isSurrogate unitCode unitAlone bytesOf decoder encoder settled completed waitsThen codesAtEnd callCodes leftPending codes
 readingRules = Unit {0}
 
+-- what a code does, and taking code after code, on top of the reading
 unfoldable pub engineRules : Type 0
 unfolding readingRules actionOf policyAllowed effectOf converter fits roomLeft halt after stopAt takeWhen takeCode takeCodes feedFrom whole
 engineRules = Unit {0}

@@ -75,6 +75,7 @@ module _ (classes singles pairs : List ℕ) where
   two-bytes a b k rest e false w =
       absurd (codes-some r b (isLead (entryAt classes b)) refl (cons-path (alone r a) k (callCodes r true none (b ∷ [])) [] (sym (codes-one r true a (b ∷ []) w) ∙ e) .1))
 
+  -- a code that reads back as one code by itself is the first code of a text that it begins
   pub code-first : (code : ℕ) (k : Code) (unit : ℕ) (rest : List ℕ) → codes r (bytesOf code) ≡ k ∷ [] → k .means ≡ Found unit → codes r (bytesOf code ++ rest) ≡ k ∷ codes r rest
   unfolding codes bytesOf
   code-first code k unit rest = by-size (leb code 0xFF)

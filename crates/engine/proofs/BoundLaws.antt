@@ -32,6 +32,7 @@ pub record Small (m : ℕ) (k : Effect) : Type 0 where
   pub writes : length (k .writes) ≤ m
   pub flag : k .flag < 2 ^ 3
 
+-- a converter each of whose codes has such an effect
 pub record Bounded (m : ℕ) (v : Converter) : Type 0 where
   pub each : (k : Code) → Small m (v .does k)
 

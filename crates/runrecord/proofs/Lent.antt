@@ -18,13 +18,15 @@ use denote.Ref.{RefT}
 use denote.Slice.{sliceVal, ShrSlice, MutSlice, finally, shr-slice-copy}
 use denote.Steps.{nothing}
 
--- the lifetimes of the five tables, the piece and the output, and a share of each one's token
+-- the lifetimes of the five tables, the piece and the output
 abbrev pub Lifetimes : Type 0
 Lifetimes = Lft × (Lft × (Lft × (Lft × (Lft × (Lft × (Lft × Unit {0}))))))
 
+-- a share of each lifetime's token
 abbrev pub Shares : Type 0
 Shares = Share × (Share × (Share × (Share × (Share × (Share × (Share × Unit {0}))))))
 
+-- the shares of the tokens, held together
 abbrev pub tokens : {M : Type 1} (𝓤 : URA M) → Lifetimes → Shares → Item 𝓤
 tokens 𝓤 κs qs =
     ‵ (flft (κs .0) (qs .0)) ⊛ ‵ (flft (κs .1 .0) (qs .1 .0)) ⊛ ‵ (flft (κs .1 .1 .0) (qs .1 .1 .0)) ⊛ ‵ (flft (κs .1 .1 .1 .0) (qs .1 .1 .1 .0)) ⊛ ‵ (flft (κs .1 .1 .1 .1 .0) (qs .1 .1 .1 .1 .0))

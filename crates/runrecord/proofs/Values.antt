@@ -19,23 +19,27 @@ use Rattle.runrecord.specs.Records.{outcomeOf}
 use Rattle.runrecord.proofs.Here as N
 use Rattle.runrecord.proofs.Here.Laws as N′
 
--- the types of a run and of the numbers
+-- the type of a run
 abbrev pub R : RattleType
 R = T.the-row
 
+-- the type of the numbers
 abbrev pub S-row : RattleType
 S-row = S.the-row
 
--- the machine values of a run, of the numbers, of an outcome and of a call's result
+-- the machine value of a run
 abbrev pub mach : Run → Val
 mach = LL.val T.the-type T′.the-laws
 
+-- the machine value of the numbers
 abbrev pub machS : Numbers → Val
 machS = LL.val S.the-type S′.the-laws
 
+-- the machine value of an outcome
 abbrev pub machO : Outcome → Val
 machO = LL.val O.the-type O′.the-laws
 
+-- the machine value of a call's result
 abbrev pub machN : Here → Val
 machN = LL.val N.the-type N′.the-laws
 
@@ -43,10 +47,11 @@ machN = LL.val N.the-type N′.the-laws
 abbrev pub hereOf : Outcome → Here
 hereOf r = record { answer = r .answer; read = r .read; written = r .written }
 
--- what whoever holds an outcome knows of the run in it, and of the result that is made of it
+-- what whoever holds an outcome knows of the run in it
 pub run-in : (r : Outcome) (vs : List Val) → Is O.the-row r vs → Is R (r .run) (mach (r .run) ∷ [])
 run-in r vs is = LL.owed O.the-type O′.the-laws r vs is .1 .1 .1 .0
 
+-- what whoever holds an outcome knows of the result that is made of it
 pub here-in : (r : Outcome) (vs : List Val) → Is O.the-row r vs → Is N.the-row (hereOf r) (machN (hereOf r) ∷ [])
 here-in r vs is = let f = LL.owed O.the-type O′.the-laws r vs is in LL.owes N.the-type N′.the-laws (hereOf r) (f .0, (f .1 .0, (f .1 .1 .0, tt)))
 

@@ -46,6 +46,7 @@ module _ (p : CodePage) (e : isGood (firstFault p) ≡ true) where
         leads-at = h;
       }
 
+  -- the tables of units of a good shape, as the lookups ask for them
   pub units-tables : UnitsTables (p .index) (p .blocks)
   units-tables =
       record {

@@ -47,6 +47,7 @@ module _ (p : CodePage) where
       let (k, one, character) = one-code-of unit (codes (bytesReader p) (bytesOf code)) back in
       record { own = alone-looked-up (p .index) (p .blocks) unit s ∙ own; read = k; one-code = one; character = character }
 
+  -- what a code has that is spelled: a character that is no surrogate, and whose own code reads back as it
   pub spelled-by : (means : Lookup) (code : ℕ) → speller means ≡ some code → SpelledBy means code
   spelled-by (Lacking kind) code e = absurd (let n : _≡_ {A = ℕ} 0 1 = cc in omega arith)
   spelled-by (Found unit) code e = by (isSurrogate unit) refl

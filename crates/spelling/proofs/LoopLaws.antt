@@ -91,10 +91,6 @@ pub record Counting (r : Reader) (index blocks text : List ℕ) (place count : �
   pub size : length bytes ≡ count
 
 module _ (r : Reader) (index blocks text : List ℕ) where
-  -- before the first code
-  pub counting-start : Counting r index blocks text 0 0
-  counting-start = record { bytes = []; passed = passed-none r (codeSpelling r index blocks) text 0; size = refl }
-
   module _ (place count : ℕ) (w : Counting r index blocks text place count) where
     -- one stretch more
     pub counting-more : (to : ℕ) (bytes : List ℕ) (n : ℕ) → SpanSpelled r (codeSpelling r index blocks) text place to bytes → n ≡ length bytes → Counting r index blocks text to (count + n)
@@ -213,6 +209,7 @@ writable r index blocks text before (a, b) = record { no-fault = a; fits = b }
 pub begun-writing : (r : Reader) (index blocks text : List ℕ) (from : ℕ) (out : List ℕ) → Begun r index blocks text from out → Writing r index blocks text out from from out
 begun-writing r index blocks text from out b = record { passed = b .passed; within = b .within; same = refl; kept = refl }
 
+-- the rest of a spelling that is begun has no fault and fits
 pub begun-writable : (r : Reader) (index blocks text : List ℕ) (from : ℕ) (out : List ℕ) → Begun r index blocks text from out → Writable r index blocks text out
 begun-writable r index blocks text from out b = record { no-fault = b .no-fault; fits = b .fits }
 

@@ -27,10 +27,13 @@ use Rattle.spelling.specs.Spelling.{isCharacter, isOneCode, readsBack, c
 use Rattle.spelling.specs.Steps.{orNone, SpelledRead}
 
 -- ---- how many bytes a code has
+
+-- a code of at most FF is one byte
 pub one-byte : (code : ℕ) → code ≤ 0xFF → bytesOf code ≡ code ∷ []
 unfolding bytesOf
 one-byte code h = rw (le-leb code 0xFF h)
 
+-- any other code is two bytes
 pub two-bytes : (code : ℕ) → 0xFF < code → bytesOf code ≡ code / 256 ∷ code % 256 ∷ []
 unfolding bytesOf
 two-bytes code h = rw (lt-leb code 0xFF h)
@@ -205,9 +208,12 @@ module _ (r : Reader) (index blocks text : List ℕ) (place : ℕ) (c : CodeRead
       record { code = w .code; at = w .at; size = w .size; spelling = ap (λ (m : Lookup). orNone (codeSpelling r index blocks m)) (sym e ∙ w .means) }
 
 -- ---- the bytes of a code, written
+
+-- the byte of a code, written
 pub put-one : (code at : ℕ) (out : List ℕ) → code ≤ 0xFF → (at + 1 ≡ at + length (bytesOf code)) × (set out at code ≡ sets out at (bytesOf code))
 put-one code at out h = rw (one-byte code h) (refl, refl)
 
+-- the two bytes of a code, written
 pub put-two : (code at : ℕ) (out : List ℕ) → 0xFF < code → (at + 2 ≡ at + length (bytesOf code)) × (set (set out at (code / 256)) (at + 1) (code % 256) ≡ sets out at (bytesOf code))
 put-two code at out h = rw (two-bytes code h) (refl, ap (λ (i : ℕ). set (set out at (code / 256)) i (code % 256)) (add-one at))
 

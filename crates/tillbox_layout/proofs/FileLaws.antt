@@ -19,15 +19,19 @@ pub front : (n r : ℕ) (xs : List ℕ) → r ≡ min n (length xs) → Front r 
 front n r xs e = (omega arith, sym (length-take-le r xs (omega arith)))
 
 -- ---- blocks
+
+-- some units are left: as many blocks as they fill or begin
 pub blocks-some : (read total left : ℕ) (last : Bool) → left ≡ total - read → 0 < left → (left + 511) / 512 ≡ blockCount read total last
 unfolding blockCount
 blocks-some read total left true e h = omega arith
 blocks-some read total left false e h = omega arith
 
+-- nothing is left of a text that is not last: no block
 pub blocks-none : (read total left : ℕ) → left ≡ total - read → left ≡ 0 → 0 ≡ blockCount read total false
 unfolding blockCount
 blocks-none read total left e h = omega arith
 
+-- nothing is left of the last text: one empty block, which ends the run
 pub blocks-end : (read total left : ℕ) → left ≡ total - read → left ≡ 0 → 1 ≡ blockCount read total true
 unfolding blockCount
 blocks-end read total left e h = omega arith
@@ -48,12 +52,15 @@ same (pos n) e = refl
 same (negsuc n) e = let z : _≡_ {A = ℕ} 0 1 = cc in omega arith
 
 module _ (size : ℤ) (fits : SFits w64 size) where
+  -- a size below 0 is told for no size
   pub below-zero : ltZ (toZ w64 (ofZ w64 size)) (pos 0) ≡ true → 0 ≡ fileSize size
   below-zero h = below size (rw (toZ-ofZ fits) at h)
 
+  -- any other size fits the machine number it is kept in
   pub not-below : ltZ (toZ w64 (ofZ w64 size)) (pos 0) ≡ false → T (nonNeg (toZ w64 (ofZ w64 size))) × Fits w64 (natAbs (toZ w64 (ofZ w64 size)))
   not-below h = rw (toZ-ofZ fits) (whole size fits (rw (toZ-ofZ fits) at h))
 
+  -- and is the size that was told
   pub told : ltZ (toZ w64 (ofZ w64 size)) (pos 0) ≡ false → natAbs (toZ w64 (ofZ w64 size)) ≡ fileSize size
   told h = ap natAbs (toZ-ofZ fits) ∙ same size (rw (toZ-ofZ fits) at h)
 
