@@ -317,6 +317,7 @@ pub places-rise : (r : Reader) (text : List ℕ) → Rises 0 (placed r text) (le
 unfolding placed
 places-rise r text = rises-from 0 (codes r text) (length text) (omega (arith, codes-cover r text))
 
+-- each of some codes stands at its place
 unfoldable pub EachAt : Reader → (text : List ℕ) → List Placed → Type 0
 EachAt r text [] = Unit {0}
 EachAt r text (p ∷ ps) = CodeAt r text (p .place) (p .code) × EachAt r text ps
@@ -333,6 +334,7 @@ each-from r text (suc n) place h = by (leb (length text) place) refl (each-from 
         let t = code-there r text place (leb-false _ _ e) in
         subst (λ (ks : List Code). EachAt r text (placedFrom place ks)) (sym (t .at .here)) (t .at, later (place + sizeOf (t .code)) (omega arith))
 
+-- the codes of a text with their places stand there
 pub codes-at : (r : Reader) (text : List ℕ) → EachAt r text (placed r text)
 unfolding placed
 codes-at r text = each-from r text (length text) 0 (omega arith)

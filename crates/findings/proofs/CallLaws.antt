@@ -87,6 +87,7 @@ module _ (policy : Policy) (p : CodePage) (text : List ℕ) where
   unfolding findingsCall
   call-refused why e = ap (λ (o : Option Refusal). callUnless o (findingsText policy p text)) e
 
+  -- an accepted call tells the number of all findings, and lists them
   pub call-accepted : findingsRefusal policy p text ≡ none → findingsCall policy p text ≡ record { answer = listed.Number (length (findingsText policy p text)); entries = findingsText policy p text }
   unfolding findingsCall
   call-accepted e = ap (λ (o : Option Refusal). callUnless o (findingsText policy p text)) e

@@ -13,6 +13,7 @@ use Rattle.findings.specs.Findings.{filledFront}
 abbrev Fs : Type 0
 Fs = List Finding
 
+-- no findings change nothing
 pub filled-none : (ys : Fs) → filledFront ys [] ≡ ys
 filled-none [] = refl
 filled-none (y ∷ ys) = refl

@@ -89,6 +89,7 @@ one-or-two : (n : ℕ) → (n ≡ 1) ⊎ (n ≡ 2) → (1 ≤ n) × (n ≤ 2)
 one-or-two n (inl e) = (omega arith, omega arith)
 one-or-two n (inr e) = (omega arith, omega arith)
 
+-- a code that is read has one or two bytes, within the text
 pub read-inside : (r : Reader) (text : List ℕ) (place : ℕ) (c : CodeRead) → ReadAs r text place c → (1 ≤ c .size) × (c .size ≤ 2) × (place + c .size ≤ length text)
 read-inside r text place c w =
     let n = codes-next r text place (w .code) (codes r (drop (place + sizeOf (w .code)) text)) (w .at .here) in
@@ -157,9 +158,11 @@ module _ (r : Reader) (policy : Policy) (text : List ℕ) where
 
 -- ---- passing over codes that have characters
 module _ {r : Reader} {policy : Policy} {text : List ℕ} where
+  -- nothing is passed yet
   pub passed-start : {from : ℕ} → from ≤ length text → Passed r policy text from from
   passed-start h = record { ahead = omega arith; inside = h; same = refl }
 
+  -- one stretch behind another
   pub passed-join : {from mid to : ℕ} → Passed r policy text from mid → Passed r policy text mid to → Passed r policy text from to
   passed-join a b = record { ahead = omega (arith, a .ahead, b .ahead); inside = b .inside; same = a .same ∙ b .same }
 
@@ -236,6 +239,7 @@ module _ (r : Reader) (default : ℕ) (policy : Policy) where
       ap (λ (m : Lookup). findingThen policy (record { place = place; code = k }) m (findingsIn policy (placedFrom (place + sizeOf k) ks))) (found .1)
       ∙ clean-codes (place + sizeOf k) ks pending rest
 
+  -- a text that is counted to its end under 000 has no findings
   pub clean-text : (text : List ℕ) (s : Progress) → s ≡ summary (feedFrom (converter r (digits 0 0 0) default) true endless none text) → s .answer ≡ 0 → findingsFrom r policy text 0 ≡ []
   unfolding summary feedFrom findingsFrom codes converter
   clean-text text s e z = clean-codes 0 (codes r text) (leftPending r true none text) (ap (λ (f : Progress). f .answer) (sym e) ∙ z)

@@ -21,6 +21,7 @@ use denote.Slice.{sliceVal, ShrSlice, shr-slice-copy}
 abbrev pub sliceOf : {X : Type 0} → RefT (List X) → Val
 sliceOf x = sliceVal (x .ptr) (length (x .now))
 
+-- a slice that is lent to be read
 abbrev pub shared : Lft → (E : RattleType) → RefT (List (E .Denot)) → Fml
 shared κ E x = ShrSlice (named 0) κ E .own x (sliceOf x ∷ [])
 
@@ -34,6 +35,7 @@ module _ (κc κs κp κi κb κx : Lft) (c s p i b x : RefT (List ℕ)) where
   Four = fsep (shared κc u8 c) (fsep (shared κs u16 s) (fsep (shared κp u16 p) (shared κx u8 x)))
 
   module _ {M : Type 1} (𝓤 : URA M) (H : Heap 𝓤) (A : Atoms 𝓤) (W : Given 𝓤 H A) where
+    -- six slices that are lent to be read, twice
     pub six-twice : ent 𝓤 (sem 𝓤 H A Six) (sem 𝓤 H A (fsep Six Six))
     six-twice =
         qed W (‵ Six ∷ []) ∵
@@ -48,6 +50,7 @@ module _ (κc κs κp κi κb κx : Lft) (c s p i b x : RefT (List ℕ)) where
         -- [all of them; the text; the blocks; …; the classes]
         move ! (2 ∷ 1 ∷ []) $ fjoin ! $ move ! (2 ∷ 0 ∷ []) $ fjoin ! $ move ! (2 ∷ 0 ∷ []) $ fjoin ! $ move ! (2 ∷ 0 ∷ []) $ fjoin ! $ move ! (2 ∷ 0 ∷ []) $ fjoin ! $ move ! (1 ∷ 0 ∷ []) $ fjoin ! $ done !
 
+    -- the six, and the four of them that the turns read
     pub six-four : ent 𝓤 (sem 𝓤 H A Six) (sem 𝓤 H A (fsep Six Four))
     six-four =
         qed W (‵ Six ∷ []) ∵
@@ -66,12 +69,15 @@ module _ {M : Type 1} (𝓤 : URA M) (H : Heap 𝓤) (A : Atoms 𝓤) (W : Given
   abbrev pub tokens-all : Item 𝓤
   tokens-all = ‵ (flft κc qc) ⊛ ‵ (flft κs qs) ⊛ ‵ (flft κp qp) ⊛ ‵ (flft κi qi) ⊛ ‵ (flft κb qb) ⊛ ‵ (flft κx qx) ⊛ ‵ (flft κy qy) ⊛ ‵ ftrue
 
+  -- those of the slices that are read
   abbrev pub tokens-six : Item 𝓤
   tokens-six = ‵ (flft κc qc) ⊛ ‵ (flft κs qs) ⊛ ‵ (flft κp qp) ⊛ ‵ (flft κi qi) ⊛ ‵ (flft κb qb) ⊛ ‵ (flft κx qx) ⊛ ‵ ftrue
 
+  -- those of the four that the turns read
   abbrev pub tokens-four : Item 𝓤
   tokens-four = ‵ (flft κc qc) ⊛ ‵ (flft κs qs) ⊛ ‵ (flft κp qp) ⊛ ‵ (flft κx qx) ⊛ ‵ ftrue
 
+  -- those of the other two
   abbrev pub tokens-two : Item 𝓤
   tokens-two = ‵ (flft κi qi) ⊛ ‵ (flft κb qb)
 

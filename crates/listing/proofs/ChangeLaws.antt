@@ -53,38 +53,47 @@ fit-known n classes singles pairs index blocks e =
 
 -- ---- what a record needs and changes; `n` is what has been read after it
 module _ {s n : Progress} {r : Record} {classes singles pairs index blocks : List ℕ} (ready : RecordReady s n r classes singles pairs index blocks) where
+  -- the classes are whole
   pub classes-room : 256 ≤ length classes
   unfolding sizesListed
   classes-room = ready .fits .classes-fit
 
+  -- the singles are whole
   pub singles-room : 256 ≤ length singles
   unfolding sizesListed
   singles-room = ready .fits .singles-fit
 
+  -- the index is whole
   pub index-room : 256 ≤ length index
   unfolding sizesListed
   index-room = ready .fits .index-fit
 
+  -- there are pairs for each lead listed
   pub pairs-room : sizesListed n .pairs ≤ length pairs
   pairs-room = rw (ap (λ (m : Progress). sizesListed m .pairs) (ready .next)) (ready .fits .pairs-fit)
 
+  -- there is the empty block
   pub blocks-room : 256 ≤ length blocks
   unfolding sizesListed
   blocks-room = omega (arith, ready .fits .blocks-fit, some-block (afterRecord s r))
 
+  -- what a `P` changes
   pub page-change : (page : ℕ) (classes′ singles′ index′ blocks′ : List ℕ) → r ≡ Page page → classes′ ≡ filled classes 0 256 0 → singles′ ≡ filled singles 0 256 0xFFFF → index′ ≡ filled index 0 256 0 → blocks′ ≡ filled blocks 0 256 0xFFFF → tables classes′ singles′ pairs index′ blocks′ ≡ changeOf s r (tables classes singles pairs index blocks)
   page-change page classes′ singles′ index′ blocks′ e f g h k = rw (e, f, g, h, k)
 
+  -- what an `S` changes
   pub single-change : (byte unit : ℕ) (classes′ singles′ : List ℕ) → r ≡ Single byte unit → classes′ ≡ set classes byte (classOf n byte) → singles′ ≡ set singles byte unit → tables classes′ singles′ pairs index blocks ≡ changeOf s r (tables classes singles pairs index blocks)
   single-change byte unit classes′ singles′ e f g =
       ap₂ (λ (x y : List ℕ). tables x y pairs index blocks) (f ∙ ap (λ (m : Progress). set classes byte (classOf m byte)) (ready .next ∙ ap (afterRecord s) e)) g
       ∙ ap (λ (q : Record). changeOf s q (tables classes singles pairs index blocks)) (sym e)
 
+  -- what an `L` changes
   pub lead-change : (byte : ℕ) (classes′ pairs′ : List ℕ) → r ≡ Lead byte → classes′ ≡ set classes byte (classOf n byte) → pairs′ ≡ filled pairs (256 * leadBlock n byte) 256 0xFFFF → tables classes′ singles pairs′ index blocks ≡ changeOf s r (tables classes singles pairs index blocks)
   lead-change byte classes′ pairs′ e f g =
       ap₂ (λ (x y : List ℕ). tables x singles y index blocks) (f ∙ ap (λ (m : Progress). set classes byte (classOf m byte)) (ready .next ∙ ap (afterRecord s) e)) (g ∙ ap (λ (m : Progress). filled pairs (256 * leadBlock m byte) 256 0xFFFF) (ready .next ∙ ap (afterRecord s) e))
       ∙ ap (λ (q : Record). changeOf s q (tables classes singles pairs index blocks)) (sym e)
 
+  -- what a `T` changes
   pub trail-change : (byte : ℕ) (classes′ : List ℕ) → r ≡ Trail byte → classes′ ≡ set classes byte (classOf n byte) → tables classes′ singles pairs index blocks ≡ changeOf s r (tables classes singles pairs index blocks)
   trail-change byte classes′ e f =
       ap (λ (x : List ℕ). tables x singles pairs index blocks) (f ∙ ap (λ (m : Progress). set classes byte (classOf m byte)) (ready .next ∙ ap (afterRecord s) e))
@@ -105,10 +114,12 @@ module _ {s n : Progress} {r : Record} {classes singles pairs index blocks : Lis
       let accepted : (follows s M code && isListedLead (s .leads) (code / 256) && inBytes (s .trails) (code % 256)) ≡ true = ap (accepts s) (sym e) ∙ ready .accepted in
       and-right (follows s M code) (isListedLead (s .leads) (code / 256)) (and-left (follows s M code && isListedLead (s .leads) (code / 256)) (inBytes (s .trails) (code % 256)) accepted)
 
+  -- a pair's lead has its pairs
   pub pair-room : (code unit : ℕ) → r ≡ Pair code unit → sizesListed s .pairs ≤ length pairs
   unfolding sizesListed
   pair-room code unit e = omega (arith, ap (λ (q : Record). 256 * countHalf (afterRecord s q .leads)) e, ready .fits .pairs-fit)
 
+  -- the block of a `W` is there
   pub code-room : (unit code : ℕ) → r ≡ Code unit code → 256 * codeBlock s unit + 256 ≤ length blocks
   unfolding sizesListed blocksListed
   code-room unit code e = omega (arith, ap (λ (q : Record). 256 * blocksListed (afterRecord s q)) e, ready .fits .blocks-fit, by-case (eqb (codeBlock s unit) 0) refl)

@@ -36,6 +36,7 @@ module _ (s : Progress) (line : List ℕ) (t : Tables) where
   read-says BadLine e = rw e
   read-says TooSmall (e, f) = rw (e, f)
 
+  -- a line that passes is accepted, and changes what its record means
   pub read-passes : ReadPasses s line t → lineReading s line t ≡ readingAs (Accepted (afterRecord s (recordOf line))) (changeOf s (recordOf line) t)
   unfolding lineReading readRecord
   read-passes (e, f) = rw (e, f)

@@ -226,6 +226,7 @@ module _ (text : List ℕ) where
   small-back : (page : ℕ) → line 0x50 (pageText page) ≡ text → Back (smallPage page)
   small-back page e = either (leb page 65535) (Page page) NoRecord (λ t x. e) none-back
 
+  -- a line that is a record is the line of that record
   pub line-back : isRecord (recordOf text) ≡ true → recordLine (recordOf text) ≡ text
   unfolding recordOf pageOf
   line-back =

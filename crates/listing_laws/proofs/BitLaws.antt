@@ -79,6 +79,7 @@ bytes-none byte = by-half (ltb byte 0x80) refl
     by-half false q = rw q (half-none (byte - 0x80))
 
 module _ (s : Bytes) (byte other : ℕ) (ne : other ≡ byte → ⊥) where
+  -- a byte that is listed changes no other
   pub bytes-other : inBytes (addToBytes s byte) other ≡ inBytes s other
   unfolding inBytes addToBytes
   bytes-other = by-halves (ltb byte 0x80) refl (ltb other 0x80) refl

@@ -40,6 +40,7 @@ leads-rise p good lead other h l e =
 abbrev pub pairPlace : CodePage → (lead byte : ℕ) → ℕ
 pairPlace p lead byte = 256 * leadsBelow (p .classes) lead + byte
 
+-- the pairs of the leads passed: as listed up to a place, empty behind it
 abbrev pub Pairs : CodePage → ℕ → Tables → Type 0
 Pairs p k t = (l c : ℕ) → l < 256 → c < 256 → isLead (entryAt (p .classes) l) ≡ true → isTrail (entryAt (p .classes) c) ≡ true → 258 + l < k
     → entryAt (t .pairs) (pairPlace p l c) ≡ pick (ltb (770 + (256 * l + c)) k) (entryAt (p .pairs) (pairPlace p l c)) 0xFFFF

@@ -33,6 +33,7 @@ setOf s t = codePage (s .numbers) (t .classes) (t .singles) (t .pairs) (t .index
 abbrev pub lastPlace : Progress → ℕ
 lastPlace s = placeBy (s .letter) (s .key)
 
+-- the place of a record in the order of the listing
 abbrev pub placeOf : Record → ℕ
 placeOf (Page page) = 0
 placeOf (Defaults byte unit) = 1

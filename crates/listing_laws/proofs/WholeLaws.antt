@@ -79,6 +79,7 @@ pub record Kept (s : Progress) (t : Tables) : Type 0 where
   pub numbers : NumberedBy s t
   pub fits : Fits (sizesListed s) (t .classes) (t .singles) (t .pairs) (t .index) (t .blocks)
 
+-- what is kept once `P` was read
 abbrev pub Sound : Progress → Tables → Type 0
 Sound s t = 1 ≤ rank (s .letter) → Kept s t
 
@@ -104,6 +105,7 @@ opened-length : (blocks : List ℕ) (block : ℕ) → length (openedBlock blocks
 unfolding openedBlock
 opened-length blocks block = pick-length (eqb block 0) blocks (filled blocks (256 * block) 256 0xFFFF) (length blocks) refl (filled-length blocks (256 * block) 256 0xFFFF)
 
+-- two table sets of the same sizes
 pub record SameSizes (t u : Tables) : Type 0 where
   pub classes : length (u .classes) ≡ length (t .classes)
   pub singles : length (u .singles) ≡ length (t .singles)

@@ -9,6 +9,7 @@ use Rattle.codepage.specs.Reading.{Reader, sizeOf, codes}
 use Rattle.codepage_walk.specs.Walk.{SizedAs}
 use Rattle.codepage_walk.proofs.WalkLaws.{codes-next, sized-small}
 
+-- a code has one or two bytes, within its text
 pub size-inside : (r : Reader) (text : List ℕ) (place size : ℕ) → SizedAs r text place size → (1 ≤ size) × (size ≤ 2) × (place + size ≤ length text)
 size-inside r text place size s = by (sized-small r text place size s)
   where
