@@ -23,6 +23,11 @@ fn main() {
     let mut lent_units = [0u16; 66000];
     let mut field_buffer = [0u16; 300];
     let mut entries = [0u32; 300];
+    let mut lent_classes = [0u8; 300];
+    let mut lent_singles = [0u16; 300];
+    let mut lent_pairs = [0u16; 33024];
+    let mut lent_index = [0u8; 300];
+    let mut lent_blocks = [0u16; 66048];
     let mut block = [0u8; 65536];
     let mut line = [0u8; 400001];
     let mut out = [0u8; 600000];
@@ -51,6 +56,11 @@ fn main() {
             &mut lent_units,
             &mut field_buffer,
             &mut entries,
+            &mut lent_classes,
+            &mut lent_singles,
+            &mut lent_pairs,
+            &mut lent_index,
+            &mut lent_blocks,
             &mut out,
         );
         next.at = output::flush(&out, next.at, output::limit(cursor));

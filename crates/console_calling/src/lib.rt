@@ -121,7 +121,7 @@ fn call_converter(
     }
 }
 
-// Runs the command that spells the byte text, or the one that encodes inside one buffer.
+// Runs the command that spells the byte text, encodes inside one buffer or lists findings, or one that writes a listing.
 fn call_coding(
     command: Command,
     line: &[u8],
@@ -148,7 +148,7 @@ fn call_coding(
             lent_bytes,
             out,
         ),
-        _ => console_spelling::run_spelling(
+        Command::Spell => console_spelling::run_spelling(
             command,
             line,
             next,
@@ -161,7 +161,72 @@ fn call_coding(
             lent_bytes,
             out,
         ),
+        Command::Findings => console_findings::run_findings(
+            command,
+            line,
+            next,
+            classes,
+            singles,
+            pairs,
+            index,
+            blocks,
+            bytes,
+            out,
+        ),
+        _ => console_listing::run_writing(
+            command,
+            line,
+            next,
+            classes,
+            singles,
+            pairs,
+            index,
+            blocks,
+            lent_bytes,
+            out,
+        ),
     }
+}
+
+// Runs a command that breaks the byte text into lines, or one of those above.
+fn call_text(
+    command: Command,
+    line: &[u8],
+    next: Next,
+    classes: &[u8],
+    singles: &[u16],
+    pairs: &[u16],
+    index: &[u8],
+    blocks: &[u16],
+    bytes: &[u8],
+    lent_bytes: &mut [u8],
+    out: &mut [u8],
+) -> Next {
+    let after = console_breaking::run_breaks(
+        command,
+        line,
+        next,
+        classes,
+        singles,
+        pairs,
+        index,
+        blocks,
+        bytes,
+        out,
+    );
+    call_coding(
+        command,
+        line,
+        after,
+        classes,
+        singles,
+        pairs,
+        index,
+        blocks,
+        bytes,
+        lent_bytes,
+        out,
+    )
 }
 
 // Runs a command of a product above the converter, on the tables and the byte text that are set.
@@ -179,22 +244,10 @@ fn call_product(
     entries: &mut [u32],
     out: &mut [u8],
 ) -> Next {
-    let after = console_breaking::run_breaks(
+    let after = call_text(
         command,
         line,
         next,
-        classes,
-        singles,
-        pairs,
-        index,
-        blocks,
-        bytes,
-        out,
-    );
-    let after = call_coding(
-        command,
-        line,
-        after,
         classes,
         singles,
         pairs,

@@ -15,14 +15,19 @@ use fields::Place;
 // The most units of the buffer.
 const BUFFER_LIMIT: u64 = 300;
 
-// Answers `hold SIZE`: the state is fresh.
-fn answer_hold(size: usize, state: State, out: &mut [u8], at: usize) -> Next {
+// The answer to `hold SIZE`.
+fn put_hold(size: usize, out: &mut [u8], at: usize) -> usize {
     let end = console_print::put(b"hold", out, at);
     let end = console_print::put_number(size as u64, out, end);
+    console_print::put_end(out, end)
+}
+
+// Answers `hold SIZE`: the state is fresh.
+fn answer_hold(size: usize, state: State, out: &mut [u8], at: usize) -> Next {
     let fresh = Held::fresh();
     Next {
         state: state.with_buffer(size).with_held(fresh.count),
-        at: console_print::put_end(out, end),
+        at: put_hold(size, out, at),
     }
 }
 

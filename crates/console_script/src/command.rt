@@ -32,10 +32,43 @@ pub enum Command {
     Find,
     Spell,
     InPlace,
+    Lend,
+    Line,
+    Lent,
+    Listed,
+    Lister,
+    List,
+    Findings,
     // A line that is passed over.
     Nothing,
     // A line that is no command.
     Unknown,
+}
+
+// The command that a word names, among those that read a listing into lent tables, write one, or list findings.
+fn named_list(word: &[u8]) -> Command {
+    if words::is_word(word, b"lend") {
+        return Command::Lend;
+    }
+    if words::is_word(word, b"line") {
+        return Command::Line;
+    }
+    if words::is_word(word, b"lent") {
+        return Command::Lent;
+    }
+    if words::is_word(word, b"listed") {
+        return Command::Listed;
+    }
+    if words::is_word(word, b"lister") {
+        return Command::Lister;
+    }
+    if words::is_word(word, b"list") {
+        return Command::List;
+    }
+    if words::is_word(word, b"findings") {
+        return Command::Findings;
+    }
+    Command::Unknown
 }
 
 // The command that a word names, among the run calls on a record that is updated where it stands.
@@ -46,7 +79,7 @@ fn named_here(word: &[u8]) -> Command {
     if words::is_word(word, b"encodehere") {
         return Command::EncodeHere;
     }
-    Command::Unknown
+    named_list(word)
 }
 
 // The command that a word names, if it spells the byte text or encodes inside one buffer.

@@ -5,9 +5,12 @@ use convert::Pending;
 use convert::Policy;
 use convert::Run;
 use image::Sizes;
+use lister::Cursor;
+use listing::Progress;
 
 // The table set's numbers and sizes, the lengths of the two texts, the run in hand, the length of the field buffer, how many units
-// the state of the fields claims to be held in it, and how many entries the index has.
+// the state of the fields claims to be held in it, how many entries the index has, the sizes of the tables that are lent for reading a
+// listing, what has been read of it, and where writing one goes on.
 pub struct State {
     pub numbers: Numbers,
     pub sizes: Sizes,
@@ -17,6 +20,9 @@ pub struct State {
     pub buffer: usize,
     pub held: usize,
     pub entries: usize,
+    pub lent: Sizes,
+    pub progress: Progress,
+    pub cursor: Cursor,
 }
 
 // The state after a command, and the place behind its answer.
@@ -25,7 +31,8 @@ pub struct Next {
     pub at: usize,
 }
 
-// No table, empty texts, a run that breaks the run rules, an empty field buffer with nothing held, and an empty index.
+// No table, empty texts, a run that breaks the run rules, an empty field buffer with nothing held, an empty index, empty lent tables, a
+// reader that has read nothing, and a writer at the first line.
 pub fn initial() -> State {
     let numbers = Numbers {
         page: 0,
@@ -54,6 +61,9 @@ pub fn initial() -> State {
         written: 0,
         ended: false,
     };
+    let lent = sizes;
+    let progress = Progress::new();
+    let cursor = Cursor::new();
     State {
         numbers,
         sizes,
@@ -63,6 +73,9 @@ pub fn initial() -> State {
         buffer: 0,
         held: 0,
         entries: 0,
+        lent,
+        progress,
+        cursor,
     }
 }
 
@@ -114,10 +127,32 @@ impl State {
         state.held = held;
         state
     }
+
     // The state with an index of another length.
     pub fn with_entries(self, entries: usize) -> State {
         let mut state = self;
         state.entries = entries;
+        state
+    }
+
+    // The state with lent tables of other sizes.
+    pub fn with_lent(self, lent: Sizes) -> State {
+        let mut state = self;
+        state.lent = lent;
+        state
+    }
+
+    // The state with another part of a listing read.
+    pub fn with_progress(self, progress: Progress) -> State {
+        let mut state = self;
+        state.progress = progress;
+        state
+    }
+
+    // The state with the writer at another place.
+    pub fn with_cursor(self, cursor: Cursor) -> State {
+        let mut state = self;
+        state.cursor = cursor;
         state
     }
 }

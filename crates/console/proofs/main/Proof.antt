@@ -7,11 +7,11 @@ use Rattle.console.proofs.main.Statement.{statement}
 use Rattle.console.proofs.main.Tie as tie
 
 abbrev Inv-loop : tie.InvT-loop
-Inv-loop classes₀ singles₀ pairs₀ index₀ blocks₀ bytes₀ units₀ lent-bytes₀ lent-units₀ field-buffer₀ entries₀ block₀ line₀ out₀ cursor₀ next₀ counter₀ classes singles pairs index blocks bytes units lent-bytes lent-units field-buffer entries block line out cursor next counter =
-    (counter ≤ 18446744073709551615) × (length classes ≡ 300) × (length singles ≡ 300) × (length pairs ≡ 33024) × (length index ≡ 300) × (length blocks ≡ 66048) × (length bytes ≡ 66000) × (length units ≡ 66000) × (length lent-bytes ≡ 140000) × (length lent-units ≡ 66000) × (length field-buffer ≡ 300) × (length entries ≡ 300) × (length block ≡ 65536) × (length line ≡ 400001) × (length out ≡ 600000)
+Inv-loop classes₀ singles₀ pairs₀ index₀ blocks₀ bytes₀ units₀ lent-bytes₀ lent-units₀ field-buffer₀ entries₀ lent-classes₀ lent-singles₀ lent-pairs₀ lent-index₀ lent-blocks₀ block₀ line₀ out₀ cursor₀ next₀ counter₀ classes singles pairs index blocks bytes units lent-bytes lent-units field-buffer entries lent-classes lent-singles lent-pairs lent-index lent-blocks block line out cursor next counter =
+    (counter ≤ 18446744073709551615) × (length classes ≡ 300) × (length singles ≡ 300) × (length pairs ≡ 33024) × (length index ≡ 300) × (length blocks ≡ 66048) × (length bytes ≡ 66000) × (length units ≡ 66000) × (length lent-bytes ≡ 140000) × (length lent-units ≡ 66000) × (length field-buffer ≡ 300) × (length entries ≡ 300) × (length lent-classes ≡ 300) × (length lent-singles ≡ 300) × (length lent-pairs ≡ 33024) × (length lent-index ≡ 300) × (length lent-blocks ≡ 66048) × (length block ≡ 65536) × (length line ≡ 400001) × (length out ≡ 600000)
 
 abbrev μ-loop : tie.MeasureT-loop
-μ-loop classes₀ singles₀ pairs₀ index₀ blocks₀ bytes₀ units₀ lent-bytes₀ lent-units₀ field-buffer₀ entries₀ block₀ line₀ out₀ cursor₀ next₀ counter₀ classes singles pairs index blocks bytes units lent-bytes lent-units field-buffer entries block line out cursor next counter =
+μ-loop classes₀ singles₀ pairs₀ index₀ blocks₀ bytes₀ units₀ lent-bytes₀ lent-units₀ field-buffer₀ entries₀ lent-classes₀ lent-singles₀ lent-pairs₀ lent-index₀ lent-blocks₀ block₀ line₀ out₀ cursor₀ next₀ counter₀ classes singles pairs index blocks bytes units lent-bytes lent-units field-buffer entries lent-classes lent-singles lent-pairs lent-index lent-blocks block line out cursor next counter =
     18446744073709551615 - counter
 
 new-requires : tie.Need-new-requires Inv-loop μ-loop
@@ -34,6 +34,11 @@ loop-holds c = (
   length-replicate {A = ℕ} 66000 0,
   length-replicate {A = ℕ} 300 0,
   length-replicate {A = ℕ} 300 0,
+  length-replicate {A = ℕ} 300 0,
+  length-replicate {A = ℕ} 300 0,
+  length-replicate {A = ℕ} 33024 0,
+  length-replicate {A = ℕ} 300 0,
+  length-replicate {A = ℕ} 66048 0,
   length-replicate {A = ℕ} 65536 0,
   length-replicate {A = ℕ} 400001 0,
   length-replicate {A = ℕ} 600000 0,
@@ -102,6 +107,21 @@ slice-aggregate-answer-12 c = search needs
 slice-aggregate-answer-13 : tie.Need-slice-aggregate-answer-13 Inv-loop μ-loop
 slice-aggregate-answer-13 c = search needs
 
+slice-aggregate-answer-14 : tie.Need-slice-aggregate-answer-14 Inv-loop μ-loop
+slice-aggregate-answer-14 c = search needs
+
+slice-aggregate-answer-15 : tie.Need-slice-aggregate-answer-15 Inv-loop μ-loop
+slice-aggregate-answer-15 c = search needs
+
+slice-aggregate-answer-16 : tie.Need-slice-aggregate-answer-16 Inv-loop μ-loop
+slice-aggregate-answer-16 c = search needs
+
+slice-aggregate-answer-17 : tie.Need-slice-aggregate-answer-17 Inv-loop μ-loop
+slice-aggregate-answer-17 c = search needs
+
+slice-aggregate-answer-18 : tie.Need-slice-aggregate-answer-18 Inv-loop μ-loop
+slice-aggregate-answer-18 c = search needs
+
 answer-requires : tie.Need-answer-requires Inv-loop μ-loop
 answer-requires c κs = search needs
 
@@ -115,16 +135,16 @@ flush-requires : tie.Need-flush-requires Inv-loop μ-loop
 flush-requires c κs = search needs
 
 add-counter : tie.Need-add-counter Inv-loop μ-loop
-add-counter c = omega (arith, c .before .before .before .before .before .before .before .before .before .before .before .before .before .before .before .before .before .before .before .before .before .before .before .before .before .before .before .before .before .before .before .before .before .before .before .before .before .before .loop-test .taken)
+add-counter c = omega (arith, c .before .before .before .before .before .before .before .before .before .before .before .before .before .before .before .before .before .before .before .before .before .before .before .before .before .before .before .before .before .before .before .before .before .before .before .before .before .before .before .before .before .before .before .before .before .before .before .before .loop-test .taken)
 
 loop-less : tie.Need-loop-less Inv-loop μ-loop
-loop-less c = omega (arith, c .before .before .before .before .before .before .before .before .before .before .before .before .before .before .before .before .before .before .before .before .before .before .before .before .before .before .before .before .before .before .before .before .before .before .before .before .before .before .loop-test .taken)
+loop-less c = omega (arith, c .before .before .before .before .before .before .before .before .before .before .before .before .before .before .before .before .before .before .before .before .before .before .before .before .before .before .before .before .before .before .before .before .before .before .before .before .before .before .before .before .before .before .before .before .before .before .before .before .loop-test .taken)
 
 loop-again : tie.Need-loop-again Inv-loop μ-loop
 loop-again c =
-    let at-answer = c .before .before .before .before .before .before .before .before .before .before .before .before .before .before .before in
+    let at-answer = c .before .before .before .before .before .before .before .before .before .before .before .before .before .before .before .before .before .before .before .before in
     let answer-kept = at-answer .answer .kept in
-    let at-next-line = at-answer .before .before .before .before .before .before .before .before .before .before .before .before .before .before .before .before .before .before .before .before in
+    let at-next-line = at-answer .before .before .before .before .before .before .before .before .before .before .before .before .before .before .before .before .before .before .before .before .before .before .before .before .before in
     let at-loop-test = at-next-line .before .before .before in
     let at-loop = at-loop-test .before in (
       omega (arith, at-loop-test .loop-test .taken),
@@ -139,9 +159,14 @@ loop-again c =
       answer-kept .1 .1 .1 .1 .1 .1 .1 .1 .1 .1 .0 ∙ at-loop .loop .inv .9,
       answer-kept .1 .1 .1 .1 .1 .1 .1 .1 .1 .1 .1 .0 ∙ at-loop .loop .inv .10,
       answer-kept .1 .1 .1 .1 .1 .1 .1 .1 .1 .1 .1 .1 .0 ∙ at-loop .loop .inv .11,
-      at-next-line .next-line .kept .0 ∙ at-loop .loop .inv .12,
-      at-next-line .next-line .kept .1 .0 ∙ at-loop .loop .inv .13,
-      answer-kept .1 .1 .1 .1 .1 .1 .1 .1 .1 .1 .1 .1 .1 .0 ∙ at-loop .loop .inv .14,
+      answer-kept .1 .1 .1 .1 .1 .1 .1 .1 .1 .1 .1 .1 .1 .0 ∙ at-loop .loop .inv .12,
+      answer-kept .1 .1 .1 .1 .1 .1 .1 .1 .1 .1 .1 .1 .1 .1 .0 ∙ at-loop .loop .inv .13,
+      answer-kept .1 .1 .1 .1 .1 .1 .1 .1 .1 .1 .1 .1 .1 .1 .1 .0 ∙ at-loop .loop .inv .14,
+      answer-kept .1 .1 .1 .1 .1 .1 .1 .1 .1 .1 .1 .1 .1 .1 .1 .1 .0 ∙ at-loop .loop .inv .15,
+      answer-kept .1 .1 .1 .1 .1 .1 .1 .1 .1 .1 .1 .1 .1 .1 .1 .1 .1 .0 ∙ at-loop .loop .inv .16,
+      at-next-line .next-line .kept .0 ∙ at-loop .loop .inv .17,
+      at-next-line .next-line .kept .1 .0 ∙ at-loop .loop .inv .18,
+      answer-kept .1 .1 .1 .1 .1 .1 .1 .1 .1 .1 .1 .1 .1 .1 .1 .1 .1 .1 .0 ∙ at-loop .loop .inv .19,
     )
 
 returns-2 : tie.Need-returns-2 Inv-loop μ-loop
@@ -177,6 +202,11 @@ main-spec =
     slice-aggregate-answer-11
     slice-aggregate-answer-12
     slice-aggregate-answer-13
+    slice-aggregate-answer-14
+    slice-aggregate-answer-15
+    slice-aggregate-answer-16
+    slice-aggregate-answer-17
+    slice-aggregate-answer-18
     answer-requires
     slice-aggregate-flush
     limit-requires
