@@ -21,9 +21,10 @@ IMAGES = (os.path.join(SCRIPTS, "data"), os.path.join(ROOT, "tables"))
 ORDER = (
     "initial", "rows", "calls", "bad_halves", "surrogates", "one_call", "standard", "policies", "shapes", "refusals", "lines",
     "edges", "grammar", "images", "fields", "field_cuttings", "breaks", "index", "spell", "inplace", "here",
+    "findings", "listing", "listing_pages",
     "lists_sample", "lists_small", "lists_damaged", "lists_halves", "lists_surrogates", "lists_long", "runs", "lists_fields",
-    "lists_index", "lists_inplace", "lists_here", "cp437", "cp850", "cp874", "cp1252", "cp932", "cp936",
-    "cp949", "cp950", "undefined_units", "spell_pages",
+    "lists_index", "lists_inplace", "lists_here", "lists_findings", "listing_damaged", "cp437", "cp850", "cp874", "cp1252", "cp932",
+    "cp936", "cp949", "cp950", "undefined_units", "spell_pages",
 )
 
 

@@ -2,7 +2,7 @@
 ghost use Prim.Native.Nat.{_≤_};
 ghost use lib.ListN.{take, replicate};
 ghost use Rattle.codepage.specs.CodePage.{codePage};
-ghost use Rattle.findings.specs.Calls.{findingsCall, ListedAs};
+ghost use Rattle.findings.specs.Calls.{findingsCall, FindingsListed};
 use codepage::Numbers;
 use console_script::command;
 use console_script::command::Command;
@@ -36,7 +36,7 @@ fn report_of(
     size: usize,
 ) -> Report
     requires { ⌜ size ≤ 300 ⌝ }
-    ensures { λ r. ⌜ ListedAs (findingsCall policy (codePage numbers (now (classes .entry)) (now (singles .entry)) (now (pairs .entry)) (now (index .entry)) (now (blocks .entry))) (now (text .entry))) (r .listed) (replicate size filled) (take size (r .list)) ⌝ }
+    ensures { λ r. ⌜ FindingsListed (findingsCall policy (codePage numbers (now (classes .entry)) (now (singles .entry)) (now (pairs .entry)) (now (index .entry)) (now (blocks .entry))) (now (text .entry))) (r .listed) (replicate size filled) (take size (r .list)) ⌝ }
 {
     let mut list = [filled; 300];
     let listed = findings::list_findings(

@@ -63,7 +63,7 @@ use Rattle.engine.proofs.Policy as Q
 use Rattle.engine.proofs.Policy.Laws as Q′
 use Rattle.findings.specs.declared.Finding.{Finding}
 use Rattle.findings.specs.declared.Listed.{Listed}
-use Rattle.findings.specs.Calls.{findingsCall, ListedAs}
+use Rattle.findings.specs.Calls.{findingsCall, FindingsListed}
 use Rattle.findings.proofs.Finding as T
 use Rattle.findings.proofs.Finding.Laws as T′
 use Rattle.findings.proofs.Listed as L
@@ -172,7 +172,7 @@ module _ {M : Type 1} (𝓤 : URA M) (H : Heap 𝓤) (A : Atoms 𝓤) (W : Given
   Post = walkOf 𝓤 H A report.ended stayed (report.clauses 𝓤 H A at-mem run) .post ((κs, qs, tt, args, values), tt)
 
   abbrev Said : Listed → List Finding → List Finding → Type 0
-  Said r ys zs = ListedAs (findingsCall q (codePage n (c .now) (s .now) (p .now) (i .now) (b .now)) (x .now)) r ys zs
+  Said r ys zs = FindingsListed (findingsCall q (codePage n (c .now) (s .now) (p .now) (i .now) (b .now)) (x .now)) r ys zs
 
   abbrev Tk : Item 𝓤
   Tk = tokens 𝓤 κs qs (‵ ftrue)
