@@ -37,7 +37,7 @@ struct Lacking {
 }
 
 // A run that stops at the first code without a character.
-pub fn stopping(direction: Direction, page: u16) -> Started {
+fn stopping(direction: Direction, page: u16) -> Started {
     Run::start(
         direction,
         page,
