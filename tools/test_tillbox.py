@@ -24,6 +24,7 @@ import time
 
 import second_converter
 import slow_clock
+import table_image
 from fixed_scripts import double_codes, edited
 
 ROOT = os.path.dirname(os.path.dirname(os.path.abspath(__file__)))
@@ -170,6 +171,8 @@ def test_help_goes_to_standard_output():
         "  tillbox preview [width N] TABLE LEDGER RECEIPT\n",
         "  tillbox spell TABLE NAMES SPELLINGS\n",
         "tillbox shape TABLE\n",
+        "  tillbox listing TABLE LISTING\n",
+        "  tillbox table LISTING TABLE\n",
         # the standard, and what gets through
         "550",
         "555",
@@ -188,7 +191,7 @@ def test_man_page_has_the_calls_of_help():
         text = page.read()
     synopsis = text.split(".SH SYNOPSIS\n.nf\n")[1].split("\n.fi\n")[0].split("\n")
     equal(synopsis, calls, "the synopsis of the man page")
-    for command in ("decode", "encode", "import", "why", "preview", "spell", "shape"):
+    for command in ("decode", "encode", "import", "why", "preview", "spell", "shape", "listing", "table"):
         if f".B {command}\n" not in text:
             raise AssertionError(f"the man page does not tell of {command}")
 
@@ -199,7 +202,7 @@ def test_other_words_for_help_and_the_version():
         got = subprocess.run([PROGRAM, word], capture_output=True)
         equal((got.stdout, got.stderr), (help_text, b""), word)
     got = subprocess.run([PROGRAM, "--version"], capture_output=True)
-    equal(got.stdout, b"tillbox, by document 01 with the change requests 1, 2, 4, 5, 6, 7, 8, 10 and 12\n", "the version")
+    equal(got.stdout, b"tillbox, by document 01 with the change requests 1, 2, 3, 4, 5, 6, 7, 8, 10 and 12\n", "the version")
 
 
 def test_a_byte_order_mark_is_told():
@@ -267,6 +270,12 @@ def test_misuse_says_how_to_call():
         (["spell", "a.tbl", "names"], "three names of files are asked for"),
         (["spell", "a.tbl", "names", "spellings", "checkpoint"], "three names of files are asked for"),
         (["spell", "policy", "555", "a.tbl", "names", "spellings"], "three names of files are asked for"),
+        (["listing"], "two names of files are asked for"),
+        (["listing", "a.tbl"], "two names of files are asked for"),
+        (["listing", "a.tbl", "listing", "checkpoint"], "two names of files are asked for"),
+        (["table"], "two names of files are asked for"),
+        (["table", "listing"], "two names of files are asked for"),
+        (["table", "policy", "555", "listing", "a.tbl"], "two names of files are asked for"),
         (["preview"], "three names of files are asked for"),
         (["preview", "a.tbl", "ledger"], "three names of files are asked for"),
         (["preview", "a.tbl", "ledger", "receipt", "checkpoint"], "three names of files are asked for"),
@@ -319,6 +328,11 @@ def test_exit_status():
         (["why", "cp932.tbl", "broken"], 0),
         (["why", "policy", "550", "cp932.tbl", "broken"], 2),
         (["why", "policy", "557", "cp932.tbl", "broken"], 1),
+        (["listing", "cp932.tbl", "listing"], 0),
+        (["listing", "journal", "listing"], 1),
+        (["table", "listing", "made.tbl"], 0),
+        (["table", "broken", "made.tbl"], 1),
+        (["table", "listing"], 64),
     ):
         write("broken", b"tea \x82\n")
         write("long", b"x" * 300)
@@ -346,6 +360,8 @@ def test_a_small_stack():
         ["spell", "cp932.tbl", "names", "spellings"],
         ["why", "cp932.tbl", "damaged"],
         ["why", "context", "cp932.tbl", "damaged"],
+        ["listing", "cp932.tbl", "listing"],
+        ["table", "listing", "made.tbl"],
         *(["shape", os.path.join(TABLES, name)] for name in sorted(os.listdir(TABLES)) if name.endswith(".tbl")),
     ):
         size = 128
@@ -2492,6 +2508,325 @@ def test_why_refused():
     with open("/dev/full", "wb") as full:
         got = subprocess.run([PROGRAM, "why", "cp932.tbl", "journal"], stdout=full, stderr=subprocess.PIPE)
     equal((got.returncode, got.stderr), (1, b"tillbox: error: cannot write standard output: No space left on device\n"), "findings that can't be written")
+
+
+# ---------------------------------------------------------------------------------------------------------------
+# Table listings (CR 3)
+# ---------------------------------------------------------------------------------------------------------------
+# The whole example of document 02, tabs as blanks.
+EXAMPLE = ("P 9", "D 3F 30FB", "S 00 0000", "L 81", "T 40", "M 8140 3000", "W 0000 0000", "W 3000 8140")
+
+
+def records(*lines):
+    """Records, written with blanks for their tabs, as a listing has them."""
+    return b"".join(line(text) for text in lines)
+
+
+def example_image():
+    """The table set of the example, by hand."""
+    tables = table_image.Tables(9, 0x3F, 0x30FB)
+    tables.classes[0x00] = table_image.SINGLE
+    tables.classes[0x40] = table_image.SECOND
+    tables.classes[0x81] = table_image.LEAD
+    tables.singles[0x00] = 0x0000
+    tables.make_pair_blocks()
+    tables.set_pair(0x8140, 0x3000)
+    tables.set_codes({0x0000: 0x0000, 0x3000: 0x8140})
+    return tables.image()
+
+
+def parts(image):
+    """The numbers of an image, and its tables."""
+    page, byte, _, unit, _, *sizes = struct.unpack("<HBBHH5I", image[:28])
+    place, tables = 28, []
+    for size, form in zip(sizes, "BHHBH"):
+        width = struct.calcsize(form)
+        tables.append(struct.unpack(f"<{size}{form}", image[place : place + size * width]))
+        place += size * width
+    equal(place, len(image), "the length of an image")
+    return (page, byte, unit), *tables
+
+
+def entries(image):
+    """What an image means: its numbers, the bytes by class, the characters and the codes, in rising order."""
+    numbers, classes, singles, pairs, index, blocks = parts(image)
+    leads = [byte for byte in range(256) if classes[byte] & 3 == 2]
+    seconds = [byte for byte in range(256) if classes[byte] & 4]
+    chars = [(byte, singles[byte]) for byte in range(256) if classes[byte] & 3 == 1]
+    twos = [(256 * lead + byte, pairs[256 * place + byte]) for place, lead in enumerate(leads) for byte in seconds]
+    codes = [(unit, blocks[256 * index[unit >> 8] + (unit & 255)]) for unit in range(65536)]
+    twos, codes = ([pair for pair in table if pair[1] != 0xFFFF] for table in (twos, codes))
+    return numbers, chars, leads, seconds, twos, codes
+
+
+def listing_of(image):
+    """The listing of an image, from document 02."""
+    (page, byte, unit), chars, leads, seconds, twos, codes = entries(image)
+    lines = [f"P {page}", f"D {byte:02X} {unit:04X}"]
+    lines += [f"S {key:02X} " + ("-" if char == 0xFFFF else f"{char:04X}") for key, char in chars]
+    lines += [f"L {key:02X}" for key in leads] + [f"T {key:02X}" for key in seconds]
+    return records(*lines, *(f"M {key:04X} {right:04X}" for key, right in twos), *(f"W {key:04X} {right:04X}" for key, right in codes))
+
+
+def listed(text, page):
+    return [f"page {page}, lines: {text.count(bytes([10]))}, written {len(text)} bytes"]
+
+
+def taken(text, page):
+    return [f"read {len(text)} bytes, lines: {text.count(bytes([10]))}, page {page}"]
+
+
+def test_the_example_of_listings():
+    text = records(*EXAMPLE)
+    write("listing", text)
+    tillbox("table", "listing", "made.tbl", says=taken(text, 9))
+    equal(read("made.tbl") == example_image(), True, "the image of the example")
+    tillbox("listing", "made.tbl", "again", says=listed(text, 9))
+    equal(read("again"), text, "the example written again")
+    equal(os.path.exists("made.tbl.new"), False, "no new file is left")
+
+
+def test_listings_of_every_page():
+    """Each page there and back: its listing is the one of document 02, and the image that comes back means the same."""
+    for name in sorted(os.listdir(TABLES)):
+        if not name.endswith(".tbl"):
+            continue
+        image = read(os.path.join(TABLES, name))
+        page = parts(image)[0][0]
+        wanted = listing_of(image)
+        tillbox("listing", os.path.join(TABLES, name), "listing", says=listed(wanted, page))
+        equal(read("listing") == wanted, True, f"the listing of {name}")
+        tillbox("table", "listing", "made.tbl", says=taken(wanted, page))
+        made = read("made.tbl")
+        equal(entries(made) == entries(image), True, f"the meaning of {name} behind its listing")
+        # the tables of this folder have their blocks numbered as a listing's
+        equal(made == image, True, f"the image of {name} behind its listing")
+        tillbox("shape", "made.tbl", word=f"page {page}: good\n{held(os.path.join(TABLES, name))}\ndone", says=[])
+
+
+def test_an_edited_listing():
+    """One line is mended, and just that character is another one."""
+    image = read("cp932.tbl")
+    tillbox("listing", "cp932.tbl", "listing")
+    text = read("listing")
+    old, new = records("M 8140 3000"), records("M 8140 2003")
+    equal(text.count(old), 1, "lines to be mended")
+    write("listing", text.replace(old, new))
+    tillbox("table", "listing", "cp932.tbl", says=taken(text, 932))
+    before, after = entries(image), entries(read("cp932.tbl"))
+    equal([place for place in range(6) if before[place] != after[place]], [4], "which part changed")
+    equal(sorted(set(before[4]) ^ set(after[4])), [(0x8140, 0x2003), (0x8140, 0x3000)], "what changed")
+    # a journal is decoded by it
+    write("journal", b"\x81\x40")
+    tillbox("decode", "cp932.tbl", "journal", "ledger")
+    equal(read("ledger"), units_text(0x2003), "the mended character")
+
+
+def test_listings_without_pairs_and_codes():
+    for lines in (EXAMPLE[:2], EXAMPLE[:3], (*EXAMPLE[:2], "S FF -"), (*EXAMPLE[:2], "L 80", "L FF"), (*EXAMPLE[:2], "T 00", "T FF"), (*EXAMPLE[:2], "W FFFF 0000")):
+        text = records(*lines)
+        write("listing", text)
+        tillbox("table", "listing", "made.tbl", says=taken(text, 9))
+        equal(listing_of(read("made.tbl")), text, f"the listing of {lines}")
+
+
+def test_a_listing_of_every_high_half():
+    """256 high halves have codes: the 256th takes the empty block."""
+    text = records(*EXAMPLE[:2], "S 41 0041", *(f"W {high:02X}41 0041" for high in range(256)))
+    write("listing", text)
+    tillbox("table", "listing", "made.tbl", says=taken(text, 9))
+    equal(listing_of(read("made.tbl")), text, "256 high halves")
+    equal(parts(read("made.tbl"))[4], (*range(1, 256), 0), "the index")
+    tillbox("listing", "made.tbl", "again", says=listed(text, 9))
+    equal(read("again"), text, "256 high halves written again")
+
+
+AS_IT_WAS = "made.tbl is as it was: mend the listing and call again"
+S_FORM = "its form is S>BYTE>UNIT, a byte of two hex digits and a unit of four, or - for the unit"
+M_FORM = "its form is M>CODE>UNIT, a code and a unit of four hex digits each"
+W_FORM = "its form is W>UNIT>CODE, a unit and a code of four hex digits each"
+P_FORM = "its form is P>PAGE, a decimal number of 1 to 65,535 with no spare zero"
+D_FORM = "its form is D>BYTE>UNIT, a byte of two hex digits and a unit of four"
+NO_LETTER = "it begins with none of the letters P, D, S, L, T, M, W"
+FFFF_RIGHT = "FFFF on the right: a byte S without a character has -, and an M or W without one is left out"
+TOO_LATE = "its letter comes too late: the letters come in the order P, D, S, L, T, M, W"
+TWICE = "the line before it has the same left side: each is listed once"
+FALLING = "its left side is below that of the line before: they rise within a letter"
+SPACE = "it has a space: tabs part the fields, and nothing follows the last one"
+SMALL = "it has a small letter: letters and hex digits are capital"
+
+
+def listing_refused(text, number, shown, why):
+    """A listing is refused at a line, which is shown; the table is as it was."""
+    write("listing", text)
+    write("made.tbl", b"kept")
+    refused("table", "listing", "made.tbl", says=[f"error 22: line {number} of listing: {why}", f"  {shown}", AS_IT_WAS])
+
+
+def test_lines_that_break_the_form():
+    for bad, why in [
+        (b"\n", "it is empty: each line is a record"),
+        (line("X 41"), NO_LETTER),
+        (b"\tS\t41\n", NO_LETTER),
+        (line("s 41 0041"), SMALL),
+        (line("S 41 004a"), SMALL),
+        (b"S 41 0041\n", SPACE),
+        (b"S\t41\t0041 \n", SPACE),
+        (b"S\t41\t0041\r\n", "it has a carriage return: a line feed alone closes a line"),
+        (line("S 41 FFFF"), FFFF_RIGHT),
+        (line("M 8140 FFFF"), FFFF_RIGHT),
+        (line("W 0041 FFFF"), FFFF_RIGHT),
+        (line("S 41 041"), S_FORM),
+        (line("S 41 00041"), S_FORM),
+        (line("S 4 0041"), S_FORM),
+        (line("S 41"), S_FORM),
+        (line("S 41 --"), S_FORM),
+        (line("S 41 0041 "), S_FORM),
+        (line("L 8"), "its form is L>BYTE, a byte of two hex digits"),
+        (line("T 4G"), "its form is T>BYTE, a byte of two hex digits"),
+        (line("M 40 3000"), M_FORM),
+        (line("M 8140 -"), M_FORM),
+        (line("W 41 0041"), W_FORM),
+        (line("W 0041 41"), W_FORM),
+        (line("D 3F"), D_FORM),
+        (b"S\t41\t00\x8141\n", S_FORM),
+        (b"M" * 79 + b"\n", M_FORM),
+        (b"M" * 80 + b"\n", "it has more bytes than any record"),
+    ]:
+        shown = "".join(">" if byte == 9 else chr(byte) if 32 <= byte < 127 else f"\\x{byte:02X}" for byte in bad[:-1])
+        listing_refused(records(*EXAMPLE[:2]) + bad + records("W 0000 0000"), 3, shown + ("..." if len(bad) > 80 else ""), why)
+    for page in ("0", "01", "65536", "100000", "-1", "A", ""):
+        listing_refused(records(f"P {page}", *EXAMPLE[1:]), 1, f"P>{page}", P_FORM)
+    # a last line without a line feed, and a long one
+    listing_refused(records(*EXAMPLE)[:-1], 8, "W>3000>8140", "no line feed closes it")
+    listing_refused(records(*EXAMPLE) + b"A" * 5000, 9, "A" * 80 + "...", "it has more bytes than any record")
+    listing_refused(b"A" * 5000 + b"\n", 1, "A" * 80 + "...", "it has more bytes than any record")
+
+
+def test_lines_that_break_the_order():
+    page, defaults, single, lead, second, pair, code, other = EXAMPLE
+    for lines, number, why in [
+        ((defaults, page), 1, "P is missing: the first line is the page"),
+        ((single,), 1, "P is missing: the first line is the page"),
+        ((page, single), 2, "D is missing: the second line has the default byte and the default unit"),
+        ((page, code), 2, "D is missing: the second line has the default byte and the default unit"),
+        ((page, page), 2, "P again: it comes once, first"),
+        ((page, defaults, page), 3, "P again: it comes once, first"),
+        ((page, defaults, defaults), 3, "D again: it comes once, second"),
+        ((page, defaults, single, defaults), 4, "D again: it comes once, second"),
+        ((page, defaults, lead, single), 4, TOO_LATE),
+        ((page, defaults, second, lead), 4, TOO_LATE),
+        ((page, defaults, code, second), 4, TOO_LATE),
+        ((*EXAMPLE, pair), 9, TOO_LATE),
+        ((page, defaults, single, single), 4, TWICE),
+        ((page, defaults, lead, lead), 4, TWICE),
+        ((page, defaults, second, second), 4, TWICE),
+        ((page, defaults, lead, second, pair, pair), 6, TWICE),
+        ((*EXAMPLE, other), 9, TWICE),
+        ((page, defaults, "S 41 0041", single), 4, FALLING),
+        ((page, defaults, "L 82", lead), 4, FALLING),
+        ((page, defaults, "T 41", second), 4, FALLING),
+        ((page, defaults, lead, second, "T 41", "M 8141 3001", pair), 7, FALLING),
+        ((*EXAMPLE, code), 9, FALLING),
+    ]:
+        listing_refused(records(*lines), number, lines[number - 1].replace(" ", ">"), why)
+
+
+def test_lines_that_lack_what_they_need():
+    page, defaults, single, lead, second, pair, code, _ = EXAMPLE
+    for lines, number, why in [
+        ((page, defaults, "L 7F"), 3, "no lead byte is below 80"),
+        ((page, defaults, "L 00"), 3, "no lead byte is below 80"),
+        ((page, defaults, "S 81 -", lead), 4, "its byte is listed as S: a byte is not both S and L"),
+        ((page, defaults, second, pair), 4, "the first byte of its code is not listed as L"),
+        ((page, defaults, lead, second, "M 8240 3000"), 5, "the first byte of its code is not listed as L"),
+        ((page, defaults, lead, second, "M 0040 3000"), 5, "the first byte of its code is not listed as L"),
+        ((page, defaults, lead, pair), 4, "the second byte of its code is not listed as T"),
+        ((page, defaults, lead, second, "M 8141 3000"), 5, "the second byte of its code is not listed as T"),
+    ]:
+        listing_refused(records(*lines), number, lines[number - 1].replace(" ", ">"), why)
+
+
+def test_a_listing_that_ends_early():
+    write("made.tbl", b"kept")
+    for lines in ((), EXAMPLE[:1]):
+        write("listing", records(*lines))
+        refused("table", "listing", "made.tbl", says=[f"error 22: listing: it ends behind line {len(lines)}, before P and D have come", AS_IT_WAS])
+
+
+def test_a_late_line_is_refused():
+    """A line is counted over blocks, and nothing of what came before it is kept."""
+    tillbox("listing", "cp932.tbl", "listing")
+    lines = read("listing").split(b"\n")[:-1]
+    for place in (40, 5000, len(lines) - 1):
+        bad = lines[:place] + [lines[place].lower()] + lines[place + 1 :]
+        listing_refused(b"\n".join(bad) + b"\n", place + 1, lines[place].lower().decode().replace("\t", ">"), SMALL)
+
+
+def test_names_of_listings():
+    missing, twice = "No such file or directory", "two of the files have this name"
+    write("listing", records(*EXAMPLE))
+    write("made.tbl", b"kept")
+    write("bad.tbl", b"no table")
+    os.mkdir("folder")
+    os.symlink("made.tbl", "link.tbl")
+    os.link("listing", "hard")
+    image = bytearray(read("cp932.tbl"))
+    image[28 + 0xFF] = 3
+    write("class.tbl", image)
+    for words, says in [
+        (["listing", "none.tbl", "listing"], [f"error: cannot open none.tbl: {missing}"]),
+        (["listing", "bad.tbl", "listing"], ["error: bad.tbl: it is not a table image"]),
+        (["listing", "cp932.tbl", "cp932.tbl"], [f"error: cp932.tbl: {twice}"]),
+        (["listing", "made.tbl", "link.tbl"], ["error: link.tbl: it is the same file as made.tbl"]),
+        (["listing", "folder", "listing"], [f"error: folder: {NO_PLAIN_FILE}"]),
+        (["listing", "cp932.tbl", "folder"], [f"error: folder: {NO_PLAIN_FILE}"]),
+        (["listing", "cp932.tbl", "none/listing"], [f"error: cannot make none/listing: {missing}"]),
+        (["listing", "cp932.tbl", ""], ["error: the name of a file is empty or too long"]),
+        (
+            ["listing", "class.tbl", "listing"],
+            ["error 10: the shape of the tables is not good (class.tbl)", "  the first bad place: the class at FF is none of 0, 1, 2, 4, 5, 6"],
+        ),
+        (["table", "none", "made.tbl"], [f"error: cannot open none: {missing}"]),
+        (["table", "listing", "listing"], [f"error: listing: {twice}"]),
+        (["table", "listing", "hard"], ["error: hard: it is the same file as listing"]),
+        (["table", "listing", "link.tbl"], ["error: link.tbl: it is a link; name the file itself"]),
+        (["table", "listing", "folder"], [f"error: folder: {NO_PLAIN_FILE}"]),
+        (["table", "folder", "made.tbl"], [f"error: folder: {NO_PLAIN_FILE}"]),
+        (["table", "listing", "/dev/null"], [f"error: /dev/null: {NO_PLAIN_FILE}"]),
+        (["table", "listing", "none/made.tbl"], [f"error: cannot make none/made.tbl.new: {missing}"]),
+        (["table", "", "made.tbl"], ["error: the name of a file is empty or too long"]),
+    ]:
+        refused(*words, says=says)
+    # the file beside the table, by way of which it is replaced
+    os.rename("listing", "made.tbl.new")
+    refused("table", "made.tbl.new", "made.tbl", says=[f"error: made.tbl.new: {twice}"])
+    write("listing", records(*EXAMPLE))
+    there = "it is there already: another call is making it, or one was cut; remove it and call again"
+    refused("table", "listing", "made.tbl", says=[f"error: made.tbl.new: {there}"])
+
+
+def test_a_table_that_can_not_be_replaced():
+    """The table is as it was, and no new file is left, whatever fails."""
+    text = records(*EXAMPLE)
+    write("listing", text)
+    write("made.tbl", b"kept")
+    tillbox("table", "listing", "made.tbl", word="failed", limit=1000, says=["error: cannot write made.tbl: File too large"])
+    equal((read("made.tbl"), os.path.exists("made.tbl.new")), (b"kept", False), "the files after a limit")
+    for call, what in (("write", "write"), ("fsync", "sync"), ("close", "close")):
+        injected(call, "made.tbl.new", "table", "listing", "made.tbl", says=f"cannot {what} made.tbl: Input/output error")
+        equal((read("made.tbl"), os.path.exists("made.tbl.new")), (b"kept", False), f"the files after {call} failed")
+    if can_trace():
+        trace = ["strace", "-o", "/dev/null", "-P", "made.tbl.new", "-e", "trace=rename", "-e", "inject=rename:error=EIO"]
+        got = subprocess.run([*trace, PROGRAM, "table", "listing", "made.tbl"], capture_output=True, timeout=60)
+        equal((got.stdout, got.stderr), (b"failed\n", b"tillbox: error: cannot rename made.tbl.new: Input/output error\n"), "a file that can't be renamed")
+        equal((read("made.tbl"), os.path.exists("made.tbl.new")), (b"kept", False), "the files after rename failed")
+    injected("read", "listing", "table", "listing", "made.tbl", says="cannot read listing: Input/output error")
+    equal(read("made.tbl"), b"kept", "the table")
+    tillbox("table", "listing", "made.tbl", says=taken(text, 9))
+    equal(read("made.tbl") == example_image(), True, "the table that was replaced")
+    tillbox("listing", "cp932.tbl", "listing", word="failed", limit=1000, says=["error: cannot write listing: File too large"])
+    injected("fsync", "listing", "listing", "cp932.tbl", "listing", says="cannot sync listing: Input/output error")
 
 
 def main():

@@ -107,7 +107,7 @@ fn with_output(
     )
 }
 
-// The work on a table and an input, where nothing is written but to standard output.
+// The work of a call that has two names: those of a table and an input or a listing, or of a listing and a table.
 fn without_output(
     call: Call,
     table: &[u8],
@@ -137,6 +137,17 @@ fn without_output(
     )
 }
 
+// Whether a call has two names.
+fn has_two(call: Call) -> bool {
+    let kind = call.kind;
+    match kind {
+        Kind::Why => true,
+        Kind::Listing => true,
+        Kind::Table => true,
+        _ => false,
+    }
+}
+
 // The second name, the input's, and the rest.
 fn with_input(
     call: Call,
@@ -153,8 +164,7 @@ fn with_input(
     if count == 0 {
         return Ending::Failed;
     }
-    let kind = call.kind;
-    if let Kind::Why = kind {
+    if has_two(call) {
         return without_output(
             call,
             table,

@@ -1,5 +1,6 @@
 // Inner: the commands of tillbox, from the words of a call to its last word and its exit status. It converts whole files between a
-// till's code page bytes and UTF-16LE, with checkpoints, imports a journal's records, tells its findings, previews a receipt and spells names.
+// till's code page bytes and UTF-16LE, with checkpoints, imports a journal's records, tells its findings, previews a receipt,
+// spells names, and writes and reads table listings.
 // What is said goes to standard error; standard output has findings and shapes, and one last word: done, stopped or failed.
 mod descriptors;
 mod files;

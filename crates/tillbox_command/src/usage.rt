@@ -2,7 +2,7 @@
 pub fn put(fd: i32) {
     io::write_all(
         fd,
-        b"tillbox converts a till's journal to UTF-16LE and back, imports its records, tells why a flag is\nup, previews receipts and spells names.\n\n",
+        b"tillbox converts a till's journal to UTF-16LE and back, imports its records, tells why a flag is\nup, previews receipts, spells names and lists tables for an editor.\n\n",
     );
     put_commands(fd);
     put_words(fd);
@@ -10,6 +10,7 @@ pub fn put(fd: i32) {
     put_why(fd);
     put_preview(fd);
     put_spelling(fd);
+    put_listings(fd);
     put_checkpoints(fd);
     put_ending(fd);
 }
@@ -18,7 +19,7 @@ pub fn put(fd: i32) {
 pub fn put_version(fd: i32) {
     io::write_all(
         fd,
-        b"tillbox, by document 01 with the change requests 1, 2, 4, 5, 6, 7, 8, 10 and 12\n",
+        b"tillbox, by document 01 with the change requests 1, 2, 3, 4, 5, 6, 7, 8, 10 and 12\n",
     );
 }
 
@@ -37,6 +38,8 @@ fn put_commands(fd: i32) {
     io::write_all(fd, b"  tillbox preview [width N] TABLE LEDGER RECEIPT\n");
     io::write_all(fd, b"  tillbox spell TABLE NAMES SPELLINGS\n");
     io::write_all(fd, b"  tillbox shape TABLE\n");
+    io::write_all(fd, b"  tillbox listing TABLE LISTING\n");
+    io::write_all(fd, b"  tillbox table LISTING TABLE\n");
     io::write_all(fd, b"  tillbox help, --version\n\n");
 }
 
@@ -123,6 +126,22 @@ fn put_spelling(fd: i32) {
     io::write_all(
         fd,
         b"bytes, is told with its number, from 1, and copied as it is.\n\n",
+    );
+}
+
+// What a listing is, and what is made of it.
+fn put_listings(fd: i32) {
+    io::write_all(
+        fd,
+        b"listing makes LISTING anew from TABLE, a text for an editor: one record a line, a letter and fields parted by\n",
+    );
+    io::write_all(
+        fd,
+        b"tabs, in capital hex. table reads such a listing and replaces TABLE, once every line was accepted. A line that is\n",
+    );
+    io::write_all(
+        fd,
+        b"refused is told with its number, from 1, and what is wrong with it; then TABLE is as it was.\n\n",
     );
 }
 

@@ -11,15 +11,17 @@ pub enum Kind {
     // `decode`, `encode` and `preview`.
     Convert,
     Import,
+    Listing,
     Shape,
     Spell,
+    Table,
     Why,
     // The words are wrong; that was said.
     Misused,
 }
 
-// A command, its job, whether lines around findings are asked for, and which argument is the first name. A shape and a spelling have no
-// job, and an import and the findings of a journal use its policy alone.
+// A command, its job, whether lines around findings are asked for, and which argument is the first name. A shape, a listing and a spelling have
+// no job, and an import and the findings of a journal use its policy alone.
 pub struct Call {
     pub kind: Kind,
     pub job: Job,
@@ -176,6 +178,14 @@ fn why_call() -> Call {
     call
 }
 
+// `listing` and `table`: two files.
+fn listing_call(kind: Kind) -> Call {
+    if os::arg_count() != 4 {
+        return misused(b"two names of files are asked for");
+    }
+    plain(kind, Policy::standard(), 2)
+}
+
 // `shape`: the shape report of one table image.
 fn shape_call() -> Call {
     if os::arg_count() != 3 {
@@ -190,6 +200,20 @@ fn spell_call() -> Call {
         return misused(b"three names of files are asked for");
     }
     plain(Kind::Spell, Policy::standard(), 2)
+}
+
+// The command that the first word names, of those on a table image or its listing.
+fn table_command() -> Call {
+    if options::is_word(1, b"shape") {
+        return shape_call();
+    }
+    if options::is_word(1, b"listing") {
+        return listing_call(Kind::Listing);
+    }
+    if options::is_word(1, b"table") {
+        return listing_call(Kind::Table);
+    }
+    misused(b"no such command")
 }
 
 // The command that the first word names.
@@ -209,14 +233,11 @@ pub fn command() -> Call {
     if options::is_word(1, b"preview") {
         return preview_call();
     }
-    if options::is_word(1, b"shape") {
-        return shape_call();
-    }
     if options::is_word(1, b"spell") {
         return spell_call();
     }
     if options::is_word(1, b"why") {
         return why_call();
     }
-    misused(b"no such command")
+    table_command()
 }

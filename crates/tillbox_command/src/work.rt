@@ -1,4 +1,4 @@
-// What a call asks for, on files whose names are known: the tables are loaded into lent memory, once and for every command.
+// What a call asks for, on files whose names are known: the tables are loaded into lent memory, once and for every command that reads a table image.
 use crate::words::Call;
 use crate::words::Kind;
 use codepage::Numbers;
@@ -11,6 +11,9 @@ use tillbox_jobs::shape;
 use tillbox_jobs::tables;
 use tillbox_layout::front_bytes;
 use tillbox_layout::front_units;
+use tillbox_listing::names::can_list;
+use tillbox_listing::names::can_replace;
+use tillbox_listing::reading::read_listing;
 use tillbox_storage::names::is_plain;
 
 // The most bytes of a line that is broken or spelled, and of a part of a journal. They stand where the image was.
@@ -26,6 +29,12 @@ pub fn are_good(call: Call, table: &[u8], input: &[u8], output: &[u8], checkpoin
     }
     if let Kind::Why = kind {
         return is_plain(table) && is_plain(input);
+    }
+    if let Kind::Listing = kind {
+        return can_list(table, input);
+    }
+    if let Kind::Table = kind {
+        return can_replace(table, input);
     }
     names::are_apart(job, table, input, output, checkpoint)
 }
@@ -121,6 +130,32 @@ fn tell_why(
     )
 }
 
+// Writes a listing: the memory of the image has room for some lines.
+fn list(
+    numbers: Numbers,
+    classes: &[u8],
+    singles: &[u16],
+    pairs: &[u16],
+    index: &[u8],
+    blocks: &[u16],
+    image: &mut [u8],
+    table: &[u8],
+    listing: &[u8],
+) -> Ending {
+    let room = front_bytes(LINE, image);
+    tillbox_listing::writing::with_tables(
+        numbers,
+        classes,
+        singles,
+        pairs,
+        index,
+        blocks,
+        &mut image[..room],
+        table,
+        listing,
+    )
+}
+
 // From a table set on.
 fn with_tables(
     call: Call,
@@ -157,6 +192,17 @@ fn with_tables(
         }
         Kind::Why => tell_why(
             call,
+            numbers,
+            classes,
+            singles,
+            pairs,
+            index,
+            blocks,
+            image,
+            table,
+            input,
+        ),
+        Kind::Listing => list(
             numbers,
             classes,
             singles,
@@ -238,7 +284,7 @@ fn with_loaded(
 }
 
 // Loads the tables and does what a call asks for.
-pub fn run(
+fn load_and_run(
     call: Call,
     table: &[u8],
     input: &[u8],
@@ -255,6 +301,39 @@ pub fn run(
     with_loaded(
         call,
         loaded,
+        table,
+        input,
+        output,
+        checkpoint,
+        image,
+        classes,
+        singles,
+        pairs,
+        index,
+        blocks,
+    )
+}
+
+// Does what a call asks for: a table is made from a listing, whose names come in that order; else a table is loaded.
+pub fn run(
+    call: Call,
+    table: &[u8],
+    input: &[u8],
+    output: &[u8],
+    checkpoint: &[u8],
+    image: &mut [u8],
+    classes: &mut [u8],
+    singles: &mut [u16],
+    pairs: &mut [u16],
+    index: &mut [u8],
+    blocks: &mut [u16],
+) -> Ending {
+    let kind = call.kind;
+    if let Kind::Table = kind {
+        return read_listing(table, input, classes, singles, pairs, index, blocks);
+    }
+    load_and_run(
+        call,
         table,
         input,
         output,
