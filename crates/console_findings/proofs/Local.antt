@@ -14,10 +14,12 @@ use denote.RattleType.{RattleType}
 use denote.Memory.{mem, cellAt, partOf}
 
 module _ {M : Type 1} (𝓤 : URA M) (H : Heap 𝓤) (A : Atoms 𝓤) (W : Given 𝓤 H A) (R : RattleType) (h : R .Denot) (b o : ℕ) where
+  -- a whole cell and what its value owns are the value lying there
   pub lies-in : (vs : List Val) → ent 𝓤 (sep 𝓤 (sem 𝓤 H A (cellAt fullShare (R .mir) vs b o)) (sem 𝓤 H A (R .own h vs))) (sem 𝓤 H A (mem R .lies h b o))
   unfolding partOf
   lies-in vs = qed W (‵ (cellAt fullShare (R .mir) vs b o) ∷ ‵ (R .own h vs) ∷ []) ∵ fjoin ! $ fpack ! (List Val) (λ us. fsep (cellAt fullShare (R .mir) us b o) (R .own h us)) vs $ done !
 
+  -- a value that lies there is a whole cell and what its value owns
   pub lies-out : ent 𝓤 (sem 𝓤 H A (mem R .lies h b o)) (ex 𝓤 (λ (vs : List Val). sep 𝓤 (sem 𝓤 H A (cellAt fullShare (R .mir) vs b o)) (sem 𝓤 H A (R .own h vs))))
   unfolding partOf
   lies-out = qed W (‵ (mem R .lies h b o) ∷ []) ∵ fpick ! (λ vs. fsplit ! $ show ! (λ (us : List Val). sep 𝓤 (sem 𝓤 H A (cellAt fullShare (R .mir) us b o)) (sem 𝓤 H A (R .own h us))) vs $ done !)

@@ -21,6 +21,7 @@ use denote.Steps.{nothing}
 abbrev pub Lifetimes : Type 0
 Lifetimes = Lft × (Lft × (Lft × (Lft × (Lft × (Lft × Unit {0})))))
 
+-- a share of each lifetime's token
 abbrev pub Shares : Type 0
 Shares = Share × (Share × (Share × (Share × (Share × (Share × Unit {0})))))
 
