@@ -289,14 +289,10 @@ static int open_cell(cell *c, const char *folder, int k, int direction, size_t b
 
 int main(int argc, char **argv)
 {
-    char name[4096];
     if (argc != 4)
         die("use: bench TEXTS TABLES PASSES");
     int passes = atoi(argv[3]);
-    snprintf(name, sizeof name, "%s/cp932.tbl", argv[2]);
-    pages[0] = read_image(name);
-    snprintf(name, sizeof name, "%s/cp1252.tbl", argv[2]);
-    pages[1] = read_image(name);
+    read_pages(argv[2], pages);
 
     printf("Codes (decoding) and units (encoding) one by one:\n\n");
     printf("| Page | Direction | Peer | Same | Other | Only till | Only peer |\n|---|---|---|---|---|---|---|\n");

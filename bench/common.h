@@ -13,6 +13,17 @@ static inline double now(void)
     return (double)t.tv_sec + (double)t.tv_nsec * 1e-9;
 }
 
+/* The pages of the texts, from the folder of the table images: 932, 1252. */
+static inline void read_pages(const char *folder, table_set pages[2])
+{
+    static const char *const names[2] = {"cp932.tbl", "cp1252.tbl"};
+    char path[4096];
+    for (int i = 0; i < 2; i++) {
+        snprintf(path, sizeof path, "%s/%s", folder, names[i]);
+        pages[i] = read_image(path);
+    }
+}
+
 static inline till_run fresh_run(const table_set *t, uint8_t direction)
 {
     till_run r = {0, 0, t->page, TILL_NOTHING, direction, 5, 5, 5, 0, 0};

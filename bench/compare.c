@@ -59,13 +59,9 @@ static void row(const char *folder, const table_set *t, int k, int direction, si
 int main(int argc, char **argv)
 {
     table_set pages[2];
-    char name[4096];
     if (argc != 4)
         die("use: compare TEXTS TABLES PASSES");
-    snprintf(name, sizeof name, "%s/cp932.tbl", argv[2]);
-    pages[0] = read_image(name);
-    snprintf(name, sizeof name, "%s/cp1252.tbl", argv[2]);
-    pages[1] = read_image(name);
+    read_pages(argv[2], pages);
     for (size_t k = 0; k < sizeof texts / sizeof *texts; k++)
         for (int direction = 0; direction < 2; direction++)
             for (size_t bytes = 512; bytes <= 65536; bytes *= 128)

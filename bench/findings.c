@@ -34,11 +34,7 @@ int main(int argc, char **argv)
     if (argc != 4)
         die("use: findings TEXTS TABLES PASSES");
     table_set pages[2];
-    static const char *const names[2] = {"cp932.tbl", "cp1252.tbl"};
-    for (int i = 0; i < 2; i++) {
-        snprintf(path, sizeof path, "%s/%s", argv[2], names[i]);
-        pages[i] = read_image(path);
-    }
+    read_pages(argv[2], pages);
     printf("| Text | damaged bytes | count | list findings |\n|---|---|---|---|\n");
     for (size_t k = 0; k < sizeof texts / sizeof *texts; k++) {
         size_t size;
@@ -48,8 +44,9 @@ int main(int argc, char **argv)
         uint8_t *text = read_file(path, &size);
         if (size < SIZE)
             die("a text is too short");
-        /* the text's last byte is no lead that stands alone */
-        text[SIZE - 2] = text[SIZE - 1] = '\n';
+        /* the text ends with a whole line, so that no code is cut at its end */
+        for (size_t i = SIZE; i > 0 && text[i - 1] != '\n'; i--)
+            text[i - 1] = '\n';
         /* FF is never a code of page 932 */
         for (int i = 0; i < texts[k].damaged; i++)
             text[(size_t)i * (SIZE / texts[k].damaged) + SIZE / texts[k].damaged / 2] = 0xFF;

@@ -29,13 +29,9 @@ int main(int argc, char **argv)
     int under = 0;
     char path[4096];
     table_set pages[2];
-    static const char *const names[2] = {"cp932.tbl", "cp1252.tbl"};
     if (argc != 4)
         die("use: in_place TEXTS TABLES PASSES");
-    for (int i = 0; i < 2; i++) {
-        snprintf(path, sizeof path, "%s/%s", argv[2], names[i]);
-        pages[i] = read_image(path);
-    }
+    read_pages(argv[2], pages);
     printf("| Text | Buffer | separate | in place |\n|---|---|---|---|\n");
     for (size_t k = 0; k < sizeof texts / sizeof *texts; k++)
         for (size_t b = 0; b < sizeof sizes / sizeof *sizes; b++) {

@@ -41,16 +41,11 @@ static size_t pass(enum way way, const table_set *t, const uint8_t *text, size_t
 int main(int argc, char **argv)
 {
     table_set pages[2];
-    static const char *const names[2] = {"cp932.tbl", "cp1252.tbl"};
     static const uint64_t widths[] = {WIDTH, 32, 42};
     int under = 0;
     if (argc != 4)
         die("use: lines TEXTS TABLES PASSES");
-    for (int i = 0; i < 2; i++) {
-        char path[4096];
-        snprintf(path, sizeof path, "%s/%s", argv[2], names[i]);
-        pages[i] = read_image(path);
-    }
+    read_pages(argv[2], pages);
     printf("| Text | Width | decode | propose | check |\n|---|---|---|---|---|\n");
     for (size_t k = 0; k < sizeof texts / sizeof *texts; k++)
         for (size_t w = 0; w < sizeof widths / sizeof *widths; w++) {

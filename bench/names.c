@@ -32,11 +32,7 @@ int main(int argc, char **argv)
     if (argc != 4)
         die("use: names TEXTS TABLES PASSES");
     table_set pages[2];
-    static const char *const names[2] = {"cp932.tbl", "cp1252.tbl"};
-    for (int i = 0; i < 2; i++) {
-        snprintf(path, sizeof path, "%s/%s", argv[2], names[i]);
-        pages[i] = read_image(path);
-    }
+    read_pages(argv[2], pages);
     printf("| Text | decode and encode | spell |\n|---|---|---|\n");
     for (size_t k = 0; k < sizeof texts / sizeof *texts; k++) {
         size_t size, sizes[WAYS] = {0};
