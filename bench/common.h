@@ -24,6 +24,13 @@ static inline void read_pages(const char *folder, table_set pages[2])
     }
 }
 
+/* Ends the first `size` bytes of a text with a whole line, so that no code is cut at their end. */
+static inline void end_with_line(uint8_t *text, size_t size)
+{
+    for (size_t i = size; i > 0 && text[i - 1] != '\n'; i--)
+        text[i - 1] = '\n';
+}
+
 static inline till_run fresh_run(const table_set *t, uint8_t direction)
 {
     till_run r = {0, 0, t->page, TILL_NOTHING, direction, 5, 5, 5, 0, 0};

@@ -44,9 +44,7 @@ int main(int argc, char **argv)
         uint8_t *text = read_file(path, &size);
         if (size < SIZE)
             die("a text is too short");
-        /* the text ends with a whole line, so that no code is cut at its end */
-        for (size_t i = SIZE; i > 0 && text[i - 1] != '\n'; i--)
-            text[i - 1] = '\n';
+        end_with_line(text, SIZE);
         /* FF is never a code of page 932 */
         for (int i = 0; i < texts[k].damaged; i++)
             text[(size_t)i * (SIZE / texts[k].damaged) + SIZE / texts[k].damaged / 2] = 0xFF;

@@ -41,8 +41,7 @@ int main(int argc, char **argv)
         uint8_t *text = read_file(path, &size);
         if (size < SIZE)
             die("a text is too short");
-        /* the text's last byte is no lead that stands alone */
-        text[SIZE - 2] = text[SIZE - 1] = '\n';
+        end_with_line(text, SIZE);
         for (int turn = 0; turn < atoi(argv[3]); turn++)
             for (enum way way = TWO_CALLS; way < WAYS; way++) {
                 double from = now();
