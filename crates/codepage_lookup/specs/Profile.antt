@@ -2,12 +2,12 @@
 use mathlib.Core.Bool.{Bool, true, _||_}
 use mathlib.Core.List.{List}
 use mathlib.Core.Path.{_≡_}
-use Prim.Native.Nat.{ℕ, zero, suc, _+_, _-_, _*_, _/_, _%_, _^_}
+use Prim.Native.Nat.{ℕ, zero, suc, _+_, _-_, _*_, _/_, _%_, _^_, _<_}
 use lib.Bits.{bitAnd}
 use lib.Count.{ones, leadingZeros, trailingZeros}
 use lib.Dec.{eqb, ltb}
 use lib.ListN.{length}
-use Rattle.codepage.specs.CodePage.{pick, entryAt, isLead}
+use Rattle.codepage.specs.CodePage.{pick, entryAt, isSingle, isLead, isKnown}
 use Rattle.codepage.specs.Marks.{markOf, NoLowLead}
 use Rattle.codepage.specs.Reading.{isSurrogate, Code}
 use Rattle.codepage_lookup.specs.declared.SettledCode.{SettledCode}
@@ -25,6 +25,14 @@ leadsAs classes = record { low = leadBits classes 0x80 64; high = leadBits class
 -- two words that are the leads of a page on which no lead is below 80: what a lead's block is found by
 abbrev pub LeadsAt : List ℕ → Leads → Type 0
 LeadsAt classes l = (l ≡ leadsAs classes) × NoLowLead classes
+
+-- every byte's class is one of document 01's
+abbrev pub KnownClasses : List ℕ → Type 0
+KnownClasses classes = (byte : ℕ) → byte < 256 → isKnown (entryAt classes byte) ≡ true
+
+-- no byte but a single has an entry among the singles: they alone tell which bytes have a character alone
+abbrev pub ClearPage : (classes singles : List ℕ) → Type 0
+ClearPage classes singles = (byte : ℕ) → byte < 256 → (entryAt singles byte ≡ 0xFFFF → ⊥) → isSingle (entryAt classes byte) ≡ true
 
 -- how many ones of a word stand below a place
 abbrev pub onesBelow : (word place : ℕ) → ℕ

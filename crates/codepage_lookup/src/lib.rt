@@ -1,6 +1,7 @@
 // Inner: what the tables say of a code, looked up by our own crates on tables whose shape was found good. No public calls.
 // (Document 01, "Reading one code from bytes" and "Reading one unit for bytes"; docs/RULES.md, "Reading bytes", "Reading units".)
 pub mod profile;
+pub mod words;
 
 ghost use mathlib.Core.Path.{_≡_};
 ghost use mathlib.Core.Bool.{true};

@@ -17,27 +17,10 @@ use Rattle.codepage.specs.declared.Lookup.the-variants.{Found, Lacking}
 use Rattle.codepage.specs.declared.Kind.the-variants.{Invalid}
 use Rattle.codepage_lookup.proofs.ProfileLaws.{single-no-lead}
 use Rattle.engine_fastpath.specs.Runs.{Ran}
-use Rattle.engine_fastpath.specs.Words.{wordIn, WordAt, PlainPage, Laid}
+use Rattle.codepage_lookup.specs.Words.{wordIn, WordAt}
+use Rattle.codepage_lookup.proofs.WordLaws.{word-first}
+use Rattle.engine_fastpath.specs.Words.{PlainPage, Laid}
 use Rattle.engine_fastpath.proofs.RunLaws.{ran-start, ran-at, ran-single}
-
--- ---- a word
-pub word-eight : (piece : List ℕ) (i : ℕ)
-    → wordIn 8 piece i
-    ≡ entryAt piece i + 0x100 * entryAt piece (i + 1) + 0x10000 * entryAt piece (i + 2) + 0x1000000 * entryAt piece (i + 3) + 0x100000000 * entryAt piece (i + 4) + 0x10000000000 * entryAt piece (i + 5)
-    + 0x1000000000000 * entryAt piece (i + 6) + 0x100000000000000 * entryAt piece (i + 7)
-unfolding wordIn
-word-eight piece i =
-    let e₂ : i + 1 + 1 ≡ i + 2 = omega arith in
-    let e₃ : i + 2 + 1 ≡ i + 3 = omega arith in
-    let e₄ : i + 3 + 1 ≡ i + 4 = omega arith in
-    let e₅ : i + 4 + 1 ≡ i + 5 = omega arith in
-    let e₆ : i + 5 + 1 ≡ i + 6 = omega arith in
-    let e₇ : i + 6 + 1 ≡ i + 7 = omega arith in
-    rw (e₂, e₃, e₄, e₅, e₆, e₇) (omega arith)
-
-pub word-first : {piece : List ℕ} {i word : ℕ} → WordAt piece i word → word % 256 ≡ entryAt piece i
-unfolding wordIn
-word-first {piece} {i} a = omega (arith, a .value, a .bytes i)
 
 -- ---- zeros at a number's end
 even : (k n : ℕ) → trailingZeros (suc k) (2 * n) ≡ suc (trailingZeros k n)

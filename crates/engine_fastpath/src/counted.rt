@@ -15,6 +15,7 @@ use crate::plain;
 use crate::runs;
 use crate::runs::Place;
 use codepage_lookup::profile::Leads;
+use codepage_lookup::words;
 
 // A run of fewer codes is short.
 const FEW: usize = 16;
@@ -100,7 +101,7 @@ fn met_plain(plain: bool, text: &[u8], from: usize, n: usize) -> usize
     }
     let mut k = 0;
     while 8 <= n - k {
-        let count = mixed::plain_count(mixed::word_at(text, from + k));
+        let count = mixed::plain_count(words::word_at(text, from + k));
         k += count;
         if count < 8 {
             return k;

@@ -8,26 +8,14 @@ ghost use lib.ListN.{length};
 ghost use Rattle.codepage.specs.CodePage.{entryAt, isLead, leadsBelow};
 ghost use Rattle.codepage.specs.Reading.{decoder};
 ghost use Rattle.codepage_lookup.specs.Profile.{LeadsAt};
+ghost use Rattle.codepage_lookup.specs.Words.{WordAt};
 ghost use Rattle.engine.specs.Steps.{DecodeSizes};
 ghost use Rattle.engine_fastpath.specs.Runs.{Ran};
-ghost use Rattle.engine_fastpath.specs.Words.{WordAt, PlainPage, Laid};
+ghost use Rattle.engine_fastpath.specs.Words.{PlainPage, Laid};
 use crate::runs;
 use crate::runs::Place;
 use codepage_lookup::profile::Leads;
-
-// Eight bytes as a word: the first is its lowest.
-pub fn word_at(piece: &[u8], i: usize) -> u64
-    requires { ⌜ i + 8 ≤ length (now piece) ⌝ }
-    ensures { λ r. ⌜ WordAt (now (piece .entry)) i r ⌝ }
-{
-    let two = (piece[i] as u64) + 0x100 * (piece[i + 1] as u64);
-    let three = two + 0x10000 * (piece[i + 2] as u64);
-    let four = three + 0x1000000 * (piece[i + 3] as u64);
-    let five = four + 0x100000000 * (piece[i + 4] as u64);
-    let six = five + 0x10000000000 * (piece[i + 5] as u64);
-    let seven = six + 0x1000000000000 * (piece[i + 6] as u64);
-    seven + 0x100000000000000 * (piece[i + 7] as u64)
-}
+use codepage_lookup::words;
 
 // The first byte of a word.
 fn first_of(word: u64) -> u8
@@ -102,7 +90,7 @@ fn run_of_plain(piece: &[u8], from: usize, at: usize, n: usize, out: &mut [u16])
 {
     let mut k = 0;
     while 8 <= n - k {
-        let word = word_at(piece, from + k);
+        let word = words::word_at(piece, from + k);
         if 0x80 <= first_of(word) {
             return k;
         }

@@ -15,7 +15,6 @@ use Rattle.engine_fastpath.proofs.mixed.run_of_plain.Reads as reads
 use Rattle.engine_fastpath.proofs.mixed.run_of_plain.Lts as lts
 use Rattle.engine_fastpath.proofs.mixed.first_of.Reads as first-of-reads
 use Rattle.engine_fastpath.proofs.mixed.take_plain.Reads as take-plain-reads
-use Rattle.engine_fastpath.proofs.mixed.word_at.Reads as word-at-reads
 
 abbrev Inv-loop : tie.InvT-loop
 Inv-loop piece from at n out₀ k₀ out k =
