@@ -2,7 +2,7 @@
 use mathlib.Core.Bool.{Bool, true, false, not, _&&_, _||_, true≢false}
 use mathlib.Core.List.{List}
 use mathlib.Core.Path.{_≡_, refl, sym, ap, _∙_, subst}
-use Prim.Native.Nat.{ℕ, zero, suc, _+_, _*_, _/_, _%_, _<_, _≤_}
+use Prim.Native.Nat.{ℕ, zero, suc, _+_, _*_, _-_, _/_, _%_, _<_, _≤_}
 use native.Mathlib.Nat.{zero-add}
 use native.Mathlib.Omega.{arith}
 use lib.Bits.{bitAnd, bitOr, and-le-l, and-le-r, or-add-and}
@@ -158,31 +158,58 @@ unfolding badClass
 fine-lead byte class h e = sym (rw (lt-ltb byte 0x80 h)) ∙ or-right-false (not (isKnown class)) _ e
 
 -- ---- marks
-module _ (bad : ℕ → ℕ → Bool) (xs : List ℕ) (from : ℕ) where
-  -- over no entries the mark is 0
-  pub marked-start : Marked bad xs from from 0
-  marked-start = record { none-bad = λ e k l h. absurd (omega arith); one-bad = λ e. absurd (omega arith) }
+-- two marks put together by `or` are 0 only where both are
+pub or-none : (a b : ℕ) → bitOr a b ≡ 0 → (a ≡ 0) × (b ≡ 0)
+or-none a b e = (omega (arith, or-add-and a b, and-le-r a b), omega (arith, or-add-and a b, and-le-l a b))
 
-  -- one entry more: its own mark, over 0 exactly if it is bad, is put to the others by `or`
-  pub marked-more : (i mark m : ℕ) → from ≤ i → Marked bad xs from i mark → bad i (entryAt xs i) ≡ ltb 0 m → Marked bad xs from (i + 1) (bitOr mark m)
-  marked-more i mark m f g e = by-bad (ltb 0 m) refl
+-- a mark of 0 adds nothing
+or-same : (a b : ℕ) → ltb 0 b ≡ false → bitOr a b ≡ a
+or-same a b e = omega (arith, ltb-false 0 b e, or-add-and a b, and-le-r a b)
+
+-- a mark of 0 says that no entry is bad
+unmarked : (t : Bool) (m : ℕ) → t ≡ ltb 0 m → m ≡ 0 → t ≡ false
+unmarked t m e z = e ∙ le-ltb 0 m (omega arith)
+
+-- a mark over the first entries of both halves of a table
+pub record MarkedHalves (bad : ℕ → ℕ → Bool) (xs : List ℕ) (to mark : ℕ) : Type 0 where
+  pub none-bad : mark ≡ 0 → (k : ℕ) → k < to → (bad k (entryAt xs k) ≡ false) × (bad (128 + k) (entryAt xs (128 + k)) ≡ false)
+  pub one-bad : 0 < mark → (k : ℕ) × (k < 256) × (bad k (entryAt xs k) ≡ true)
+
+module _ (bad : ℕ → ℕ → Bool) (xs : List ℕ) where
+  -- over no entries the mark is 0
+  pub halves-start : MarkedHalves bad xs 0 0
+  halves-start = record { none-bad = λ e k h. absurd (omega arith); one-bad = λ e. absurd (omega arith) }
+
+  -- one entry of each half more: their marks, over 0 exactly if they are bad, are put to the others by `or`
+  pub halves-more : (i mark low high : ℕ) → i < 128 → MarkedHalves bad xs i mark
+      → bad i (entryAt xs i) ≡ ltb 0 low → bad (128 + i) (entryAt xs (128 + i)) ≡ ltb 0 high → MarkedHalves bad xs (i + 1) (bitOr (bitOr mark low) high)
+  halves-more i mark low high h g l u =
+      record {
+        none-bad = λ z k b. let outer = or-none (bitOr mark low) high z in let inner = or-none mark low (outer .0) in at-or-below k b (ltb k i) refl (inner .0) (inner .1) (outer .1);
+        one-bad = λ z. by-bad (ltb 0 low) refl (ltb 0 high) refl z;
+      }
     where
-      by-bad : (t : Bool) → ltb 0 m ≡ t → Marked bad xs from (i + 1) (bitOr mark m)
-      by-bad true w = record { none-bad = λ z. absurd (omega (arith, ltb-true 0 m w, or-add-and mark m, and-le-l mark m)); one-bad = λ z. (i, f, omega arith, e ∙ w) }
-      by-bad false w =
-          let none : m ≤ 0 = ltb-false 0 m w in
-          let same-mark : bitOr mark m ≡ mark = omega (arith, or-add-and mark m, and-le-r mark m) in
-          record {
-            none-bad = λ z k l h. at-or-below k l h (ltb k i) refl (sym same-mark ∙ z) (e ∙ w);
-            one-bad = λ z. let b = g .one-bad (subst (λ (n : ℕ). 0 < n) same-mark z) in (b .0, b .1, omega (arith, b .2), b .3);
-          }
-        where
-          at-or-below : (k : ℕ) → from ≤ k → k < i + 1 → (t : Bool) → ltb k i ≡ t → mark ≡ 0 → bad i (entryAt xs i) ≡ false → bad k (entryAt xs k) ≡ false
-          at-or-below k l h true e z w = g .none-bad z k l (ltb-true k i e)
-          at-or-below k l h false e z w =
-              let f : i ≤ k = ltb-false k i e in
-              let s : k ≡ i = omega arith in
-              rw s w
+      at-or-below : (k : ℕ) → k < i + 1 → (t : Bool) → ltb k i ≡ t → mark ≡ 0 → low ≡ 0 → high ≡ 0 → (bad k (entryAt xs k) ≡ false) × (bad (128 + k) (entryAt xs (128 + k)) ≡ false)
+      at-or-below k b true e z zl zh = g .none-bad z k (ltb-true k i e)
+      at-or-below k b false e z zl zh =
+          let s : k ≡ i = omega (arith, ltb-false k i e) in
+          rw s (unmarked _ low l zl, unmarked _ high u zh)
+
+      by-bad : (s : Bool) → ltb 0 low ≡ s → (t : Bool) → ltb 0 high ≡ t → 0 < bitOr (bitOr mark low) high → (k : ℕ) × (k < 256) × (bad k (entryAt xs k) ≡ true)
+      by-bad true e t f z = (i, omega arith, l ∙ e)
+      by-bad false e true f z = (128 + i, omega arith, u ∙ f)
+      by-bad false e false f z = g .one-bad (omega (arith, or-same (bitOr mark low) high f, or-same mark low e))
+
+  -- both halves are the whole table
+  pub halves-whole : (mark : ℕ) → MarkedHalves bad xs 128 mark → Marked bad xs 0 256 mark
+  halves-whole mark g = record { none-bad = λ z k l h. in-half z k h (ltb k 128) refl; one-bad = λ z. let b = g .one-bad z in (b .0, omega arith, b .1, b .2) }
+    where
+      in-half : mark ≡ 0 → (k : ℕ) → k < 256 → (t : Bool) → ltb k 128 ≡ t → bad k (entryAt xs k) ≡ false
+      in-half z k h true e = g .none-bad z k (ltb-true k 128 e) .0
+      in-half z k h false e =
+          let least : 128 ≤ k = ltb-false k 128 e in
+          let s : 128 + (k - 128) ≡ k = omega arith in
+          subst (λ (n : ℕ). bad n (entryAt xs n) ≡ false) s (g .none-bad z (k - 128) (omega arith) .1)
 
 -- ---- the largest
 pub largest-start : (xs : List ℕ) → Largest xs 0 0
@@ -207,8 +234,8 @@ largest-more xs i most r g h₁ h₂ q = record { bound = λ k h. at-or-below k 
         (b .0, omega (arith, b .1), b .2 ∙ sym same)
 
 -- ---- where no class is marked, no lead is low, and the leads are those from 80 on
-pub low-leads : (cs : List ℕ) (low : ℕ) → Marked badClass cs 0 0x80 low → low ≡ 0 → NoLowLead cs
-low-leads cs low l z byte h = fine-lead byte (entryAt cs byte) h (l .none-bad z byte (omega arith) h)
+pub low-leads : (cs : List ℕ) (mark : ℕ) → Marked badClass cs 0 256 mark → mark ≡ 0 → NoLowLead cs
+low-leads cs mark m z byte h = fine-lead byte (entryAt cs byte) h (m .none-bad z byte (omega arith) (omega arith))
 
 -- where no lead is below 80, the leads from 80 on are all leads
 pub leads-high : (cs : List ℕ) (n : ℕ) → length cs ≡ 256 → NoLowLead cs → leadsBelow cs 256 ≡ leadsBelow cs 0x80 + n → n ≡ leads cs
@@ -246,8 +273,8 @@ module _ (p : CodePage) where
       by-low false e = high-fine k (entryAt (p .classes) k) (ltb-false k 0x80 e) (g .class k h)
 
   -- a good shape has no class that is marked
-  pub marks-needed : GoodShape p → (from to mark : ℕ) → to ≤ 256 → Marked badClass (p .classes) from to mark → 0 < mark → ⊥
-  marks-needed g from to mark h m n =
+  pub marks-needed : GoodShape p → (mark : ℕ) → Marked badClass (p .classes) 0 256 mark → 0 < mark → ⊥
+  marks-needed g mark m n =
       let b = m .one-bad n in
       true≢false (sym (b .3) ∙ class-needed g (b .0) (omega (arith, b .2)))
 
@@ -262,9 +289,10 @@ module _ (p : CodePage) where
           omega (arith, g .number (b .0) (b .1), b .2)
 
   -- all that the test asks for, found good, is a good shape
-  pub good-by-marks : (p .page ≡ 0 → ⊥) → goodSizes (length (p .classes)) (length (p .singles)) (length (p .index)) (length (p .blocks)) ≡ true → (low high most : ℕ) → Marked badClass (p .classes) 0 0x80 low → low ≡ 0 → Marked badClass (p .classes) 0x80 256 high → high ≡ 0 → Largest (p .index) 256 most → most < length (p .blocks) / 256 → length (p .pairs) ≡ 256 * leads (p .classes) → GoodShape p
+  pub good-by-marks : (p .page ≡ 0 → ⊥) → goodSizes (length (p .classes)) (length (p .singles)) (length (p .index)) (length (p .blocks)) ≡ true → (mark most : ℕ)
+      → Marked badClass (p .classes) 0 256 mark → mark ≡ 0 → Largest (p .index) 256 most → most < length (p .blocks) / 256 → length (p .pairs) ≡ 256 * leads (p .classes) → GoodShape p
   unfolding goodSizes badClass
-  good-by-marks page sizes low high most l l0 h h0 m lt pairs =
+  good-by-marks page sizes mark most k z m lt pairs =
       let s₅ : (eqb (length (p .classes)) 256 && eqb (length (p .singles)) 256 && eqb (length (p .index)) 256 && eqb (length (p .blocks) % 256) 0 && leb 1 (length (p .blocks) / 256)) ≡ true =
       and-left _ (leb (length (p .blocks) / 256) 256) sizes in
       let s₄ : (eqb (length (p .classes)) 256 && eqb (length (p .singles)) 256 && eqb (length (p .index)) 256 && eqb (length (p .blocks) % 256) 0) ≡ true = and-left _ (leb 1 (length (p .blocks) / 256)) s₅ in
@@ -280,14 +308,10 @@ module _ (p : CodePage) where
         pairs = pairs;
         index = eqb-true _ _ (and-right (eqb (length (p .classes)) 256 && eqb (length (p .singles)) 256) _ s₃);
         blocks = (length (p .blocks) / 256, least, greatest, omega arith);
-        class = λ k b. known-if k (ltb k 0x80) refl b;
-        low = low-leads (p .classes) low l l0;
-        number = λ k b. omega (arith, m .bound k b);
+        class = λ byte b. not-false _ (or-left-false _ _ (k .none-bad z byte (omega arith) b));
+        low = low-leads (p .classes) mark k z;
+        number = λ high b. omega (arith, m .bound high b);
       }
-    where
-      known-if : (k : ℕ) (t : Bool) → ltb k 0x80 ≡ t → k < 256 → isKnown (entryAt (p .classes) k) ≡ true
-      known-if k true e b = not-false _ (or-left-false _ _ (l .none-bad l0 k (omega arith) (ltb-true k 0x80 e)))
-      known-if k false e b = not-false _ (or-left-false _ _ (h .none-bad h0 k (ltb-false k 0x80 e) b))
 
 -- what the sizes give
 pub classes-size : (classes singles index blocks : ℕ) → goodSizes classes singles index blocks ≡ true → classes ≡ 256

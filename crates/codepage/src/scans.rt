@@ -23,32 +23,27 @@ fn high_mark(class: u8) -> u8
     ((class & 0xFB) + 1) & 0xFC
 }
 
-// 0 where no byte below 80 has a bad class.
-pub fn low_marks(classes: &[u8]) -> u8
-    requires { ⌜ length (now classes) ≡ 256 ⌝ }
-    ensures { λ r. ⌜ Marked badClass (now (classes .entry)) 0 0x80 r ⌝ }
-{
-    let mut mark: u8 = 0;
-    let mut i: usize = 0;
-    while i < 128 {
-        mark = mark | low_mark(classes[i]);
-        i += 1;
-    }
-    mark
+// What a scan of the classes finds: a mark, 0 where no byte has a bad class, and how many lead bytes there are from 80 on.
+pub struct ClassScan {
+    pub mark: u8,
+    pub leads: u8,
 }
 
-// 0 where no byte from 80 on has a bad class.
-pub fn high_marks(classes: &[u8]) -> u8
+// Scans all classes in one loop, the bytes below 80 beside those from 80 on.
+pub fn scan_classes(classes: &[u8]) -> ClassScan
     requires { ⌜ length (now classes) ≡ 256 ⌝ }
-    ensures { λ r. ⌜ Marked badClass (now (classes .entry)) 0x80 256 r ⌝ }
+    ensures { λ r. ⌜ Marked badClass (now (classes .entry)) 0 256 (r .mark) ⌝ }
+    ensures { λ r. ⌜ leadsBelow (now (classes .entry)) 256 ≡ leadsBelow (now (classes .entry)) 0x80 + r .leads ⌝ }
 {
     let mut mark: u8 = 0;
-    let mut i: usize = 128;
-    while i < 256 {
-        mark = mark | high_mark(classes[i]);
+    let mut leads: u8 = 0;
+    let mut i: usize = 0;
+    while i < 128 {
+        mark = mark | low_mark(classes[i]) | high_mark(classes[128 + i]);
+        leads += lead_mark(classes[128 + i]);
         i += 1;
     }
-    mark
+    ClassScan { mark, leads }
 }
 
 // The largest index number.
@@ -63,20 +58,6 @@ pub fn largest(index: &[u8]) -> u8
         i += 1;
     }
     most
-}
-
-// The number of lead bytes from 80 on.
-pub fn high_leads(classes: &[u8]) -> u8
-    requires { ⌜ length (now classes) ≡ 256 ⌝ }
-    ensures { λ r. ⌜ leadsBelow (now (classes .entry)) 256 ≡ leadsBelow (now (classes .entry)) 0x80 + r ⌝ }
-{
-    let mut count: u8 = 0;
-    let mut i: usize = 128;
-    while i < 256 {
-        count += lead_mark(classes[i]);
-        i += 1;
-    }
-    count
 }
 
 // The number of lead bytes below a byte. The loop has no branch, so that it runs over many entries at a time.

@@ -46,16 +46,14 @@ pub fn good_shape(
     if !good_sizes(classes, singles, index, blocks) {
         return false;
     }
-    if scans::low_marks(classes) != 0 {
-        return false;
-    }
-    if scans::high_marks(classes) != 0 {
+    let scan = scans::scan_classes(classes);
+    if scan.mark != 0 {
         return false;
     }
     if blocks.len() / 256 <= (scans::largest(index) as usize) {
         return false;
     }
-    if pairs.len() != 256 * (scans::high_leads(classes) as usize) {
+    if pairs.len() != 256 * (scan.leads as usize) {
         return false;
     }
     true
