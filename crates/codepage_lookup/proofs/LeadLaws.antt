@@ -1,20 +1,21 @@
 -- The leads of a page as bits, and the block of a lead as the number of ones below it.
-use mathlib.Core.Bool.{Bool, true, false, _||_, true≢false}
+use mathlib.Core.Bool.{Bool, true, false, not, _||_, true≢false}
 use mathlib.Core.List.{List}
 use mathlib.Core.Path.{_≡_, refl, sym, ap, ap₂, _∙_, subst}
 use Prim.Native.Nat.{ℕ, zero, suc, _+_, _*_, _/_, _%_, _^_, _-_, _<_, _≤_}
 use native.Mathlib.Nat.{pow-suc, mul-assoc, mul-comm, add-mul, mod-eq-of-lt, mod-lt}
 use native.Mathlib.Omega.{arith}
-use lib.Bits.{bitAnd, and-mask}
+use lib.Bits.{bitAnd, bitOr, and-mask, and-block}
 use lib.Count.{ones, ones-step, ones-cat, ones-le, leadingZeros, trailingZeros, under, leading-length, trailing-le}
 use lib.Dec.{ltb, eqb}
 use lib.Pow.{pow-pos, pow-mono, pow-add, shl-lt, split as pow-split, low as pow-low}
 use lib.ListN.{length, List·getD-eq-default}
 use borrow.Author.Tests.{lt-ltb, le-ltb, ltb-true, ltb-false, eqb-true, eqb-false}
-use Rattle.codepage.specs.CodePage.{CodePage, GoodShape, entryAt, isLead, leadsBelow}
+use Rattle.codepage.specs.CodePage.{CodePage, GoodShape, entryAt, isKnown, isLead, leadsBelow}
 use Rattle.codepage.specs.Marks.{markOf, NoLowLead}
-use Rattle.codepage.proofs.MarkLaws.{mark-le, or-else, below-next, below-steps, below-same, none-low}
-use Rattle.codepage_lookup.specs.Profile.{leadBits, leadsAs, LeadsAt, onesBelow, blockOf, sideBySide}
+use Rattle.codepage.proofs.MarkLaws.{mark-le, or-else, allBelow, all-below, below-next, below-steps, below-same, none-low}
+use Rattle.codepage_lookup.specs.Profile.{leadBits, leadsAs, LeadsAt, KnownClasses, onesBelow, blockOf, sideBySide}
+use Rattle.codepage_lookup.specs.Words.{wordIn, WordAt}
 use Rattle.codepage_lookup.specs.declared.profile.Leads.{Leads}
 
 -- ---- digits
@@ -286,46 +287,95 @@ module _ (cs : List ℕ) (lead : ℕ) (size : length cs ≡ 256) (e : isLead (en
         subst (λ (x : Leads). sideBySide (x .high) ≡ true → (0xC0 + trailingZeros 64 (x .high) ≤ lead) × (leadsBelow cs lead + (0xC0 + trailingZeros 64 (x .high)) ≡ ones (x .low) + lead))
         (sym (at .0)) (high-distance (at .1) h)
 
--- ---- the words, made from the last byte on
-pub two-bits : (cs : List ℕ) (from a b : ℕ) → a ≡ markOf (isLead (entryAt cs from)) → b ≡ markOf (isLead (entryAt cs (from + 1))) → a + 2 * b ≡ leadBits cs from 2
-unfolding leadBits
-two-bits cs from a b p q =
-    let at : from + 1 ≡ suc from = omega arith in
-    omega (arith, p, q ∙ ap (λ (x : ℕ). markOf (isLead (entryAt cs x))) at)
+-- ---- eight classes as one word
+-- bit 1 of a known class tells a lead
+bitRight : ℕ → Bool
+bitRight class = not (isKnown class) || eqb (bitAnd class 2) (2 * markOf (isLead class))
 
--- what is shifted out of the low word goes into the high one
-out-of : (low : ℕ) → low < 2 ^ 64 → low * 2 ^ 4 % 2 ^ 64 + 2 ^ 64 * (low / 2 ^ 60) ≡ 16 * low
-out-of low h = omega arith
+bit-right : allBelow bitRight 256 ≡ true
+unfolding bitRight isKnown isLead
+bit-right = refl
 
-sum-of : (b low high l h q : ℕ) → l + 2 ^ 64 * q ≡ 16 * low → h ≡ 16 * high → (l + b) + 2 ^ 64 * (h + q) ≡ b + 16 * (low + 2 ^ 64 * high)
-sum-of b low high l h q e k = omega arith
+class-bit : (class : ℕ) → class < 256 → isKnown class ≡ true → bitAnd class 2 ≡ 2 * markOf (isLead class)
+unfolding bitRight
+class-bit class h k =
+    let twice = 2 * markOf (isLead class) in
+    eqb-true _ _ (or-else (not (isKnown class)) (eqb (bitAnd class 2) twice) (ap not k) (all-below bitRight 256 bit-right class h))
 
--- four bytes more
-module _ (cs : List ℕ) (i low high : ℕ) (inside : (132 ≤ i) × (i ≤ 256)) (small : low < 2 ^ 64) (met : low + 2 ^ 64 * high ≡ leadBits cs i (256 - i)) where
-  -- the high word has room for four bits more
-  pub high-small : high < 2 ^ 60
-  high-small =
-      let most : 2 ^ (256 - i) ≤ 2 ^ 124 = pow-mono {i = 256 - i} {j = 124} (omega (arith, inside .0)) in
-      omega (arith, met, bits-lt cs i (256 - i), most)
+class-at : (cs : List ℕ) (i : ℕ) → ((k : ℕ) → entryAt cs k < 256) → KnownClasses cs → i < 256 → bitAnd (entryAt cs i) 2 ≡ 2 * bit cs i
+unfolding bit
+class-at cs i small known h = class-bit (entryAt cs i) (small i) (known i h)
 
-  -- both words shifted by four, with the bits of the four bytes before: the leads of four bytes more
-  pub four-more : (four : ℕ) → four ≡ leadBits cs (i - 4) 4 → (low * 2 ^ 4 % 2 ^ 64 + four) + 2 ^ 64 * (high * 2 ^ 4 % 2 ^ 64 + low / 2 ^ 60) ≡ leadBits cs (i - 4) (256 - (i - 4))
-  four-more four e =
-      let count : 4 + (256 - i) ≡ 256 - (i - 4) = omega (arith, inside .0, inside .1) in
-      let at : i - 4 + 4 ≡ i = omega (arith, inside .0) in
-      let join : leadBits cs (i - 4) (256 - (i - 4)) ≡ four + 16 * leadBits cs i (256 - i) =
-      ap (leadBits cs (i - 4)) (sym count) ∙ bits-join cs (i - 4) 4 (256 - i) ∙ ap₂ (λ (x y : ℕ). x + 16 * leadBits cs y (256 - i)) (sym e) at in
-      let kept : high * 2 ^ 4 % 2 ^ 64 ≡ 16 * high = omega (arith, high-small) in
-      sum-of four low high (low * 2 ^ 4 % 2 ^ 64) (high * 2 ^ 4 % 2 ^ 64) (low / 2 ^ 60) (out-of low small) kept
-      ∙ ap (λ (x : ℕ). four + 16 * x) met ∙ sym join
+-- a number's lowest digits, each in a byte of its own
+unfoldable spread : (count number : ℕ) → ℕ
+spread zero number = 0
+spread (suc count) number = number % 2 + 256 * spread count (number / 2)
 
--- two words that have the bits of 128 bytes
-pub words-are : (cs : List ℕ) (low high : ℕ) → low < 2 ^ 64 → low + 2 ^ 64 * high ≡ leadBits cs 128 128 → record { low = low; high = high } ≡ leadsAs cs
-words-are cs low high small met =
-    let join : leadBits cs 128 128 ≡ leadBits cs 128 64 + 2 ^ 64 * leadBits cs 192 64 = bits-join cs 128 64 64 in
-    let one : low ≡ leadBits cs 128 64 = omega (arith, met, join, bits-lt cs 128 64) in
-    let two : high ≡ leadBits cs 192 64 = omega (arith, met, join, one) in
-    ap₂ (λ (a b : ℕ). record { low = a; high = b }) one two
+-- so many bytes with bit 1 alone
+unfoldable twos : ℕ → ℕ
+twos zero = 0
+twos (suc count) = 2 + 256 * twos count
+
+-- a byte at a time
+mask-step : (e word mask : ℕ) → e < 256 → bitAnd (e + 256 * word) (2 + 256 * mask) ≡ 256 * bitAnd word mask + bitAnd e 2
+mask-step e word mask h =
+    let l : e + 256 * word ≡ word * 2 ^ 8 + e = omega arith in
+    let r : 2 + 256 * mask ≡ mask * 2 ^ 8 + 2 = omega arith in
+    ap₂ bitAnd l r ∙ and-block 8 word mask e 2 h (omega arith) ∙ omega arith
+
+-- the bits 1 of a word of known classes are its leads, each in its byte
+word-leads : (cs : List ℕ) (n i : ℕ) → ((k : ℕ) → entryAt cs k < 256) → KnownClasses cs → i + n ≤ 256 → bitAnd (wordIn n cs i) (twos n) ≡ 2 * spread n (leadBits cs i n)
+unfolding wordIn twos spread
+word-leads cs zero i small known h = refl
+word-leads cs (suc n) i small known h =
+    let rest = leadBits cs (suc i) n in
+    let next : i + 1 ≡ suc i = omega arith in
+    let here = class-at cs i small known (omega arith) in
+    let later : bitAnd (wordIn n cs (i + 1)) (twos n) ≡ 2 * spread n rest = ap (λ (x : ℕ). bitAnd (wordIn n cs x) (twos n)) next ∙ word-leads cs n (suc i) small known (omega arith) in
+    let low : leadBits cs i (suc n) % 2 ≡ bit cs i = ap (λ (x : ℕ). x % 2) (bits-step cs i n) ∙ odd-of (bit cs i) rest (bit-le cs i) in
+    let high : leadBits cs i (suc n) / 2 ≡ rest = ap (λ (x : ℕ). x / 2) (bits-step cs i n) ∙ half-of (bit cs i) rest (bit-le cs i) in
+    mask-step (entryAt cs i) (wordIn n cs (i + 1)) (twos n) (small i) ∙ omega (arith, here, later, low, ap (spread n) high)
+
+-- eight digits, each in a byte of its own, brought side by side: those of the upper four bytes go between the others, and a product adds up all at one place
+abbrev folded : ℕ → ℕ
+folded marks = bitAnd (bitOr marks (marks / 2 ^ 28)) 0x11111111
+
+abbrev gathered : ℕ → ℕ
+gathered marks = bitAnd (folded marks * 0x204081 / 2 ^ 21) 0xFF
+
+gatherRight : ℕ → Bool
+gatherRight number = eqb (gathered (spread 8 number)) number
+
+gather-right : allBelow gatherRight 256 ≡ true
+unfolding gatherRight spread
+gather-right = refl
+
+gather-spread : (number : ℕ) → number < 256 → gathered (spread 8 number) ≡ number
+unfolding gatherRight
+gather-spread number h = eqb-true _ _ (all-below gatherRight 256 gather-right number h)
+
+-- eight known classes, read as a word, give the bits of their leads
+pub eight-leads : (cs : List ℕ) (i word : ℕ) → WordAt cs i word → KnownClasses cs → i + 8 ≤ 256 → gathered (bitAnd word 0x0202020202020202 / 2) ≡ leadBits cs i 8
+unfolding twos
+eight-leads cs i word a known h =
+    let lead-bits = leadBits cs i 8 in
+    let marks : bitAnd word 0x0202020202020202 ≡ 2 * spread 8 lead-bits = ap (λ (x : ℕ). bitAnd x 0x0202020202020202) (a .value) ∙ word-leads cs 8 i (a .bytes) known h in
+    let half : bitAnd word 0x0202020202020202 / 2 ≡ spread 8 lead-bits = omega (arith, marks) in
+    ap gathered half ∙ gather-spread lead-bits (bits-lt cs i 8)
+
+-- ---- the words, made from the last byte on: shifted by eight, with the bits of the eight bytes before
+pub eight-more : (cs : List ℕ) (from i word eight : ℕ) → 8 ≤ i → i ≤ 64 → word ≡ leadBits cs (from + i) (64 - i) → eight ≡ leadBits cs (from + (i - 8)) 8
+    → word * 2 ^ 8 % 2 ^ 64 + eight ≡ leadBits cs (from + (i - 8)) (64 - (i - 8))
+eight-more cs from i word eight h l met e =
+    let count : 8 + (64 - i) ≡ 64 - (i - 8) = omega arith in
+    let at : from + (i - 8) + 8 ≡ from + i = omega arith in
+    let join : leadBits cs (from + (i - 8)) (64 - (i - 8)) ≡ eight + 256 * word =
+    ap (leadBits cs (from + (i - 8))) (sym count) ∙ bits-join cs (from + (i - 8)) 8 (64 - i)
+    ∙ ap₂ (λ (x y : ℕ). x + 256 * y) (sym e) (ap (λ (x : ℕ). leadBits cs x (64 - i)) at ∙ sym met) in
+    let most : 2 ^ (64 - i) ≤ 2 ^ 56 = pow-mono {i = 64 - i} {j = 56} (omega arith) in
+    let small : word < 2 ^ 56 = omega (arith, met, bits-lt cs (from + i) (64 - i), most) in
+    let kept : word * 2 ^ 8 % 2 ^ 64 ≡ 256 * word = omega (arith, small) in
+    omega (arith, join, kept)
 
 -- what stands below a place, with all from it on shifted out of the word
 pub shifted-ones : (word place : ℕ) → place < 64 → ones (word * 2 ^ (63 - place) % 2 ^ 64 * 2 % 2 ^ 64) ≡ onesBelow word place

@@ -5,12 +5,12 @@ use mathlib.Core.Path.{_≡_, refl, sym, ap, _∙_, subst}
 use Prim.Native.Nat.{ℕ, _+_, _*_, _/_, _%_, _-_, _<_, _≤_}
 use native.Mathlib.Nat.{zero-add}
 use native.Mathlib.Omega.{arith}
-use lib.Bits.{bitAnd, bitOr, bitXor, and-le-l, and-le-r, or-add-and, xor-add-and}
+use lib.Bits.{bitAnd, bitXor, and-le-l, and-le-r, xor-add-and}
 use lib.Dec.{leb, ltb, eqb}
 use lib.ListN.{length, List·getD-eq-default}
 use borrow.Author.Tests.{le-leb, lt-leb, leb-true, leb-false, ltb-true, ltb-false, eq-eqb, ne-eqb, eqb-true}
-use Rattle.codepage.specs.CodePage.{entryAt, isSingle, isLead, isTrail, leadsBelow}
-use Rattle.codepage_lookup.specs.Profile.{SettledAs, unitEntry, NoCodes}
+use Rattle.codepage.specs.CodePage.{pick, entryAt, isSingle, isLead, isTrail, leadsBelow}
+use Rattle.codepage_lookup.specs.Profile.{SettledAs, unitEntry, ClearPage, NoCodes}
 use Rattle.codepage.specs.Reading.{lookup, byteAlone, byteJoins, bytePair, isHigh, isLow, isSurrogate, unitCode, unitAlone, decoder, encoder, settled}
 use Rattle.codepage.specs.declared.Kind.{Kind}
 use Rattle.codepage.specs.declared.Kind.the-variants.{UndefinedSingle, UndefinedPair, Invalid}
@@ -19,10 +19,7 @@ use Rattle.codepage.specs.declared.Lookup.the-variants.{Found, Lacking}
 use Rattle.codepage.proofs.ReadingLaws.{high-alone, alone-looked-up, below-surrogates, from-surrogates}
 use Rattle.codepage.proofs.MarkLaws.{allBelow, all-below, or-else}
 
--- ---- bits: a mark that is 0
-pub or-none : (a b : ℕ) → bitOr a b ≡ 0 → (a ≡ 0) × (b ≡ 0)
-or-none a b e = (omega (arith, or-add-and a b, and-le-l a b, and-le-r a b), omega (arith, or-add-and a b, and-le-l a b, and-le-r a b))
-
+-- ---- bits
 -- numbers without a bit in which they differ are equal
 pub xor-none : (a b : ℕ) → bitXor a b ≡ 0 → a ≡ b
 xor-none a b e = omega (arith, xor-add-and a b, and-le-l a b, and-le-r a b)
@@ -97,6 +94,24 @@ unfolding byteAlone
 plain-byte classes singles byte h e q =
     let at : entryAt singles byte ≡ byte = rw (zero-add byte) at q in
     rw (e, at) (found-entry _ byte (λ z. omega arith))
+
+-- a byte that has a character alone is a single
+pub found-single : (classes singles : List ℕ) (byte unit : ℕ) → byteAlone classes singles byte ≡ Found unit → isSingle (entryAt classes byte) ≡ true
+unfolding byteAlone
+found-single classes singles byte unit = by-class (isSingle (entryAt classes byte))
+  where
+    by-class : (t : Bool) → pick t (lookup UndefinedSingle (entryAt singles byte)) (Lacking Invalid) ≡ Found unit → t ≡ true
+    by-class true e = refl
+    by-class false e = let z : _≡_ {A = ℕ} 0 1 = cc in absurd (omega arith)
+
+-- a page that is clear below 80 and from there on is clear
+pub clear-page : (classes singles : List ℕ) → ((byte : ℕ) → byte < 0x80 → isSingle (entryAt classes byte) ≡ true)
+    → ((byte : ℕ) → 0x80 ≤ byte → byte < 256 → (entryAt singles byte ≡ 0xFFFF → ⊥) → isSingle (entryAt classes byte) ≡ true) → ClearPage classes singles
+clear-page classes singles low high byte h n = by-half (ltb byte 0x80) refl
+  where
+    by-half : (t : Bool) → ltb byte 0x80 ≡ t → isSingle (entryAt classes byte) ≡ true
+    by-half true q = low byte (ltb-true byte 0x80 q)
+    by-half false q = high byte (ltb-false byte 0x80 q) h n
 
 -- a unit below 80 whose entry is itself has itself as code
 pub plain-unit : (index blocks : List ℕ) (unit : ℕ) → unit < 0x80 → entryAt blocks (256 * entryAt index 0 + unit) ≡ unit → unitAlone index blocks unit ≡ Found unit

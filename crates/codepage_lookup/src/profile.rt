@@ -7,7 +7,8 @@ ghost use lib.ListN.{length};
 ghost use Rattle.codepage.specs.CodePage.{entryAt, isSingle, isLead, leadsBelow};
 ghost use Rattle.codepage.specs.Reading.{byteAlone, unitAlone};
 ghost use Rattle.codepage.specs.Marks.{NoLowLead};
-ghost use Rattle.codepage_lookup.specs.Profile.{leadBits, onesBelow, blockOf, sideBySide, LeadsAt, NoCodes};
+ghost use Rattle.codepage_lookup.specs.Profile.{leadBits, onesBelow, blockOf, sideBySide, KnownClasses, ClearPage, LeadsAt, NoCodes};
+use crate::words;
 use codepage::Lookup;
 use codepage::marks;
 
@@ -72,6 +73,42 @@ pub fn plain_bytes(classes: &[u8], singles: &[u16]) -> bool
         return false;
     }
     counts_up(singles, 0)
+}
+
+// 0 for an entry that a byte of a class may have among the singles: any for a single, none for another. Else another number.
+fn entry_mark(class: u8, unit: u16) -> u16
+    ensures { λ r. ⌜ (r ≡ 0 → (unit ≡ 0xFFFF → ⊥) → isSingle class ≡ true) ⌝ }
+{
+    if class & 0xFB == 1 {
+        return 0;
+    }
+    unit ^ 0xFFFF
+}
+
+// Whether no byte from 80 on but a single has an entry among the singles.
+fn clear_from_80(classes: &[u8], singles: &[u16]) -> bool
+    requires { ⌜ (length (now classes) ≡ 256) × (length (now singles) ≡ 256) ⌝ }
+    ensures { λ r. ⌜ (r ≡ true → (byte : ℕ) → 0x80 ≤ byte → byte < 256 → (entryAt (now (singles .entry)) byte ≡ 0xFFFF → ⊥) → isSingle (entryAt (now (classes .entry)) byte) ≡ true) ⌝ }
+{
+    let mut mark: u16 = 0;
+    let mut i: usize = 128;
+    while i < 256 {
+        mark = mark | entry_mark(classes[i], singles[i]);
+        i += 1;
+    }
+    mark == 0
+}
+
+// Whether every byte below 80 is a single whose character is itself, and the singles alone tell which bytes have a character alone.
+pub fn mixed_page(classes: &[u8], singles: &[u16]) -> bool
+    requires { ⌜ (length (now classes) ≡ 256) × (length (now singles) ≡ 256) ⌝ }
+    ensures { λ r. ⌜ (r ≡ true → (byte : ℕ) → byte < 0x80 → (isLead (entryAt (now (classes .entry)) byte) ≡ false) × (byteAlone (now (classes .entry)) (now (singles .entry)) byte ≡ Lookup.Found byte)) ⌝ }
+    ensures { λ r. ⌜ (r ≡ true → ClearPage (now (classes .entry)) (now (singles .entry))) ⌝ }
+{
+    if !plain_bytes(classes, singles) {
+        return false;
+    }
+    clear_from_80(classes, singles)
 }
 
 // Whether the code of every unit below 80 is itself.
@@ -142,35 +179,32 @@ pub fn codes_asked(bound: u16, index: &[u8], blocks: &[u16], piece: &[u16]) -> b
     no_surrogate_codes(index, blocks)
 }
 
-// The lead bytes among two, as bits: the first is the lower.
-fn two_bits(classes: &[u8], from: usize) -> u64
-    requires { ⌜ from + 2 ≤ length (now classes) ⌝ }
-    ensures { λ r. ⌜ r ≡ leadBits (now (classes .entry)) from 2 ⌝ }
+// The lead bytes among eight, as bits: the first is the lowest. Bit 1 of a known class tells a lead byte; the product brings the eight
+// bits, four and four first, side by side.
+fn eight_bits(classes: &[u8], from: usize) -> u64
+    requires { ⌜ (length (now classes) ≡ 256) × (from + 8 ≤ 256) ⌝ }
+    requires { ⌜ KnownClasses (now classes) ⌝ }
+    ensures { λ r. ⌜ r ≡ leadBits (now (classes .entry)) from 8 ⌝ }
 {
-    (marks::lead_mark(classes[from]) as u64) + 2 * (marks::lead_mark(classes[from + 1]) as u64)
-}
-
-// The lead bytes among four.
-fn four_bits(classes: &[u8], from: usize) -> u64
-    requires { ⌜ from + 4 ≤ length (now classes) ⌝ }
-    ensures { λ r. ⌜ r ≡ leadBits (now (classes .entry)) from 4 ⌝ }
-{
-    two_bits(classes, from) + 4 * two_bits(classes, from + 2)
+    let word = words::word_at(classes, from);
+    let marks = (word & 0x0202020202020202) >> 1;
+    let folded = (marks | (marks >> 28)) & 0x11111111;
+    ((folded * 0x204081) >> 21) & 0xFF
 }
 
 // The lead bytes of a page, met from the last on.
 pub fn leads_of(classes: &[u8]) -> Leads
     requires { ⌜ length (now classes) ≡ 256 ⌝ }
-    requires { ⌜ NoLowLead (now classes) ⌝ }
+    requires { ⌜ KnownClasses (now classes) × NoLowLead (now classes) ⌝ }
     ensures { λ r. ⌜ LeadsAt (now (classes .entry)) r ⌝ }
 {
     let mut low: u64 = 0;
     let mut high: u64 = 0;
-    let mut i: usize = 256;
-    while 128 < i {
-        i -= 4;
-        high = (high << 4) + (low >> 60);
-        low = (low << 4) + four_bits(classes, i);
+    let mut i: usize = 64;
+    while 0 < i {
+        i -= 8;
+        low = (low << 8) + eight_bits(classes, 0x80 + i);
+        high = (high << 8) + eight_bits(classes, 0xC0 + i);
     }
     Leads { low, high }
 }

@@ -1,4 +1,5 @@
-use Rattle.codepage_lookup.proofs.ProfileLaws.{or-none, xor-none}
+use Rattle.codepage.proofs.MarkLaws.{or-none}
+use Rattle.codepage_lookup.proofs.ProfileLaws.{xor-none}
 use Rattle.codepage.specs.CodePage.{entryAt}
 use borrow.Author.Tests.{eqb-true}
 use borrow.Author.Count.{below-more}

@@ -1,68 +1,67 @@
-use Rattle.codepage_lookup.proofs.LeadLaws.{bits-lt, bits-none, high-small, four-more, words-are}
+use Rattle.codepage_lookup.proofs.LeadLaws.{bits-lt, bits-none, eight-more}
 use Rattle.codepage_lookup.specs.Profile.{leadBits}
-use mathlib.Core.Path.{_≡_, sym, ap, _∙_}
-use Prim.Native.Nat.{ℕ, _+_, _-_, _*_, _%_, _^_, _<_, _≤_}
+use mathlib.Core.Path.{_≡_, sym, ap, ap₂, _∙_}
+use Prim.Native.Nat.{ℕ, _+_, _-_, _%_, _≤_}
 use native.Mathlib.Omega.{arith}
 use Rattle.codepage_lookup.proofs.profile.leads_of.Statement.{statement}
 use Rattle.codepage_lookup.proofs.profile.leads_of.Tie as tie
-use Rattle.codepage_lookup.proofs.profile.leads_of.Reads as reads
-use Rattle.codepage_lookup.proofs.profile.leads_of.Lts as lts
-use Rattle.codepage_lookup.proofs.profile.four_bits.Reads as four-bits-reads
 
 abbrev Inv-loop : tie.InvT-loop
-Inv-loop classes low₀ high₀ i₀ low high i = (128 ≤ i) × (i ≤ 256) × (i % 4 ≡ 0) × (low < 2 ^ 64) × (low + 2 ^ 64 * high ≡ leadBits classes i (256 - i))
+Inv-loop classes low₀ high₀ i₀ low high i = (i ≤ 64) × (i % 8 ≡ 0) × (low ≡ leadBits classes (0x80 + i) (64 - i)) × (high ≡ leadBits classes (0xC0 + i) (64 - i))
 
 abbrev μ-loop : tie.MeasureT-loop
 μ-loop classes low₀ high₀ i₀ low high i = i
 
--- src/profile.rt:169:5
 loop-holds : tie.Need-loop-holds Inv-loop μ-loop
-loop-holds c = (omega arith, omega arith, omega arith, omega arith, sym (bits-none _ 256))
+loop-holds c = (omega arith, omega arith, sym (bits-none _ 0xC0), sym (bits-none _ 0x100))
 
--- src/profile.rt:170:9
 sub-i : tie.Need-sub-i Inv-loop μ-loop
 sub-i c = omega arith
 
--- src/profile.rt:171:16
-add-high : tie.Need-add-high Inv-loop μ-loop
-add-high c =
-    let turn = c .before .loop in
-    omega (arith, high-small (c .before .before .before .args .classes .now) (turn .i) (turn .low) (turn .high) (omega arith, turn .inv .1) (turn .inv .3) (turn .inv .4))
+add-eight-bits : tie.Need-add-eight-bits Inv-loop μ-loop
+add-eight-bits c = omega arith
 
--- src/profile.rt:172:28
-four-bits-requires : tie.Need-four-bits-requires Inv-loop μ-loop
-four-bits-requires c κs = omega (arith, c .before .before .before .pre .0)
+eight-bits-requires : tie.Need-eight-bits-requires Inv-loop μ-loop
+eight-bits-requires c κs = let start = c .before .before .before in ((start .pre .0, omega arith), start .pre .1 .0)
 
--- src/profile.rt:172:15
 add-low : tie.Need-add-low Inv-loop μ-loop
 add-low c =
-    let start = c .before .before .before .before in
-    omega (arith, c .four-bits .ensures, bits-lt (start .args .classes .now) (c .before .before .loop .i - 4) 4)
+    let turn = c .before .before .loop in
+    omega (arith, c .eight-bits .ensures, bits-lt (c .before .before .before .before .args .classes .now) (0x80 + (turn .i - 8)) 8)
 
--- src/profile.rt:169:5
+add-eight-bits-2 : tie.Need-add-eight-bits-2 Inv-loop μ-loop
+add-eight-bits-2 c = omega arith
+
+eight-bits-requires-2 : tie.Need-eight-bits-requires-2 Inv-loop μ-loop
+eight-bits-requires-2 c κs = let start = c .before .before .before .before in ((start .pre .0, omega arith), start .pre .1 .0)
+
+add-high : tie.Need-add-high Inv-loop μ-loop
+add-high c =
+    let turn = c .before .before .before .loop in
+    omega (arith, c .eight-bits2 .ensures, bits-lt (c .before .before .before .before .before .args .classes .now) (0xC0 + (turn .i - 8)) 8)
+
 loop-less : tie.Need-loop-less Inv-loop μ-loop
 loop-less c = omega arith
 
--- src/profile.rt:169:5
 loop-again : tie.Need-loop-again Inv-loop μ-loop
 loop-again c =
-    let turn = c .before .before .loop in
-    let classes = c .before .before .before .before .args .classes .now in
-    let inside : (132 ≤ turn .i) × (turn .i ≤ 256) = (omega arith, turn .inv .1) in (
+    let turn = c .before .before .before .loop in
+    let classes = c .before .before .before .before .before .args .classes .now in
+    let room : 8 ≤ turn .i = omega arith in (
       omega arith,
       omega arith,
-      omega arith,
-      omega (arith, c .four-bits .ensures, bits-lt classes (turn .i - 4) 4),
-      four-more classes (turn .i) (turn .low) (turn .high) inside (turn .inv .3) (turn .inv .4) _ (c .four-bits .ensures),
+      eight-more classes 0x80 (turn .i) (turn .low) _ room (turn .inv .0) (turn .inv .2) (c .before .eight-bits .ensures),
+      eight-more classes 0xC0 (turn .i) (turn .high) _ room (turn .inv .0) (turn .inv .3) (c .eight-bits2 .ensures),
     )
 
--- src/profile.rt:161:1
 returns : tie.Need-returns Inv-loop μ-loop
 returns c =
     let turn = c .before .loop in
     let start = c .before .before .before in
-    let end : turn .i ≡ 128 = omega (arith, c .loop-test .left, turn .inv .0) in
-    (words-are _ (turn .low) (turn .high) (turn .inv .3) (turn .inv .4 ∙ ap (λ (x : ℕ). leadBits (start .args .classes .now) x (256 - x)) end), start .pre .1)
+    let classes = start .args .classes .now in
+    let end : turn .i ≡ 0 = omega arith in
+    let all : (from : ℕ) → leadBits classes (from + turn .i) (64 - turn .i) ≡ leadBits classes (from + 0) 64 = λ from. ap (λ (x : ℕ). leadBits classes (from + x) (64 - x)) end in
+    (ap₂ (λ (a b : ℕ). record { low = a; high = b }) (turn .inv .2 ∙ all 0x80) (turn .inv .3 ∙ all 0xC0), start .pre .1 .1)
 
 pub leads-of-spec : {M : Type 1} → statement M
 leads-of-spec =
@@ -72,9 +71,12 @@ leads-of-spec =
     μ-loop
     loop-holds
     sub-i
-    add-high
-    four-bits-requires
+    add-eight-bits
+    eight-bits-requires
     add-low
+    add-eight-bits-2
+    eight-bits-requires-2
+    add-high
     loop-less
     loop-again
     returns)
