@@ -19,6 +19,7 @@ use Rattle.engine.specs.declared.progress.Progress.{Progress}
 use Rattle.codepage.specs.Lent.{over}
 use Rattle.engine.specs.Engine.{Effect, effectOf, Converter, converter, Room, limit, fits, roomLeft, Fed, halt, after, takeCode, feedFrom}
 use Rattle.engine.specs.Steps.{sofar, takenBy, Took, movedTo, optional}
+use Rattle.codepage_lookup.specs.Profile.{ClearPage}
 use Rattle.engine_fastpath.specs.Runs.{Ran, SinglesTaken}
 use Rattle.codepage_lookup.proofs.ProfileLaws.{single-no-lead}
 use Rattle.engine.proofs.LoopLaws.{later, took-fits}
@@ -213,21 +214,25 @@ pub single-found : (classes singles : List ℕ) (byte : ℕ) → isSingle (entry
 unfolding byteAlone lookup
 single-found classes singles byte e n = rw (e, ne-eqb (entryAt singles byte) 0xFFFF n)
 
+-- where every byte is a single, no other has an entry among the singles
+pub only-singles-clear : (classes singles : List ℕ) → ((byte : ℕ) → byte < 256 → isSingle (entryAt classes byte) ≡ true) → ClearPage classes singles
+only-singles-clear classes singles all = λ byte small n. all byte small
+
 -- one byte that has a character
 pub singles-one : (singles piece out : List ℕ) (i w : ℕ) → i < length piece → w < length out → entryAt piece i < 256 → (entryAt singles (entryAt piece i) ≡ 0xFFFF → ⊥)
     → SinglesTaken singles piece out i w (set out w (entryAt singles (entryAt piece i))) 1
 singles-one singles piece out i w h f small n =
     record {
       same = length-set out w (entryAt singles (entryAt piece i));
-      ran = λ classes pairs all.
-          let single = all (entryAt piece i) small in
+      ran = λ classes pairs clear.
+          let single = clear (entryAt piece i) small n in
           ran-single classes singles pairs (ran-start (omega arith) (omega arith)) (entryAt singles (entryAt piece i)) f h (single-no-lead (entryAt classes (entryAt piece i)) single)
           (single-found classes singles (entryAt piece i) single n);
     }
 
 -- no byte is taken yet
 pub singles-start : (singles piece out : List ℕ) (from at : ℕ) → from ≤ length piece → at ≤ length out → SinglesTaken singles piece out from at out 0
-singles-start singles piece out from at h f = record { same = refl; ran = λ classes pairs all. ran-at (ran-start h f) (omega arith) (omega arith) }
+singles-start singles piece out from at h f = record { same = refl; ran = λ classes pairs clear. ran-at (ran-start h f) (omega arith) (omega arith) }
 
 -- `SinglesTaken` holds of an equal number of bytes too
 pub singles-at : {singles piece out : List ℕ} {from at : ℕ} {out₁ : List ℕ} {k j : ℕ} → SinglesTaken singles piece out from at out₁ k → k ≡ j → SinglesTaken singles piece out from at out₁ j
@@ -239,5 +244,5 @@ pub singles-join : {singles piece out : List ℕ} {from at : ℕ} {out₁ : List
 singles-join r t =
     record {
       same = t .same ∙ r .same;
-      ran = λ classes pairs all. ran-at (ran-join (r .ran classes pairs all) (t .ran classes pairs all)) (omega arith) (omega arith);
+      ran = λ classes pairs clear. ran-at (ran-join (r .ran classes pairs clear) (t .ran classes pairs clear)) (omega arith) (omega arith);
     }

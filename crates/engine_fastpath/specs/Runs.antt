@@ -5,11 +5,12 @@ use mathlib.Core.Option.{none}
 use mathlib.Core.Path.{_≡_}
 use Prim.Native.Nat.{ℕ, _+_, _-_, _<_, _≤_}
 use lib.ListN.{length, take, drop, set}
-use Rattle.codepage.specs.CodePage.{entryAt, isSingle}
+use Rattle.codepage.specs.CodePage.{entryAt}
 use Rattle.codepage.specs.Reading.{Reader, decoder}
 use Rattle.engine.specs.declared.Policy.{Policy}
 use Rattle.engine.specs.declared.progress.Progress.{Progress}
 use Rattle.codepage.specs.Lent.{over}
+use Rattle.codepage_lookup.specs.Profile.{ClearPage}
 use Rattle.engine.specs.Engine.{Fed, limit, converter, feedFrom}
 use Rattle.engine.specs.Steps.{sofar, movedTo}
 
@@ -47,7 +48,7 @@ pub record Ran (R : Reader) (piece out : List ℕ) (i w : ℕ) (out′ : List �
       → sofar s out (feedFrom (converter R policy default) last (limit (length out - w)) none (drop i piece))
       ≡ sofar (movedTo s (i′ - i) w′) out′ (feedFrom (converter R policy default) last (limit (length out′ - w′)) none (drop i′ piece))
 
--- k bytes of a page that has only singles were taken, whatever its classes and pairs
+-- k bytes alone were taken, whatever the classes and pairs of the page, where its singles alone tell which bytes have a character
 pub record SinglesTaken (singles piece out : List ℕ) (from at : ℕ) (out′ : List ℕ) (k : ℕ) : Type 0 where
   pub same : length out′ ≡ length out
-  pub ran : (classes pairs : List ℕ) → ((byte : ℕ) → byte < 256 → isSingle (entryAt classes byte) ≡ true) → Ran (decoder classes singles pairs) piece out from at out′ (from + k) (at + k)
+  pub ran : (classes pairs : List ℕ) → ClearPage classes singles → Ran (decoder classes singles pairs) piece out from at out′ (from + k) (at + k)

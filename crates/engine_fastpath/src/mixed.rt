@@ -11,7 +11,7 @@ ghost use Rattle.codepage_lookup.specs.Profile.{LeadsAt};
 ghost use Rattle.codepage_lookup.specs.Words.{WordAt};
 ghost use Rattle.engine.specs.Steps.{DecodeSizes};
 ghost use Rattle.engine_fastpath.specs.Runs.{Ran};
-ghost use Rattle.engine_fastpath.specs.Words.{PlainPage, Laid};
+ghost use Rattle.engine_fastpath.specs.Words.{PlainPage, MixedPage, Laid};
 use crate::runs;
 use crate::runs::Place;
 use codepage_lookup::profile::Leads;
@@ -136,31 +136,6 @@ fn run_of_pairs(
     k
 }
 
-// Bytes alone that have characters, `n` at most: how many were taken.
-fn run_of_alone(
-    classes: &[u8],
-    singles: &[u16],
-    piece: &[u8],
-    from: usize,
-    at: usize,
-    n: usize,
-    out: &mut [u16],
-) -> usize
-    requires { ⌜ (length (now classes) ≡ 256) × (length (now singles) ≡ 256) × (from + n ≤ length (now piece)) × (at + n ≤ length (now out)) ⌝ }
-    ensures { λ r. ⌜ (r ≤ n) × ((pairs : List ℕ) → Ran (decoder (now (classes .entry)) (now (singles .entry)) pairs) (now (piece .entry)) (now (out .entry)) from at (now (out .exit)) (from + r) (at + r)) ⌝ }
-{
-    let mut k = 0;
-    while k < n {
-        let unit = codepage_lookup::single_unit(classes, singles, piece[from + k]);
-        if unit == 0xFFFF {
-            return k;
-        }
-        out[at + k] = unit;
-        k += 1;
-    }
-    k
-}
-
 // Pairs and the plain bytes behind them; if there are none, bytes alone.
 fn take_mixed(
     leads: Leads,
@@ -173,7 +148,7 @@ fn take_mixed(
     n: usize,
     out: &mut [u16],
 ) -> Place
-    requires { ⌜ DecodeSizes (now classes) (now singles) (now pairs) × PlainPage (now classes) (now singles) ⌝ }
+    requires { ⌜ DecodeSizes (now classes) (now singles) (now pairs) × MixedPage (now classes) (now singles) ⌝ }
     requires { ⌜ LeadsAt (now classes) leads ⌝ }
     requires { ⌜ (from + n ≤ length (now piece)) × (at + n ≤ length (now out)) ⌝ }
     ensures { λ r. ⌜ (r .read ≤ from + n) × (r .written + (from + n - r .read) ≤ at + n) × Ran (decoder (now (classes .entry)) (now (singles .entry)) (now (pairs .entry))) (now (piece .entry)) (now (out .entry)) from at (now (out .exit)) (r .read) (r .written) ⌝ }
@@ -187,14 +162,14 @@ fn take_mixed(
             written: at + count + plain,
         };
     }
-    let alone = run_of_alone(classes, singles, piece, from, at, n, out);
+    let alone = runs::run_of_alone(singles, piece, from, at, n, out);
     Place {
         read: from + alone,
         written: at + alone,
     }
 }
 
-// Codes of one or two bytes on a page where text below 80 stays as it is.
+// Codes of one or two bytes on a page whose mixed text goes by these loops.
 pub fn run_of_mixed(
     leads: Leads,
     classes: &[u8],
@@ -205,7 +180,7 @@ pub fn run_of_mixed(
     at: usize,
     out: &mut [u16],
 ) -> Place
-    requires { ⌜ DecodeSizes (now classes) (now singles) (now pairs) × PlainPage (now classes) (now singles) ⌝ }
+    requires { ⌜ DecodeSizes (now classes) (now singles) (now pairs) × MixedPage (now classes) (now singles) ⌝ }
     requires { ⌜ LeadsAt (now classes) leads ⌝ }
     requires { ⌜ (from ≤ length (now piece)) × (at ≤ length (now out)) ⌝ }
     ensures { λ r. ⌜ Ran (decoder (now (classes .entry)) (now (singles .entry)) (now (pairs .entry))) (now (piece .entry)) (now (out .entry)) from at (now (out .exit)) (r .read) (r .written) ⌝ }
@@ -227,8 +202,8 @@ pub fn run_of_mixed(
     }
 }
 
-// Codes that have characters, as many as come one after the other and fit. Where the run before was long, and the page keeps text
-// below 80 as it is, by the loops for mixed text; else code by code, which costs less where runs are short.
+// Codes that have characters, as many as come one after the other and fit. Where the run before was long, and the page allows it, by
+// the loops for mixed text; else code by code, which costs less where runs are short.
 pub fn run_of(
     long: bool,
     leads: Leads,
@@ -241,7 +216,7 @@ pub fn run_of(
     out: &mut [u16],
 ) -> Place
     requires { ⌜ DecodeSizes (now classes) (now singles) (now pairs) ⌝ }
-    requires { ⌜ (long ≡ true → PlainPage (now classes) (now singles)) ⌝ }
+    requires { ⌜ (long ≡ true → MixedPage (now classes) (now singles)) ⌝ }
     requires { ⌜ LeadsAt (now classes) leads ⌝ }
     requires { ⌜ (from ≤ length (now piece)) × (at ≤ length (now out)) ⌝ }
     ensures { λ r. ⌜ Ran (decoder (now (classes .entry)) (now (singles .entry)) (now (pairs .entry))) (now (piece .entry)) (now (out .entry)) from at (now (out .exit)) (r .read) (r .written) ⌝ }

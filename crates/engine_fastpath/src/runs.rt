@@ -27,7 +27,7 @@ pub fn smaller(a: usize, b: usize) -> usize
     b
 }
 
-// The next byte of a page that has only singles, if it has a character: how many bytes were taken, 0 or 1.
+// The next byte alone, if it has a character: how many bytes were taken, 0 or 1.
 fn take_one(singles: &[u16], piece: &[u8], i: usize, out: &mut [u16], w: usize) -> usize
     requires { ⌜ (length (now singles) ≡ 256) × (i + 1 ≤ length (now piece)) × (w + 1 ≤ length (now out)) ⌝ }
     ensures { λ r. ⌜ (r ≤ 1) × SinglesTaken (now (singles .entry)) (now (piece .entry)) (now (out .entry)) i w (now (out .exit)) r ⌝ }
@@ -65,7 +65,78 @@ fn take_four(singles: &[u16], piece: &[u8], i: usize, out: &mut [u16], w: usize)
     2 + take_two(singles, piece, i + 2, out, w + 2)
 }
 
-// Bytes of a page that has only singles: how many were taken.
+// The next eight bytes: how many were taken.
+fn take_eight(singles: &[u16], piece: &[u8], i: usize, out: &mut [u16], w: usize) -> usize
+    requires { ⌜ (length (now singles) ≡ 256) × (i + 8 ≤ length (now piece)) × (w + 8 ≤ length (now out)) ⌝ }
+    ensures { λ r. ⌜ (r ≤ 8) × SinglesTaken (now (singles .entry)) (now (piece .entry)) (now (out .entry)) i w (now (out .exit)) r ⌝ }
+{
+    let taken = take_four(singles, piece, i, out, w);
+    if taken < 4 {
+        return taken;
+    }
+    4 + take_four(singles, piece, i + 4, out, w + 4)
+}
+
+// The next sixteen bytes: how many were taken.
+fn take_sixteen(singles: &[u16], piece: &[u8], i: usize, out: &mut [u16], w: usize) -> usize
+    requires { ⌜ (length (now singles) ≡ 256) × (i + 16 ≤ length (now piece)) × (w + 16 ≤ length (now out)) ⌝ }
+    ensures { λ r. ⌜ (r ≤ 16) × SinglesTaken (now (singles .entry)) (now (piece .entry)) (now (out .entry)) i w (now (out .exit)) r ⌝ }
+{
+    let taken = take_eight(singles, piece, i, out, w);
+    if taken < 8 {
+        return taken;
+    }
+    8 + take_eight(singles, piece, i + 8, out, w + 8)
+}
+
+// Bytes alone, `n` at most, one after the other: how many were taken.
+fn run_of_few(
+    singles: &[u16],
+    piece: &[u8],
+    from: usize,
+    at: usize,
+    n: usize,
+    out: &mut [u16],
+) -> usize
+    requires { ⌜ (length (now singles) ≡ 256) × (from + n ≤ length (now piece)) × (at + n ≤ length (now out)) ⌝ }
+    ensures { λ r. ⌜ (r ≤ n) × SinglesTaken (now (singles .entry)) (now (piece .entry)) (now (out .entry)) from at (now (out .exit)) r ⌝ }
+{
+    let mut k = 0;
+    while k < n {
+        let taken = take_one(singles, piece, from + k, out, at + k);
+        if taken < 1 {
+            return k;
+        }
+        k += 1;
+    }
+    k
+}
+
+// Bytes alone, `n` at most, four in a turn: how many were taken.
+pub fn run_of_alone(
+    singles: &[u16],
+    piece: &[u8],
+    from: usize,
+    at: usize,
+    n: usize,
+    out: &mut [u16],
+) -> usize
+    requires { ⌜ (length (now singles) ≡ 256) × (from + n ≤ length (now piece)) × (at + n ≤ length (now out)) ⌝ }
+    ensures { λ r. ⌜ (r ≤ n) × SinglesTaken (now (singles .entry)) (now (piece .entry)) (now (out .entry)) from at (now (out .exit)) r ⌝ }
+{
+    let mut k = 0;
+    while 4 <= n - k {
+        let taken = take_four(singles, piece, from + k, out, at + k);
+        if taken < 4 {
+            return k + taken;
+        }
+        k += 4;
+    }
+    k + run_of_few(singles, piece, from + k, at + k, n - k, out)
+}
+
+// Bytes of a page that has only singles, sixteen in a turn: how many were taken. So large a turn, with two callers, stays a function
+// of its own, whose loop has what it needs in registers.
 pub fn run_of_singles(
     singles: &[u16],
     piece: &[u8],
@@ -78,14 +149,14 @@ pub fn run_of_singles(
 {
     let n = smaller(piece.len() - from, out.len() - at);
     let mut k = 0;
-    while 4 <= n - k {
-        let taken = take_four(singles, piece, from + k, out, at + k);
-        if taken < 4 {
+    while 16 <= n - k {
+        let taken = take_sixteen(singles, piece, from + k, out, at + k);
+        if taken < 16 {
             return k + taken;
         }
-        k += 4;
+        k += 16;
     }
-    k
+    k + run_of_few(singles, piece, from + k, at + k, n - k, out)
 }
 
 // Codes of one or two bytes.

@@ -7,7 +7,7 @@ use Rattle.engine_fastpath.proofs.mixed.take_mixed.Statement.{statement
 use Rattle.engine_fastpath.proofs.mixed.take_mixed.Tie as tie
 use Rattle.engine_fastpath.proofs.mixed.take_mixed.Reads as reads
 use Rattle.engine_fastpath.proofs.mixed.take_mixed.Lts as lts
-use Rattle.engine_fastpath.proofs.mixed.run_of_alone.Reads as run-of-alone-reads
+use Rattle.engine_fastpath.proofs.runs.run_of_alone.Reads as run-of-alone-reads
 use Rattle.engine_fastpath.proofs.mixed.run_of_pairs.Reads as run-of-pairs-reads
 use Rattle.engine_fastpath.proofs.mixed.run_of_plain.Reads as run-of-plain-reads
 
@@ -69,7 +69,7 @@ returns c =
     let start = at-run-of-pairs .before .before .before .before .before .before .before in
     let pairs = at-run-of-pairs .run-of-pairs .ensures in
     let plain = at-run-of-plain .run-of-plain .ensures in
-    (omega (arith, pairs .0, plain .0), omega (arith, pairs .0, plain .0), ran-join (at-run-of-pairs .run-of-pairs .ensures .1 _) (at-run-of-plain .run-of-plain .ensures .1 _ _ _ (start .pre .0 .1)))
+    (omega (arith, pairs .0, plain .0), omega (arith, pairs .0, plain .0), ran-join (at-run-of-pairs .run-of-pairs .ensures .1 _) (at-run-of-plain .run-of-plain .ensures .1 _ _ _ (start .pre .0 .1 .0)))
 
 -- src/mixed.rt:202:9
 run-of-alone-requires : tie.Need-run-of-alone-requires
@@ -100,11 +100,10 @@ returns-2 c =
     let at-if1 = at-run-of-alone .before .before in
     let at-run-of-plain = at-if1 .before .before .before in
     let at-run-of-pairs = at-run-of-plain .before .before .before .before in
-    let start-2 = at-run-of-pairs .before .before .before .before .before .before .before in
-    let start = start-2 in
+    let start = at-run-of-pairs .before .before .before .before .before .before .before in
     let alone = at-run-of-alone .run-of-alone .ensures in
-    let none = ran-at {i₂ = start .args .from} {w₂ = start .args .at} (ran-join (at-run-of-pairs .run-of-pairs .ensures .1 _) (at-run-of-plain .run-of-plain .ensures .1 _ _ _ (start-2 .pre .0 .1))) (omega (arith, at-if1 .if1 .left)) (omega (arith, at-if1 .if1 .left)) in
-    (omega (arith, alone .0), omega (arith, alone .0), ran-join none (alone .1 _))
+    let none = ran-at {i₂ = start .args .from} {w₂ = start .args .at} (ran-join (at-run-of-pairs .run-of-pairs .ensures .1 _) (at-run-of-plain .run-of-plain .ensures .1 _ _ _ (start .pre .0 .1 .0))) (omega (arith, at-if1 .if1 .left)) (omega (arith, at-if1 .if1 .left)) in
+    (omega (arith, alone .0), omega (arith, alone .0), ran-join none (alone .1 .ran _ _ (start .pre .0 .1 .1)))
 
 pub take-mixed-spec : {M : Type 1} → statement M
 take-mixed-spec =
