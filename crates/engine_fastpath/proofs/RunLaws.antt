@@ -7,7 +7,7 @@ use Prim.Native.Nat.{ℕ, zero, suc, _+_, _-_, _*_, _/_, _%_, _<_, _≤_}
 use native.Mathlib.Numerals.{add-one}
 use native.Mathlib.Omega.{arith}
 use lib.Dec.{leb, eqb}
-use lib.ListN.{length, getD, take, drop, set, length-set}
+use lib.ListN.{length, getD, take, drop, set, length-set, length-append}
 use lib.Seq.{sets, length-sets, set-set}
 use lib.Bits.{bitOr, or-zero-r}
 use borrow.Author.Tests.{le-leb, lt-leb, leb-true, leb-false, eqb-true, eqb-false, eq-eqb, ne-eqb}
@@ -246,3 +246,64 @@ singles-join r t =
       same = t .same ∙ r .same;
       ran = λ classes pairs clear. ran-at (ran-join (r .ran classes pairs clear) (t .ran classes pairs clear)) (omega arith) (omega arith);
     }
+
+-- ---- units of encoding, several in a turn
+
+-- two runs one after the other, where the places are equal and not the same
+pub ran-then : {R : Reader} {piece out : List ℕ} {i w : ℕ} {out₁ : List ℕ} {i₁ w₁ : ℕ} {out₂ : List ℕ} {i₂ w₂ i₃ w₃ i₄ w₄ : ℕ} → Ran R piece out i w out₁ i₁ w₁ → Ran R piece out₁ i₂ w₂ out₂ i₃ w₃
+    → i₁ ≡ i₂ → w₁ ≡ w₂ → i₃ ≡ i₄ → w₃ ≡ w₄ → Ran R piece out i w out₂ i₄ w₄
+ran-then r t e q e′ q′ = ran-at (ran-join (ran-at r e q) t) e′ q′
+
+-- stores behind stores are the stores of both
+pub sets-append : (out : List ℕ) (w : ℕ) (xs ys : List ℕ) → sets (sets out w xs) (w + length xs) ys ≡ sets out w (xs ++ ys)
+sets-append out w [] ys =
+    let e : w + length {A = ℕ} [] ≡ w = omega arith in
+    ap (λ (k : ℕ). sets out k ys) e
+sets-append out w (x ∷ xs) ys =
+    let e : w + length (x ∷ xs) ≡ suc w + length xs = omega arith in
+    ap (λ (k : ℕ). sets (sets (set out w x) (suc w) xs) k ys) e ∙ sets-append (set out w x) (suc w) xs ys
+
+-- the bytes of both, where the first are laid and the others behind them
+pub laid-both : (out : List ℕ) (w : ℕ) {out₁ out₂ : List ℕ} {n m : ℕ} (xs ys : List ℕ) → (n ≡ length xs) × (out₁ ≡ sets out w xs) → (m ≡ length ys) × (out₂ ≡ sets out₁ (w + n) ys)
+    → (n + m ≡ length (xs ++ ys)) × (out₂ ≡ sets out w (xs ++ ys))
+laid-both out w {out₁} {out₂} {n} {m} xs ys first second = (
+  omega (arith, first .0, second .0, length-append xs ys),
+  second .1 ∙ ap (λ (l : List ℕ). sets l (w + n) ys) (first .1) ∙ ap (λ (k : ℕ). sets (sets out w xs) (w + k) ys) (first .0) ∙ sets-append out w xs ys,
+)
+
+-- two codes are at most four bytes
+pub four-bytes : (a b : ℕ) → length (bytesOf a ++ bytesOf b) ≤ 4
+four-bytes a b = omega (arith, length-append (bytesOf a) (bytesOf b), two-bytes a, two-bytes b)
+
+-- the bytes of four codes
+abbrev pub bytesOfFour : ℕ → ℕ → ℕ → ℕ → List ℕ
+bytesOfFour a b c d = (bytesOf a ++ bytesOf b) ++ (bytesOf c ++ bytesOf d)
+
+-- four codes are at most eight bytes
+pub eight-bytes : (a b c d : ℕ) {count : ℕ} → count ≡ length (bytesOfFour a b c d) → count ≤ 8
+eight-bytes a b c d e = omega (arith, e, length-append (bytesOf a ++ bytesOf b) (bytesOf c ++ bytesOf d), four-bytes a b, four-bytes c d)
+
+-- two more units of any codes, whose bytes are laid
+ran-both : (index blocks : List ℕ) {piece out : List ℕ} {i w : ℕ} {out₁ : List ℕ} {i₁ w₁ : ℕ} (r : Ran (encoder index blocks) piece out i w out₁ i₁ w₁) (a b : ℕ) → i₁ + 2 ≤ length piece
+    → unitAlone index blocks (getD piece i₁ 0) ≡ Found a → unitAlone index blocks (getD piece (i₁ + 1) 0) ≡ Found b → w₁ + 4 ≤ length out₁
+    → Ran (encoder index blocks) piece out i w (sets out₁ w₁ (bytesOf a ++ bytesOf b)) (i₁ + 2) (w₁ + length (bytesOf a ++ bytesOf b))
+ran-both index blocks {piece} {out} {i} {w} {out₁} {i₁} {w₁} r a b h qa qb f =
+    let one = ran-unit index blocks r a (omega arith) qa (sets out₁ w₁ (bytesOf a)) (length (bytesOf a)) refl refl (omega arith) in
+    let two = ran-unit index blocks one b (omega arith) qb (sets (sets out₁ w₁ (bytesOf a)) (w₁ + length (bytesOf a)) (bytesOf b)) (length (bytesOf b)) refl refl
+    (omega (arith, length-sets out₁ w₁ (bytesOf a), two-bytes a)) in
+    subst (λ (l : List ℕ). Ran (encoder index blocks) piece out i w l (i₁ + 2) (w₁ + length (bytesOf a ++ bytesOf b))) (sets-append out₁ w₁ (bytesOf a) (bytesOf b))
+    (ran-at two (omega arith) (omega (arith, length-append (bytesOf a) (bytesOf b))))
+
+-- four more units of any codes, whose bytes are laid
+pub ran-four : (index blocks : List ℕ) {piece out : List ℕ} {i w : ℕ} {out₁ : List ℕ} {i₁ w₁ : ℕ} (r : Ran (encoder index blocks) piece out i w out₁ i₁ w₁) (a b c d : ℕ) → i₁ + 4 ≤ length piece
+    → unitAlone index blocks (getD piece i₁ 0) ≡ Found a → unitAlone index blocks (getD piece (i₁ + 1) 0) ≡ Found b
+    → unitAlone index blocks (getD piece (i₁ + 2) 0) ≡ Found c → unitAlone index blocks (getD piece (i₁ + 3) 0) ≡ Found d → w₁ + 8 ≤ length out₁
+    → (out₂ : List ℕ) (count : ℕ) → (count ≡ length (bytesOfFour a b c d)) × (out₂ ≡ sets out₁ w₁ (bytesOfFour a b c d)) → Ran (encoder index blocks) piece out i w out₂ (i₁ + 4) (w₁ + count)
+ran-four index blocks {piece} {out} {i} {w} {out₁} {i₁} {w₁} r a b c d h qa qb qc qd f out₂ count laid =
+    let xs = bytesOf a ++ bytesOf b in
+    let ys = bytesOf c ++ bytesOf d in
+    let last : i₁ + 2 + 1 ≡ i₁ + 3 = omega arith in
+    let two = ran-both index blocks r a b (omega arith) qa qb (omega arith) in
+    let four = ran-both index blocks two c d (omega arith) qc (ap (λ (k : ℕ). unitAlone index blocks (getD piece k 0)) last ∙ qd) (omega (arith, length-sets out₁ w₁ xs, four-bytes a b)) in
+    subst (λ (l : List ℕ). Ran (encoder index blocks) piece out i w l (i₁ + 4) (w₁ + count)) (sets-append out₁ w₁ xs ys ∙ sym (laid .1))
+    (ran-at four (omega arith) (omega (arith, laid .0, length-append xs ys)))

@@ -1,6 +1,7 @@
 // Runs of codes that have characters: as many as come one after the other and fit, in loops that ask little of each.
 ghost use mathlib.Core.Path.{_≡_};
 ghost use mathlib.Core.Bool.{true};
+ghost use mathlib.Core.List.{_++_};
 ghost use Prim.Native.Nat.{ℕ, _+_, _*_, _≤_, _<_};
 ghost use lib.ListN.{length};
 ghost use lib.Seq.{sets};
@@ -10,6 +11,9 @@ ghost use Rattle.codepage.specs.Reading.{bytesOf, decoder, encoder};
 ghost use Rattle.engine.specs.Steps.{DecodeSizes};
 ghost use Rattle.engine_fastpath.specs.Runs.{Ran, SinglesTaken};
 use codepage_lookup::profile::Leads;
+
+// A run of fewer units is short.
+const FEW: usize = 8;
 
 // How far a run came: in the piece, and in the output.
 pub struct Place {
@@ -210,7 +214,71 @@ pub fn run_of_codes(
     }
 }
 
-// Units whose codes are one byte: how many were taken.
+// The next unit, if its code is one byte: how many units were taken, 0 or 1.
+fn one_byte(
+    index: &[u8],
+    blocks: &[u16],
+    piece: &[u16],
+    i: usize,
+    out: &mut [u8],
+    w: usize,
+) -> usize
+    requires { ⌜ length (now index) ≡ 256 ⌝ }
+    requires { ⌜ ((high : ℕ) → 256 * entryAt (now index) high + 256 ≤ length (now blocks)) ⌝ }
+    requires { ⌜ (i + 1 ≤ length (now piece)) × (w + 1 ≤ length (now out)) × NoCodes (now index) (now blocks) (now piece) ⌝ }
+    ensures { λ r. ⌜ (r ≤ 1) × Ran (encoder (now (index .entry)) (now (blocks .entry))) (now (piece .entry)) (now (out .entry)) i w (now (out .exit)) (i + r) (w + r) ⌝ }
+{
+    let code = codepage_lookup::code_of(index, blocks, piece[i]);
+    if 0x100 <= code {
+        return 0;
+    }
+    out[w] = code as u8;
+    1
+}
+
+// The next two units: how many were taken.
+fn two_bytes(
+    index: &[u8],
+    blocks: &[u16],
+    piece: &[u16],
+    i: usize,
+    out: &mut [u8],
+    w: usize,
+) -> usize
+    requires { ⌜ length (now index) ≡ 256 ⌝ }
+    requires { ⌜ ((high : ℕ) → 256 * entryAt (now index) high + 256 ≤ length (now blocks)) ⌝ }
+    requires { ⌜ (i + 2 ≤ length (now piece)) × (w + 2 ≤ length (now out)) × NoCodes (now index) (now blocks) (now piece) ⌝ }
+    ensures { λ r. ⌜ (r ≤ 2) × Ran (encoder (now (index .entry)) (now (blocks .entry))) (now (piece .entry)) (now (out .entry)) i w (now (out .exit)) (i + r) (w + r) ⌝ }
+{
+    let taken = one_byte(index, blocks, piece, i, out, w);
+    if taken < 1 {
+        return taken;
+    }
+    1 + one_byte(index, blocks, piece, i + 1, out, w + 1)
+}
+
+// The next four units: how many were taken.
+fn four_bytes(
+    index: &[u8],
+    blocks: &[u16],
+    piece: &[u16],
+    i: usize,
+    out: &mut [u8],
+    w: usize,
+) -> usize
+    requires { ⌜ length (now index) ≡ 256 ⌝ }
+    requires { ⌜ ((high : ℕ) → 256 * entryAt (now index) high + 256 ≤ length (now blocks)) ⌝ }
+    requires { ⌜ (i + 4 ≤ length (now piece)) × (w + 4 ≤ length (now out)) × NoCodes (now index) (now blocks) (now piece) ⌝ }
+    ensures { λ r. ⌜ (r ≤ 4) × Ran (encoder (now (index .entry)) (now (blocks .entry))) (now (piece .entry)) (now (out .entry)) i w (now (out .exit)) (i + r) (w + r) ⌝ }
+{
+    let taken = two_bytes(index, blocks, piece, i, out, w);
+    if taken < 2 {
+        return taken;
+    }
+    2 + two_bytes(index, blocks, piece, i + 2, out, w + 2)
+}
+
+// Units whose codes are one byte, four in a turn: how many were taken. Of the last three none is.
 fn run_of_bytes(
     index: &[u8],
     blocks: &[u16],
@@ -227,13 +295,12 @@ fn run_of_bytes(
 {
     let n = smaller(piece.len() - from, out.len() - at);
     let mut k = 0;
-    while k < n {
-        let code = codepage_lookup::code_of(index, blocks, piece[from + k]);
-        if 0x100 <= code {
-            return k;
+    while 4 <= n - k {
+        let taken = four_bytes(index, blocks, piece, from + k, out, at + k);
+        if taken < 4 {
+            return k + taken;
         }
-        out[at + k] = code as u8;
-        k += 1;
+        k += 4;
     }
     k
 }
@@ -260,8 +327,43 @@ fn lay_code(code: u16, out: &mut [u8], w: usize) -> usize
     count
 }
 
-// Units that have codes.
-fn run_of_units(
+// Writes the bytes of two codes: how many.
+fn lay_two(a: u16, b: u16, out: &mut [u8], w: usize) -> usize
+    requires { ⌜ w + 4 ≤ length (now out) ⌝ }
+    ensures { λ r. ⌜ (r ≡ length (bytesOf a ++ bytesOf b)) × (now (out .exit) ≡ sets (now (out .entry)) w (bytesOf a ++ bytesOf b)) ⌝ }
+{
+    let count = lay_code(a, out, w);
+    count + lay_code(b, out, w + count)
+}
+
+// Writes the bytes of four codes: how many.
+fn lay_four(a: u16, b: u16, c: u16, d: u16, out: &mut [u8], w: usize) -> usize
+    requires { ⌜ w + 8 ≤ length (now out) ⌝ }
+    ensures { λ r. ⌜ (r ≡ length ((bytesOf a ++ bytesOf b) ++ (bytesOf c ++ bytesOf d))) × (now (out .exit) ≡ sets (now (out .entry)) w ((bytesOf a ++ bytesOf b) ++ (bytesOf c ++ bytesOf d))) ⌝ }
+{
+    let count = lay_two(a, b, out, w);
+    count + lay_two(c, d, out, w + count)
+}
+
+// Whether none of four entries is none.
+fn all_coded(a: u16, b: u16, c: u16, d: u16) -> bool
+    ensures { λ r. ⌜ (r ≡ true → (a ≡ 0xFFFF → ⊥) × (b ≡ 0xFFFF → ⊥) × (c ≡ 0xFFFF → ⊥) × (d ≡ 0xFFFF → ⊥)) ⌝ }
+{
+    if a == 0xFFFF {
+        return false;
+    }
+    if b == 0xFFFF {
+        return false;
+    }
+    if c == 0xFFFF {
+        return false;
+    }
+    d != 0xFFFF
+}
+
+// Units that have codes, `most` at most, one after the other.
+fn run_of_some(
+    most: usize,
     index: &[u8],
     blocks: &[u16],
     piece: &[u16],
@@ -275,7 +377,7 @@ fn run_of_units(
     requires { ⌜ NoCodes (now index) (now blocks) (now piece) ⌝ }
     ensures { λ r. ⌜ Ran (encoder (now (index .entry)) (now (blocks .entry))) (now (piece .entry)) (now (out .entry)) from at (now (out .exit)) (r .read) (r .written) ⌝ }
 {
-    let n = smaller(piece.len() - from, (out.len() - at) / 2);
+    let n = smaller(most, smaller(piece.len() - from, (out.len() - at) / 2));
     let mut k = 0;
     let mut w = at;
     while k < n {
@@ -295,7 +397,42 @@ fn run_of_units(
     }
 }
 
-// Units that have codes: first those of one byte, which ask less. None are taken where codes may not be asked.
+// Units that have codes, four in a turn: their codes are looked up before one is laid. Where one of the four has none, those before it
+// are taken one after the other.
+fn run_of_units(
+    index: &[u8],
+    blocks: &[u16],
+    piece: &[u16],
+    from: usize,
+    at: usize,
+    out: &mut [u8],
+) -> Place
+    requires { ⌜ length (now index) ≡ 256 ⌝ }
+    requires { ⌜ ((high : ℕ) → 256 * entryAt (now index) high + 256 ≤ length (now blocks)) ⌝ }
+    requires { ⌜ (from ≤ length (now piece)) × (at ≤ length (now out)) ⌝ }
+    requires { ⌜ NoCodes (now index) (now blocks) (now piece) ⌝ }
+    ensures { λ r. ⌜ Ran (encoder (now (index .entry)) (now (blocks .entry))) (now (piece .entry)) (now (out .entry)) from at (now (out .exit)) (r .read) (r .written) ⌝ }
+{
+    let n = smaller(piece.len() - from, (out.len() - at) / 2);
+    let mut k = 0;
+    let mut w = at;
+    while 4 <= n - k {
+        let i = from + k;
+        let a = codepage_lookup::code_of(index, blocks, piece[i]);
+        let b = codepage_lookup::code_of(index, blocks, piece[i + 1]);
+        let c = codepage_lookup::code_of(index, blocks, piece[i + 2]);
+        let d = codepage_lookup::code_of(index, blocks, piece[i + 3]);
+        if !all_coded(a, b, c, d) {
+            break;
+        }
+        w += lay_four(a, b, c, d, out, w);
+        k += 4;
+    }
+    run_of_some(4, index, blocks, piece, from + k, w, out)
+}
+
+// Units that have codes. The first few are taken one after the other, which costs less where runs are short; then, in larger turns,
+// those of one byte, which ask less, and those behind them. None are taken where codes may not be asked.
 pub fn run_of_coded(
     asked: bool,
     index: &[u8],
@@ -317,6 +454,12 @@ pub fn run_of_coded(
             written: at,
         };
     }
-    let count = run_of_bytes(index, blocks, piece, from, at, out);
-    run_of_units(index, blocks, piece, from + count, at + count, out)
+    let few = run_of_some(FEW, index, blocks, piece, from, at, out);
+    let i = few.read;
+    let w = few.written;
+    if i - from < FEW {
+        return few;
+    }
+    let count = run_of_bytes(index, blocks, piece, i, w, out);
+    run_of_units(index, blocks, piece, i + count, w + count, out)
 }
