@@ -424,7 +424,7 @@ module _ (direction : Direction) (run : Run) (p : CodePage) (piece : List ℕ) (
 pub decode-needs : (run : Run) (p : CodePage) (count : ℕ) (has : Bool) (byte : ℕ) → has ≡ hasPending (run .pending) → byte ≡ pendingByte (run .pending) → Accepted Decoding run p count
     → DecodeSizes (p .classes) (p .singles) (p .pairs) × (has ≡ true → isLead (entryAt (p .classes) byte) ≡ true)
 decode-needs run p count has byte e f a = (
-  record { all-classes = a .good .classes; all-singles = a .good .singles; all-pairs = a .good .pairs; no-low-lead = a .good .low },
+  record { all-classes = a .good .classes; all-singles = a .good .singles; all-pairs = a .good .pairs; known = a .good .class; no-low-lead = a .good .low },
   λ h. rw f (lead-pending (p .classes) (run .pending) (call-in Decoding run p count a) (a .lead) (sym e ∙ h)),
 )
 

@@ -9,6 +9,7 @@ use lib.Dec.{eqb}
 use lib.ListN.{length, take, drop}
 use Rattle.codepage.specs.CodePage.{pick, leads}
 use Rattle.codepage.specs.Marks.{NoLowLead}
+use Rattle.codepage_lookup.specs.Profile.{KnownClasses}
 use Rattle.engine.specs.declared.policies.Action.{Action}
 use Rattle.engine.specs.declared.policies.Action.the-variants.{Stop, Skip, Write}
 use Rattle.engine.specs.declared.policies.CodeEffect.{CodeEffect}
@@ -95,11 +96,12 @@ pub record Ends (F : Fed) (out₀ out : List ℕ) (r : Progress) : Type 0 where
   pub laid : out ≡ over out₀ (F .output)
   pub same : length out ≡ length out₀
 
--- the sizes that decoding needs, and that no lead is below 80
+-- the sizes that decoding needs, that every class is known, and that no lead is below 80
 pub record DecodeSizes (classes singles pairs : List ℕ) : Type 0 where
   pub all-classes : length classes ≡ 256
   pub all-singles : length singles ≡ 256
   pub all-pairs : length pairs ≡ 256 * leads classes
+  pub known : KnownClasses classes
   pub no-low-lead : NoLowLead classes
 
 -- a pending unit as a flag and a number; and how many units that is

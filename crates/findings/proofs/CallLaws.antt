@@ -12,7 +12,7 @@ use Rattle.codepage.specs.CodePage.{CodePage, GoodShape, firstFault, isGood}
 use Rattle.codepage.specs.Marks.{NoLowLead}
 use Rattle.codepage.proofs.ShapeLaws.{shape-exact, inside}
 use Rattle.codepage_lookup.specs.declared.profile.Leads.{Leads}
-use Rattle.codepage_lookup.specs.Profile.{LeadsAt}
+use Rattle.codepage_lookup.specs.Profile.{KnownClasses, LeadsAt}
 use Rattle.engine.specs.declared.Direction.the-variants.{Decoding}
 use Rattle.engine.specs.declared.Policy.{Policy}
 use Rattle.engine.specs.Policies.{policyAllowed}
@@ -38,11 +38,11 @@ module _ (p : CodePage) (e : isGood (firstFault p) ≡ true) where
 
   -- what counting requires
   pub decode-sizes : DecodeSizes (p .classes) (p .singles) (p .pairs)
-  decode-sizes = record { all-classes = good .classes; all-singles = good .singles; all-pairs = good .pairs; no-low-lead = good .low }
+  decode-sizes = record { all-classes = good .classes; all-singles = good .singles; all-pairs = good .pairs; known = good .class; no-low-lead = good .low }
 
   -- what finding the leads requires
-  pub leads-need : (length (p .classes) ≡ 256) × NoLowLead (p .classes)
-  leads-need = (good .classes, good .low)
+  pub leads-need : (length (p .classes) ≡ 256) × (KnownClasses (p .classes) × NoLowLead (p .classes))
+  leads-need = (good .classes, (good .class, good .low))
 
   -- what finding whether the page is plain requires
   pub plain-need : (length (p .classes) ≡ 256) × (length (p .singles) ≡ 256)

@@ -5,6 +5,7 @@ ghost use Prim.Native.Nat.{ℕ, _+_, _*_, _≤_, _<_};
 ghost use lib.ListN.{length};
 ghost use Rattle.codepage.specs.CodePage.{codePage, entryAt, isLead, leadsBelow, GoodShape};
 ghost use Rattle.codepage.specs.Marks.{NoLowLead};
+ghost use Rattle.codepage_lookup.specs.Profile.{KnownClasses};
 ghost use Rattle.lister.specs.Lister.{singleAt, leadAt, trailAt, pairAt, codeAt, recordAt, isRecord, nextPlace};
 use codepage::Numbers;
 use codepage_lookup::profile;
@@ -65,7 +66,7 @@ fn trail_at(classes: &[u8], byte: u8) -> Record
 
 // The entry of a lead's pair with a second byte.
 fn pair_entry(classes: &[u8], pairs: &[u16], lead: u8, trail: u8) -> u16
-    requires { ⌜ (length (now classes) ≡ 256) × NoLowLead (now classes) × (isLead (entryAt (now classes) lead) ≡ true) ⌝ }
+    requires { ⌜ (length (now classes) ≡ 256) × KnownClasses (now classes) × NoLowLead (now classes) × (isLead (entryAt (now classes) lead) ≡ true) ⌝ }
     requires { ⌜ 256 * leadsBelow (now classes) lead + 256 ≤ length (now pairs) ⌝ }
     ensures { λ r. ⌜ r ≡ entryAt (now (pairs .entry)) (256 * leadsBelow (now (classes .entry)) lead + trail) ⌝ }
 {
@@ -76,7 +77,7 @@ fn pair_entry(classes: &[u8], pairs: &[u16], lead: u8, trail: u8) -> u16
 
 // The record of a code of two bytes.
 fn pair_at(classes: &[u8], pairs: &[u16], code: u16) -> Record
-    requires { ⌜ (length (now classes) ≡ 256) × NoLowLead (now classes) ⌝ }
+    requires { ⌜ (length (now classes) ≡ 256) × KnownClasses (now classes) × NoLowLead (now classes) ⌝ }
     requires { ⌜ ((lead : ℕ) → lead < 256 → isLead (entryAt (now classes) lead) ≡ true → 256 * leadsBelow (now classes) lead + 256 ≤ length (now pairs)) ⌝ }
     ensures { λ r. ⌜ r ≡ pairAt (now (classes .entry)) (now (pairs .entry)) code ⌝ }
 {

@@ -74,7 +74,7 @@ text-accepted direction policy p count e =
 
 -- what the loops require
 pub decode-text-needs : (policy : Policy) (p : CodePage) (count : ℕ) → TextAccepted Decoding policy p count → DecodeSizes (p .classes) (p .singles) (p .pairs)
-decode-text-needs policy p count a = record { all-classes = a .good .classes; all-singles = a .good .singles; all-pairs = a .good .pairs; no-low-lead = a .good .low }
+decode-text-needs policy p count a = record { all-classes = a .good .classes; all-singles = a .good .singles; all-pairs = a .good .pairs; known = a .good .class; no-low-lead = a .good .low }
 
 -- what the encode loop requires of an accepted call: digits, the index, and a block for each of its numbers
 pub encode-text-needs : (policy : Policy) (p : CodePage) (count : ℕ) → TextAccepted Encoding policy p count

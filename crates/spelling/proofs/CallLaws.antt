@@ -15,7 +15,7 @@ use Rattle.codepage.specs.Reading.{Reader}
 use Rattle.codepage.specs.Marks.{NoLowLead}
 use Rattle.codepage.proofs.ShapeLaws.{shape-exact, inside}
 use Rattle.codepage_lookup.specs.declared.profile.Leads.{Leads}
-use Rattle.codepage_lookup.specs.Profile.{LeadsAt}
+use Rattle.codepage_lookup.specs.Profile.{KnownClasses, LeadsAt}
 use Rattle.convert.specs.Runs.{pieceLimit}
 use Rattle.convert.proofs.CallLaws.{index-high}
 use Rattle.codepage_walk.specs.Checks.{bytesReader}
@@ -33,8 +33,8 @@ module _ (p : CodePage) (e : isGood (firstFault p) ≡ true) where
   good = shape-exact p .0 e
 
   -- what finding the leads requires
-  pub leads-need : (length (p .classes) ≡ 256) × NoLowLead (p .classes)
-  leads-need = (good .classes, good .low)
+  pub leads-need : (length (p .classes) ≡ 256) × (KnownClasses (p .classes) × NoLowLead (p .classes))
+  leads-need = (good .classes, (good .class, good .low))
 
   -- what looking up requires
   pub bytes-tables : (leads : Leads) → LeadsAt (p .classes) leads → BytesTables (p .classes) (p .singles) (p .pairs) leads

@@ -21,7 +21,9 @@ abbrev μ-loop : tie.MeasureT-loop
 μ-loop policy default classes singles pairs text leads plain t₀ t = stepsLeft text t
 
 leads-of-requires : tie.Need-leads-of-requires Inv-loop μ-loop
-leads-of-requires c κs = (c .before .before .before .before .pre .all-classes, c .before .before .before .before .pre .no-low-lead)
+leads-of-requires c κs =
+    let sizes = c .before .before .before .before .pre in
+    (sizes .all-classes, (sizes .known, sizes .no-low-lead))
 
 plain-bytes-requires : tie.Need-plain-bytes-requires Inv-loop μ-loop
 plain-bytes-requires c κs = (c .before .before .before .before .before .pre .all-classes, c .before .before .before .before .before .pre .all-singles)

@@ -11,7 +11,7 @@ use Rattle.engine_loops.proofs.decoder.decode_codes.Tie as tie
 leads-of-requires : tie.Need-leads-of-requires
 leads-of-requires c κs =
     let sizes = c .before .before .before .before .before .pre .0 in
-    (sizes .all-classes, sizes .no-low-lead)
+    (sizes .all-classes, (sizes .known, sizes .no-low-lead))
 
 start-requires : tie.Need-start-requires
 start-requires c κs = search needs

@@ -43,7 +43,7 @@ pair-entry-requires : tie.Need-pair-entry-requires
 pair-entry-requires c κs =
     let start = c .before .before .before .before .before .before .before .before in
     let lead-on = sym (c .before .before .before .before .is-lead-class .ensures) ∙ not-false _ (c .before .before .before .if1 .left) in
-    ((start .pre .0 .0, start .pre .0 .1, lead-on), start .pre .1 (start .args .code / 256) (omega arith) lead-on)
+    ((start .pre .0 .0, start .pre .0 .1, start .pre .0 .2, lead-on), start .pre .1 (start .args .code / 256) (omega arith) lead-on)
 
 unless-none-requires : tie.Need-unless-none-requires
 unless-none-requires c κs = search needs

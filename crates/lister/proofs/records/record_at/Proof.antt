@@ -50,7 +50,7 @@ cast-pair-at : tie.Need-cast-pair-at
 cast-pair-at c = search needs
 
 pair-at-requires : tie.Need-pair-at-requires
-pair-at-requires c κs = let good = c .before .before .before .before .before .before .before .before .before .before .before .pre .0 in ((good .classes, good .low), pairs-inside _ good)
+pair-at-requires c κs = let good = c .before .before .before .before .before .before .before .before .before .before .before .pre .0 in ((good .classes, good .class, good .low), pairs-inside _ good)
 
 returns-6 : tie.Need-returns-6
 unfolding recordAt
