@@ -174,14 +174,6 @@ module _ {v : Converter} {piece out : List ℕ} {t : Turn} where
     pub settled-then : {out₂ : List ℕ} {r : Turn} → m .progress .answer ≡ 0 → Advanced v piece out₁ m out₂ r → Advanced v piece out t out₂ r
     settled-then z b = record { turned = turned-then (a .turned) z (b .turned); falls = omega (arith, a .turned .left, b .falls) }
 
--- a turn that comes nearer to the end, and then codes that have characters
-pub advanced-ran : {R : Reader} (policy : Policy) (default : ℕ) {piece out : List ℕ} {t : Turn} {out₁ : List ℕ} {m : Turn} {out₂ : List ℕ} {i w : ℕ} {r : Turn}
-    → Advanced (converter R policy default) piece out t out₁ m → m .progress .answer ≡ 0 → m .waits ≡ false → Ran R piece out₁ (m .at) (m .progress .written) out₂ i w → r ≡ movedTurn m i w
-    → Advanced (converter R policy default) piece out t out₂ r
-advanced-ran {R} policy default {piece} {out₁ = out₁} {m = m} {out₂ = out₂} a z e b q =
-    let then = subst (Turned (converter R policy default) piece out₁ m out₂) (sym q) (turned-ran policy default e b) in
-    record { turned = turned-then (a .turned) z then; falls = omega (arith, a .falls, then .left) }
-
 -- codes that have characters, and what follows them
 module _ {R : Reader} {piece out : List ℕ} {t : Turn} {out₁ : List ℕ} {i w : ℕ} {m : Turn} where
   -- behind them a loop can go on, and no unit waits

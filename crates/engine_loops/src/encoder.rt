@@ -115,42 +115,6 @@ fn advance(
     next_code(policy, default, index, blocks, piece, next, out)
 }
 
-// A turn where a high surrogate waits: it is settled, and then units that have codes are taken. So `run_of_coded` has two callers
-// and stays a function of its own, whose loops have what they need in registers.
-fn settled_turn(
-    policy: Policy,
-    default: u8,
-    index: &[u8],
-    blocks: &[u16],
-    asked: bool,
-    piece: &[u16],
-    t: Turn,
-    out: &mut [u8],
-) -> Turn
-    requires { ⌜ policyAllowed Encoding policy ≡ true ⌝ }
-    requires { ⌜ length (now index) ≡ 256 ⌝ }
-    requires { ⌜ ((high : ℕ) → 256 * entryAt (now index) high + 256 ≤ length (now blocks)) ⌝ }
-    requires { ⌜ Ready (now piece) (now out) t × (t .at < length (now piece)) ⌝ }
-    requires { ⌜ (t .waits ≡ true) × (isHigh (t .first) ≡ true) ⌝ }
-    requires { ⌜ (asked ≡ true → NoCodes (now index) (now blocks) (now piece)) ⌝ }
-    ensures { λ r. ⌜ Advanced (converter (encoder (now (index .entry)) (now (blocks .entry))) policy default) (now (piece .entry)) (now (out .entry)) t (now (out .exit)) r ⌝ }
-{
-    let next = settle(policy, default, piece, t, out);
-    let s = next.progress;
-    if s.answer != 0 {
-        return next;
-    }
-    if piece.len() <= next.at {
-        return next;
-    }
-    if next.waits {
-        return next;
-    }
-    let at = next.at;
-    let place = runs::run_of_coded(asked, index, blocks, piece, at, s.written, out);
-    turns::moved(next, place.read, place.written)
-}
-
 // A turn of encoding.
 fn codes_turn(
     policy: Policy,
@@ -171,7 +135,7 @@ fn codes_turn(
     ensures { λ r. ⌜ Advanced (converter (encoder (now (index .entry)) (now (blocks .entry))) policy default) (now (piece .entry)) (now (out .entry)) t (now (out .exit)) r ⌝ }
 {
     if t.waits {
-        return settled_turn(policy, default, index, blocks, asked, piece, t, out);
+        return settle(policy, default, piece, t, out);
     }
     advance(policy, default, index, blocks, asked, piece, t, out)
 }
