@@ -37,6 +37,13 @@ past-falls piece t {r} q h = subst (λ (x : Turn). stepsLeft piece x < stepsLeft
 pub wait-falls : (piece : List ℕ) (t : Turn) {r : Turn} {first : ℕ} → r ≡ waitTurn t first → t .at < length piece → stepsLeft piece r < stepsLeft piece t
 wait-falls piece t {r} q h = subst (λ (x : Turn). stepsLeft piece x < stepsLeft piece t) (sym q) (omega arith)
 
+-- behind a code of one unit a loop can go on, where the call has not ended
+pub one-ready : {k : Effect} {piece out : List ℕ} {t : Turn} {s : Progress} {out′ : List ℕ} {r : Turn} → Took k 1 (t .progress) out s out′ → t .at < length piece → Ready piece out t → r ≡ pastTurn t 1 s
+    → r .progress .answer ≡ 0 → Ready piece out′ r
+one-ready {piece = piece} {out′ = out′} u h g q z =
+    subst (λ (x : Turn). x .progress .answer ≡ 0 → Ready piece out′ x) (sym q)
+    (λ y. record { going = y; inside = omega arith; within = u .within; few = omega (arith, g .few, u .more y .1) }) z
+
 -- ---- one turn
 module _ {v : Converter} {piece out : List ℕ} {t : Turn} where
   -- nothing was done
@@ -104,6 +111,11 @@ module _ {v : Converter} {piece out : List ℕ} {t : Turn} where
         → r ≡ pastTurn t 1 s → Turned v piece out t out′ r
     turned-one u e h w q m =
         subst (Turned v piece out t out′) (sym m) (turned-took 1 1 u (omega arith) (omega arith) (λ last. one-step v last piece (t .at) k h (t .waits) (t .first) e w q))
+
+    -- and the turn comes nearer to the end
+    pub advanced-one : Took k 1 (t .progress) out s out′ → t .waits ≡ false → t .at < length piece → v .reader .waits (getD piece (t .at) 0) ≡ false → k ≡ doesAlone v (getD piece (t .at) 0)
+        → r ≡ pastTurn t 1 s → Advanced v piece out t out′ r
+    advanced-one u e h w q m = record { turned = turned-one u e h w q m; falls = past-falls piece t m h }
 
     -- the unit that waits is settled by the next
     pub settled-turn : {m : ℕ} → Took k (1 + m) (t .progress) out s out′ → t .waits ≡ true → t .at < length piece → k ≡ doesSettled v (t .first) (getD piece (t .at) 0)
@@ -173,6 +185,14 @@ module _ {v : Converter} {piece out : List ℕ} {t : Turn} where
     -- and then another turn
     pub settled-then : {out₂ : List ℕ} {r : Turn} → m .progress .answer ≡ 0 → Advanced v piece out₁ m out₂ r → Advanced v piece out t out₂ r
     settled-then z b = record { turned = turned-then (a .turned) z (b .turned); falls = omega (arith, a .turned .left, b .falls) }
+
+-- a turn that comes nearer to the end, and then codes that have characters
+pub advanced-ran : {R : Reader} (policy : Policy) (default : ℕ) {piece out : List ℕ} {t : Turn} {out₁ : List ℕ} {m : Turn} {out₂ : List ℕ} {i w : ℕ} {r : Turn}
+    → Advanced (converter R policy default) piece out t out₁ m → m .progress .answer ≡ 0 → m .waits ≡ false → Ran R piece out₁ (m .at) (m .progress .written) out₂ i w → r ≡ movedTurn m i w
+    → Advanced (converter R policy default) piece out t out₂ r
+advanced-ran {R} policy default {piece} {out₁ = out₁} {m = m} {out₂ = out₂} a z e b q =
+    let then = subst (Turned (converter R policy default) piece out₁ m out₂) (sym q) (turned-ran policy default e b) in
+    record { turned = turned-then (a .turned) z then; falls = omega (arith, a .falls, then .left) }
 
 -- codes that have characters, and what follows them
 module _ {R : Reader} {piece out : List ℕ} {t : Turn} {out₁ : List ℕ} {i w : ℕ} {m : Turn} where
@@ -330,6 +350,19 @@ module _ {v : Converter} {last : Bool} {F : Fed} {out₀ piece out : List ℕ} {
   loop-end {out′} {r} h a =
       ends-of F out₀ out′ r (g .sum ∙ ap (restOf v last out t) (no-more (t .at) piece h) ∙ a .gives) (a .within)
       (a .kept ∙ later (t .progress .written) (r .written) out out₀ (a .grows) (g .kept)) (a .same ∙ g .same)
+
+-- what a loop keeps, where the call begins with codes that have characters
+pub loop-ran : (policy : Policy) (default : ℕ) (last : Bool) {R : Reader} {piece out out′ : List ℕ} {k : ℕ} {t r : Turn} → t ≡ startTurn false 0 → Ran R piece out 0 0 out′ (0 + k) (0 + k)
+    → r ≡ movedTurn t k k → Loop (converter R policy default) last (feedFrom (converter R policy default) last (limit (length out)) none piece) out piece out′ r × (r .waits ≡ false)
+loop-ran policy default last {R} {piece} {out} {out′} {k} {t} q a m =
+    let v = converter R policy default in
+    let begun = loop-start v last false 0 piece out (λ e. absurd (false≢true e)) refl in
+    let same : 0 + k ≡ k = omega arith in
+    let ran : Ran R piece out 0 0 out′ k k = subst (λ (n : ℕ). Ran R piece out 0 0 out′ n n) same a in
+    let whole = ap (λ (x : Turn). movedTurn x k k) q in
+    let turned = turned-ran policy default {t = startTurn false 0} refl ran in
+    let kept = loop-turn begun turned refl in
+    (subst (Loop v last (feedFrom v last (limit (length out)) none piece) out piece out′) (sym (m ∙ whole)) kept, ap (λ (x : Turn). x .waits) m)
 
 -- ---- what a call answers: the output by another name, nothing pending by its test, and the two parts of a promise
 pub ends-from : (v : Converter) (last : Bool) (p : Option ℕ) (piece : List ℕ) {out₁ out₀ out : List ℕ} {r : Progress} → out₁ ≡ out₀ → Ends (feedFrom v last (limit (length out₁)) p piece) out₁ out r

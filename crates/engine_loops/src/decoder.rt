@@ -11,7 +11,7 @@ ghost use Rattle.codepage.specs.Reading.{decoder};
 ghost use Rattle.codepage_lookup.specs.Profile.{LeadsAt};
 ghost use Rattle.engine.specs.Engine.{Fed, converter};
 ghost use Rattle.engine.specs.Steps.{doesAlone, summary, Took, Ends, DecodeSizes, optional, oneIf, decodeFed};
-ghost use Rattle.engine_fastpath.specs.Words.{PlainPage};
+ghost use Rattle.engine_fastpath.specs.Words.{MixedPage};
 ghost use Rattle.engine_loops.specs.Ways.{WayFound};
 ghost use Rattle.engine_loops.specs.Turns.{stepsLeft, Ready, Turned, Advanced, Settled, Closed, Loop};
 use crate::turns;
@@ -47,7 +47,7 @@ fn take_alone(
     progress::take_units(d, 1, s, out)
 }
 
-// A turn on a page that has only singles: those that have characters, and the byte behind them.
+// A turn on a page that has only singles: a byte, and those behind it that have characters.
 fn singles_turn(
     policy: Policy,
     default: u16,
@@ -64,18 +64,47 @@ fn singles_turn(
 {
     let at = t.at;
     let s = t.progress;
-    let count = runs::run_of_singles(singles, piece, at, s.written, out);
-    let next = turns::moved(t, at + count, s.written + count);
-    let end = next.at;
-    if piece.len() <= end {
+    let taken = take_alone(policy, default, classes, singles, piece[at], s, out);
+    let next = turns::past(t, 1, taken);
+    let after = next.progress;
+    if after.answer != 0 {
         return next;
     }
-    let after = next.progress;
-    let taken = take_alone(policy, default, classes, singles, piece[end], after, out);
-    turns::past(next, 1, taken)
+    let from = next.at;
+    let count = runs::run_of_singles(singles, piece, from, after.written, out);
+    turns::moved(next, from + count, after.written + count)
 }
 
-// Pages that have only singles. Their pairs, and whether the call is the last, are asked nothing: they stand in the promise.
+// The turns of a call on a page that has only singles, from a place on. Its pairs, and whether the call is the last, are asked nothing:
+// they stand in the promise.
+fn singles_rest(
+    policy: Policy,
+    default: u16,
+    classes: &[u8],
+    singles: &[u16],
+    pairs: &[u16],
+    piece: &[u8],
+    from: Turn,
+    last: bool,
+    out: &mut [u16],
+) -> Progress
+    requires { ⌜ (length (now classes) ≡ 256) × (length (now singles) ≡ 256) ⌝ }
+    requires { ⌜ ((byte : ℕ) → byte < 256 → isSingle (entryAt (now classes) byte) ≡ true) ⌝ }
+    requires { ⌜ Ready (now piece) (now out) from × (from .waits ≡ false) ⌝ }
+    ensures { λ r. ⌜ (length (now (out .exit)) ≡ length (now (out .entry))) × ((F : Fed) (before : List ℕ) → Loop (converter (decoder (now (classes .entry)) (now (singles .entry)) (now (pairs .entry))) policy default) last F before (now (piece .entry)) (now (out .entry)) from → Ends F before (now (out .exit)) r) ⌝ }
+{
+    let mut t = from;
+    while t.at < piece.len() {
+        t = singles_turn(policy, default, classes, singles, piece, t, out);
+        let s = t.progress;
+        if s.answer != 0 {
+            return s;
+        }
+    }
+    t.progress
+}
+
+// Pages that have only singles: a first run, and the turns behind it.
 fn decode_singles(
     policy: Policy,
     default: u16,
@@ -90,15 +119,20 @@ fn decode_singles(
     requires { ⌜ ((byte : ℕ) → byte < 256 → isSingle (entryAt (now classes) byte) ≡ true) ⌝ }
     ensures { λ r. ⌜ Ends (decodeFed (now (classes .entry)) (now (singles .entry)) (now (pairs .entry)) policy default last (length (now (out .entry))) none (now (piece .entry))) (now (out .entry)) (now (out .exit)) r ⌝ }
 {
-    let mut t = turns::start(false, 0);
-    while t.at < piece.len() {
-        t = singles_turn(policy, default, classes, singles, piece, t, out);
-        let s = t.progress;
-        if s.answer != 0 {
-            return s;
-        }
-    }
-    t.progress
+    let start = turns::start(false, 0);
+    let first = runs::run_of_singles(singles, piece, 0, 0, out);
+    let t = turns::moved(start, first, first);
+    singles_rest(
+        policy,
+        default,
+        classes,
+        singles,
+        pairs,
+        piece,
+        t,
+        last,
+        out,
+    )
 }
 
 // Settles the lead byte that waits, by the byte behind it: they are one code, or the lead is one alone and that byte stays unread.
@@ -170,7 +204,7 @@ fn advance(
     out: &mut [u16],
 ) -> Turn
     requires { ⌜ DecodeSizes (now classes) (now singles) (now pairs) ⌝ }
-    requires { ⌜ (long ≡ true → PlainPage (now classes) (now singles)) ⌝ }
+    requires { ⌜ (long ≡ true → MixedPage (now classes) (now singles)) ⌝ }
     requires { ⌜ LeadsAt (now classes) leads ⌝ }
     requires { ⌜ Ready (now piece) (now out) t × (t .at < length (now piece)) × (t .waits ≡ false) ⌝ }
     ensures { λ r. ⌜ Advanced (converter (decoder (now (classes .entry)) (now (singles .entry)) (now (pairs .entry))) policy default) (now (piece .entry)) (now (out .entry)) t (now (out .exit)) r ⌝ }
@@ -240,7 +274,7 @@ fn codes_turn(
     out: &mut [u16],
 ) -> Turn
     requires { ⌜ DecodeSizes (now classes) (now singles) (now pairs) ⌝ }
-    requires { ⌜ (long ≡ true → PlainPage (now classes) (now singles)) ⌝ }
+    requires { ⌜ (long ≡ true → MixedPage (now classes) (now singles)) ⌝ }
     requires { ⌜ LeadsAt (now classes) leads ⌝ }
     requires { ⌜ Ready (now piece) (now out) t × (t .at < length (now piece)) ⌝ }
     requires { ⌜ (t .waits ≡ true → isLead (entryAt (now classes) (t .first)) ≡ true) ⌝ }
@@ -303,7 +337,7 @@ fn at_end(
     turns::stays_pending(t)
 }
 
-// Whether the run of a turn was long, on a page that keeps text below 80 as it is.
+// Whether the run of a turn was long, on a page whose mixed text goes by the quick loops.
 fn goes_on(plain: bool, before: usize, after: usize) -> bool
     requires { ⌜ before ≤ after ⌝ }
     ensures { λ r. ⌜ (r ≡ true → plain ≡ true) ⌝ }
@@ -329,7 +363,7 @@ fn decode_rest(
     out: &mut [u16],
 ) -> Progress
     requires { ⌜ DecodeSizes (now classes) (now singles) (now pairs) ⌝ }
-    requires { ⌜ (plain ≡ true → PlainPage (now classes) (now singles)) ⌝ }
+    requires { ⌜ (plain ≡ true → MixedPage (now classes) (now singles)) ⌝ }
     requires { ⌜ LeadsAt (now classes) leads ⌝ }
     requires { ⌜ Ready (now piece) (now out) from × (from .waits ≡ true → isLead (entryAt (now classes) (from .first)) ≡ true) ⌝ }
     ensures { λ r. ⌜ (length (now (out .exit)) ≡ length (now (out .entry))) × ((F : Fed) (before : List ℕ) → Loop (converter (decoder (now (classes .entry)) (now (singles .entry)) (now (pairs .entry))) policy default) last F before (now (piece .entry)) (now (out .entry)) from → Ends F before (now (out .exit)) r) ⌝ }
@@ -378,7 +412,7 @@ fn decode_codes(
 {
     let leads = codepage_lookup::profile::leads_of(classes);
     let start = turns::start(pending, lead as u16);
-    let plain = codepage_lookup::profile::plain_bytes(classes, singles);
+    let plain = codepage_lookup::profile::mixed_page(classes, singles);
     decode_rest(
         policy,
         default,

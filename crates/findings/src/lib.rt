@@ -25,6 +25,7 @@ use codepage::Lookup;
 use codepage::Numbers;
 use codepage_lookup::profile;
 use codepage_lookup::profile::Leads;
+use codepage_lookup::words;
 use convert::Run;
 use engine::Direction;
 use engine::Policy;
@@ -214,7 +215,7 @@ fn pass_plain(plain: bool, text: &[u8], from: usize) -> usize
     }
     let mut place = from;
     while 8 <= text.len() - place {
-        let count = mixed::plain_count(mixed::word_at(text, place));
+        let count = mixed::plain_count(words::word_at(text, place));
         place += count;
         if count < 8 {
             return place;

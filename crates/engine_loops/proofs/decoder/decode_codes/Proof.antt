@@ -16,8 +16,8 @@ leads-of-requires c κs =
 start-requires : tie.Need-start-requires
 start-requires c κs = search needs
 
-plain-bytes-requires : tie.Need-plain-bytes-requires
-plain-bytes-requires c κs =
+mixed-page-requires : tie.Need-mixed-page-requires
+mixed-page-requires c κs =
     let sizes = c .before .before .before .before .before .before .before .pre .0 in
     (sizes .all-classes, sizes .all-singles)
 
@@ -27,7 +27,7 @@ decode-rest-requires c κs =
     let start = at-leads-of .before .before .before .before .before .before in
     let first = c .before .before .start .ensures in
     let waits = start-waits (λ (x : ℕ). isLead (entryAt (start .args .classes .now) x) ≡ true) first (start .pre .1) in
-    (start .pre .0, (c .before .plain-bytes .ensures, (at-leads-of .leads-of .ensures, (start-ready first, waits))))
+    (start .pre .0, ((λ e. (c .before .mixed-page .ensures .0 e, c .before .mixed-page .ensures .1 e)), (at-leads-of .leads-of .ensures, (start-ready first, waits))))
 
 same-length : tie.Need-same-length
 same-length c = c .before .before .decode-rest .ensures .0
@@ -45,7 +45,7 @@ decode-codes-spec =
     (tie.spec
     leads-of-requires
     start-requires
-    plain-bytes-requires
+    mixed-page-requires
     decode-rest-requires
     same-length
     returns)

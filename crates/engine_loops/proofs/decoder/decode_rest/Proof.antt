@@ -7,7 +7,7 @@ use native.Mathlib.Omega.{arith}
 use Rattle.codepage.specs.Reading.{decoder}
 use Rattle.engine.specs.Engine.{Fed, converter}
 use Rattle.engine.proofs.DecodeLaws.{lead-below, decoder-waits, decoder-lead}
-use Rattle.engine_fastpath.specs.Words.{PlainPage}
+use Rattle.engine_fastpath.specs.Words.{MixedPage}
 use Rattle.engine_loops.specs.Turns.{stepsLeft, Ready, Loop}
 use Rattle.engine_loops.proofs.TurnedLaws.{not-back, loop-turn, loop-stop, loop-end}
 use borrow.Author.Needs.{needs}
@@ -21,7 +21,7 @@ Inv-loop policy default classes singles pairs plain leads piece last out₀ t₀
     × (t .waits ≡ true → v .reader .waits (t .first) ≡ true)
     × (length out ≡ length out₀)
     × ((F : Fed) (before : List ℕ) → Loop v last F before piece out₀ t₀ → Loop v last F before piece out t)
-    × (long ≡ true → PlainPage classes singles)
+    × (long ≡ true → MixedPage classes singles)
 
 abbrev μ-loop : tie.MeasureT-loop
 μ-loop policy default classes singles pairs plain leads piece last out₀ t₀ long₀ out t long = stepsLeft piece t

@@ -1,59 +1,46 @@
-use lib.ListN.{length}
-use mathlib.Core.Bool.{false, false≢true}
-use mathlib.Core.Option.{none}
-use mathlib.Core.Path.{_≡_, _∙_, refl, ap}
-use Rattle.codepage.specs.Reading.{decoder}
-use Rattle.engine.specs.Engine.{converter}
-use Rattle.engine.specs.Steps.{decodeFed}
-use Rattle.engine_loops.specs.Turns.{stepsLeft, Loop}
+use mathlib.Core.List.{[]}
+use native.Mathlib.Omega.{arith}
+use mathlib.Core.Path.{_≡_, ap, _∙_}
+use Rattle.engine_fastpath.proofs.RunLaws.{only-singles-clear}
 use Rattle.engine_loops.specs.declared.turns.Turn.{Turn}
-use Rattle.engine_loops.proofs.TurnedLaws.{loop-start, loop-turn, loop-stop, loop-end, closed-none}
+use Rattle.engine_loops.proofs.TurnedLaws.{loop-ran}
 use borrow.Author.Needs.{needs}
 use Rattle.engine_loops.proofs.decoder.decode_singles.Statement.{statement}
 use Rattle.engine_loops.proofs.decoder.decode_singles.Tie as tie
 
-abbrev Inv-loop : tie.InvT-loop
-Inv-loop policy default classes singles pairs piece last out₀ t₀ out t =
-    Loop (converter (decoder classes singles pairs) policy default) last (decodeFed classes singles pairs policy default last (length out₀) none piece) out₀ piece out t × (t .waits ≡ false)
-
-abbrev μ-loop : tie.MeasureT-loop
-μ-loop policy default classes singles pairs piece last out₀ t₀ out t = stepsLeft piece t
-
-start-requires : tie.Need-start-requires Inv-loop μ-loop
+start-requires : tie.Need-start-requires
 start-requires c κs = search needs
 
-loop-holds : tie.Need-loop-holds Inv-loop μ-loop
-loop-holds c = (loop-start _ _ false 0 _ _ (λ e. absurd (false≢true e)) (c .start .ensures), ap (λ (t : Turn). t .waits) (c .start .ensures))
+run-of-singles-requires : tie.Need-run-of-singles-requires
+run-of-singles-requires c κs = (c .before .before .before .before .before .before .before .pre .0 .1, omega arith, omega arith)
 
-singles-turn-requires : tie.Need-singles-turn-requires Inv-loop μ-loop
-singles-turn-requires c κs =
-    let start = c .before .before .before .before .before .before .before .before .before .before in
-    let turn = c .before .before .before .loop in
-    (start .pre .0, (start .pre .1, (turn .inv .0 .ready, c .before .if1 .taken, turn .inv .1)))
+moved-requires : tie.Need-moved-requires
+moved-requires c κs =
+    let entry = c .before .before .before .before .before .before .before .before .before .before in
+    let clear = only-singles-clear (entry .args .classes .now) (entry .args .singles .now) (entry .pre .1) in
+    let ran = c .before .before .run-of-singles .ensures .ran (entry .args .classes .now) [] clear in
+    let at = ap (λ (t : Turn). t .at) (c .before .before .before .before .start .ensures) in
+    let used = ap (λ (t : Turn). t .progress .used) (c .before .before .before .before .start .ensures) in
+    (omega (arith, at), omega (arith, at, used, ran .inside, entry .good .1 .1 .1 .1 .1 .0))
 
-same-length : tie.Need-same-length Inv-loop μ-loop
-same-length c =
-    let start = c .before .before .before .before .before .before .before .before .before .before .before .before .before .before .before .before in
-    let turn = c .before .before .before .before .before .before .before .before .before .loop in
-    let singles-turn = c .before .before .before .before .before .singles-turn in
-    singles-turn .ensures .0 (start .args .pairs .now) .turned .same ∙ turn .inv .0 .same
+singles-rest-requires : tie.Need-singles-rest-requires
+singles-rest-requires c κs =
+    let entry = c .before .before .before .before .before .before .before .before .before .before .before .before in
+    let clear = only-singles-clear (entry .args .classes .now) (entry .args .singles .now) (entry .pre .1) in
+    let ran = c .before .before .before .before .run-of-singles .ensures .ran (entry .args .classes .now) (entry .args .pairs .now) clear in
+    let begun = loop-ran (entry .args .policy) (entry .args .default) (entry .args .last) (c .before .before .before .before .before .before .start .ensures) ran (c .before .moved .ensures) in
+    (entry .pre .0, (entry .pre .1, (begun .0 .ready, begun .1)))
 
-returns : tie.Need-returns Inv-loop μ-loop
-returns c = loop-stop (c .before .before .before .before .before .before .before .before .before .loop .inv .0) (c .before .before .before .before .before .singles-turn .ensures .0 _ .turned) (c .if2 .taken)
+same-length : tie.Need-same-length
+same-length c = c .before .before .singles-rest .ensures .0 ∙ c .before .before .before .before .before .before .before .run-of-singles .ensures .same
 
-loop-less : tie.Need-loop-less Inv-loop μ-loop
-loop-less c = c .before .before .before .before .before .singles-turn .ensures .0 (c .before .before .before .before .before .before .before .before .before .before .before .before .before .before .before .before .args .pairs .now) .falls
-
-loop-again : tie.Need-loop-again Inv-loop μ-loop
-loop-again c = (loop-turn (c .before .before .before .before .before .before .before .before .before .loop .inv .0) (c .before .before .before .before .before .singles-turn .ensures .0 _ .turned) (c .if2 .left), c .before .before .before .before .before .singles-turn .ensures .1)
-
-same-length-2 : tie.Need-same-length-2 Inv-loop μ-loop
-same-length-2 c = c .before .before .before .loop .inv .0 .same
-
-returns-2 : tie.Need-returns-2 Inv-loop μ-loop
-returns-2 c =
-    let g = c .before .before .before .loop .inv in
-    loop-end (g .0) (c .before .if1 .left) (closed-none (g .0 .ready .going) (g .0 .ready .within) (g .1))
+returns : tie.Need-returns
+returns c =
+    let entry = c .before .before .before .before .before .before .before .before .before .before .before .before .before .before .before in
+    let clear = only-singles-clear (entry .args .classes .now) (entry .args .singles .now) (entry .pre .1) in
+    let ran = c .before .before .before .before .before .before .before .run-of-singles .ensures .ran (entry .args .classes .now) (entry .args .pairs .now) clear in
+    let begun = loop-ran (entry .args .policy) (entry .args .default) (entry .args .last) (c .before .before .before .before .before .before .before .before .before .start .ensures) ran (c .before .before .before .before .moved .ensures) in
+    c .before .before .singles-rest .ensures .1 _ _ (begun .0)
 
 pub decode-singles-spec : {M : Type 1} → statement M
-decode-singles-spec = tie.close (tie.spec Inv-loop μ-loop start-requires loop-holds singles-turn-requires same-length returns loop-less loop-again same-length-2 returns-2)
+decode-singles-spec = tie.close (tie.spec start-requires run-of-singles-requires moved-requires singles-rest-requires same-length returns)
