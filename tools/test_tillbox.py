@@ -664,8 +664,8 @@ def injected(call, path, *words, when="1", error="EIO", says):
 
 def test_read_errors():
     """They are told as such, wherever they come."""
-    write("journal", b"tea\n" * 1000)
-    write("units", "tea\n".encode("utf-16le") * 1000)
+    write("journal", b"tea\n" * 4000)
+    write("units", "tea\n".encode("utf-16le") * 4000)
     broken = "Input/output error"
     for name, words in (
         ("journal", ("decode", "cp932.tbl", "journal", "ledger")),
@@ -893,18 +893,22 @@ def test_a_waiting_half_before_a_line_feed():
 
 
 def test_a_broken_half_at_the_end_of_a_block():
-    # the half is the last of the first block's 512 bytes, and the second block gives a unit more than it has bytes
-    text = b"a" * 511 + b"\x94" + b"\n" + b"b" * 511 + b"c"
-    wanted = "a" * 511 + "\u30fb\n" + "b" * 511 + "c"
-    write("journal", text)
-    tillbox("decode", "policy", "555", "cp932.tbl", "journal", "ledger", says=summary(1025, 1025, flags="invalid"))
-    equal(read("ledger"), wanted.encode("utf-16le"), "the ledger")
-    write("journal", text[:512])
-    tillbox("decode", "policy", "555", "cp932.tbl", "journal", "ledger", "checkpoint")
-    equal(read("checkpoint"), line("D 932 555 94 0 512 511 on"), "the line")
-    write("journal", text)
-    tillbox("decode", "last", "cp932.tbl", "journal", "ledger", "checkpoint", says=summary(1025, 1025, flags="invalid"))
-    equal(read("ledger"), wanted.encode("utf-16le"), "the ledger")
+    # the half is the last byte of the first block (part), and the second one gives a unit more than it has bytes
+    for size in (512, 2048):
+        front = size - 1
+        text = b"a" * front + b"\x94" + b"\n" + b"b" * front + b"c"
+        wanted = "a" * front + "\u30fb\n" + "b" * front + "c"
+        says = summary(2 * size + 1, 2 * size + 1, flags="invalid")
+        remove("ledger", "checkpoint")
+        write("journal", text)
+        tillbox("decode", "policy", "555", "cp932.tbl", "journal", "ledger", says=says)
+        equal(read("ledger"), wanted.encode("utf-16le"), "the ledger")
+        write("journal", text[:size])
+        tillbox("decode", "policy", "555", "cp932.tbl", "journal", "ledger", "checkpoint")
+        equal(read("checkpoint"), line(f"D 932 555 94 0 {size} {front} on"), "the line")
+        write("journal", text)
+        tillbox("decode", "last", "cp932.tbl", "journal", "ledger", "checkpoint", says=says)
+        equal(read("ledger"), wanted.encode("utf-16le"), "the ledger")
 
 
 def test_flags_by_name():
@@ -1114,8 +1118,8 @@ def test_how_to_go_on_after_a_stop():
     equal(read("receipt"), b"A?B", "the receipt")
 
 
-# Numbers of bytes or units before a code: 512 are a block, and a line is saved after 128 blocks.
-FRONTS = (0, 1, 510, 511, 512, 1023, 65535)
+# Numbers of bytes or units before a code: 512 are a block, 2,048 a part, and a line is saved after 32 parts.
+FRONTS = (0, 1, 511, 512, 1023, 2046, 2047, 2048, 4095, 65535)
 
 
 def every_front(command, policy, code, shown, kind, rest, waits=False):
@@ -1429,8 +1433,8 @@ def test_half_a_unit_after_the_first_half_of_a_pair():
 
 
 def test_a_pair_at_the_end_of_a_block():
-    # the first half is the last of the first block's 512 units, or stands around that place
-    for before in (510, 511, 512, 1022, 1023):
+    # the first half is the last unit of the first block (512 units) or part (2,048), or stands around that place
+    for before in (510, 511, 512, 1023, 2046, 2047, 2048, 4095):
         a, b = [0x61] * before, [0x62] * 600
         for middle, receipt, flags in (
             ([0xD83D, 0xDE00], b"?", "undefined single"),
@@ -1445,11 +1449,12 @@ def test_a_pair_at_the_end_of_a_block():
                 says = encoded(count, len(wanted), flags=flags)
                 tillbox("encode", "policy", "555", "cp932.tbl", "ledger", "receipt", says=says)
                 equal(read("receipt"), wanted, f"the receipt of {before} units, then {middle}")
-    # a half alone, then a block of two-byte codes: one byte more is written than two for each unit of the block
-    write("ledger", units_text(*[0x61] * 511, 0xD83D, *[0x5E74] * 512, 0x62))
-    says = encoded(1025, 511 + 1 + 1024 + 1, flags="invalid")
-    tillbox("encode", "policy", "555", "cp932.tbl", "ledger", "receipt", says=says)
-    equal(read("receipt"), b"a" * 511 + b"?" + b"\x94\x4e" * 512 + b"b", "the receipt")
+    # a half alone, then a block (part) of two-byte codes: one byte more is written than two for each of its units
+    for size in (512, 2048):
+        write("ledger", units_text(*[0x61] * (size - 1), 0xD83D, *[0x5E74] * size, 0x62))
+        says = encoded(2 * size + 1, 3 * size + 1, flags="invalid")
+        tillbox("encode", "policy", "555", "cp932.tbl", "ledger", "receipt", says=says)
+        equal(read("receipt"), b"a" * (size - 1) + b"?" + b"\x94\x4e" * size + b"b", "the receipt")
 
 
 def test_a_pair_cut_by_a_saved_line():
@@ -1538,7 +1543,7 @@ def test_encoding_of_random_ledgers():
     rng = random.Random(9)
     for name, page in (("cp932.tbl", 932), ("cp1252.tbl", 1252), ("sample.tbl", 7)):
         table = second_converter.read_image_file(name, ["."])
-        for size in (1, 2, 511, 512, 513, 514, 1024, 1025, 20000):
+        for size in (1, 2, 511, 512, 513, 514, 1025, 2047, 2048, 2049, 20000):
             units = random_ledger(rng, size)
             policy = rng.choice(["555", "551", "155", "151", "234", "543"])
             out = [0] * (2 * size)

@@ -29,6 +29,11 @@ impl Kinds {
             invalid: sum(self.invalid, other.invalid),
         }
     }
+
+    // How many they are.
+    pub fn all(self) -> u64 {
+        sum(sum(self.single, self.pair), self.invalid)
+    }
 }
 
 // What a call wrote, and the flags that it set.
@@ -94,7 +99,7 @@ fn met_in_bytes(
     block: &[u8],
     last: bool,
 ) -> Met {
-    let mut out = [0u16; 1024];
+    let mut out = [0u16; 2049];
     let outcome = convert::decode(
         under(run, policy),
         numbers,
@@ -226,7 +231,7 @@ fn met_in_units(
     block: &[u16],
     last: bool,
 ) -> Met {
-    let mut out = [0u8; 2048];
+    let mut out = [0u8; 4098];
     let outcome = convert::encode(
         under(run, policy),
         numbers,

@@ -5,6 +5,7 @@ use convert::Direction;
 use convert::Pending;
 use convert::Run;
 use convert::Started;
+use tillbox_layout::BLOCK;
 use tillbox_layout::block_len;
 use tillbox_layout::front_bytes;
 use tillbox_layout::front_units;
@@ -210,7 +211,7 @@ fn decoded_end(
     input: &[u8],
     output: &[u8],
 ) -> Tail {
-    let size = block_len(0, run.read);
+    let size = block_len(BLOCK, 0, run.read);
     let mut block = [0u8; 512];
     if !files::seek(source, place_of(false, before(run.read, size)), input) {
         return Tail::Failed;
@@ -250,7 +251,7 @@ fn encoded_end(
     input: &[u8],
     output: &[u8],
 ) -> Tail {
-    let size = block_len(0, run.read);
+    let size = block_len(BLOCK, 0, run.read);
     let mut block = [0u8; 1024];
     if !files::seek(source, place_of(true, before(run.read, size)), input) {
         return Tail::Failed;

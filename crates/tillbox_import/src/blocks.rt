@@ -265,8 +265,8 @@ fn next_block(
     input: &[u8],
     output: &[u8],
 ) -> Turn {
-    let size = tillbox_layout::block_len(run.read, total);
-    let last = tillbox_layout::is_final(run.read, total);
+    let size = tillbox_layout::block_len(tillbox_layout::BLOCK, run.read, total);
+    let last = tillbox_layout::is_final(tillbox_layout::BLOCK, run.read, total);
     let mut block = [0u8; 512];
     let got = files::read_block(source, size, &mut block, input);
     if got.failed {

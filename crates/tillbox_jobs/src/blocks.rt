@@ -1,5 +1,5 @@
-// The blocks of a job, one after the other. A block has at most 512 units of input, so 1,024 units or 2,048 bytes of room are
-// enough for what one of them gives, with a pending lead byte or high surrogate.
+// The parts of a job's input, one after the other. A part has at most 2,048 units (four blocks), so 2,049 units or 4,098 bytes of room
+// are enough for what one of them gives, with a pending lead byte or high surrogate.
 ghost use Prim.Native.Nat.{_≤_};
 use crate::clock;
 use crate::job::Job;
@@ -13,34 +13,31 @@ use convert::Run;
 use tillbox_checks::kinds;
 use tillbox_checks::kinds::Kinds;
 use tillbox_printing::mark::note_mark;
-use tillbox_printing::replaced::replaced_in;
 use tillbox_storage::checkpoints;
 use tillbox_storage::files;
 use tillbox_storage::messages;
 
-// The run after some blocks, the code that it was stopped at, the codes without a character that it met before, how many characters were
-// replaced (where they are counted), and whether something failed; then the reason was said.
+// The run after some parts, the code that it was stopped at, the codes without a character that it met before, and whether something
+// failed; then the reason was said.
 pub struct Turn {
     pub run: Run,
     pub stop: Stop,
     pub kinds: Kinds,
-    pub replaced: u64,
     pub failed: bool,
 }
 
-// A block that could not be read or written, or a line that could not be saved.
+// A part that could not be read or written, or a line that could not be saved.
 fn broken(run: Run) -> Turn {
     Turn {
         run,
         stop: stops::none(),
         kinds: kinds::none(),
-        replaced: 0,
         failed: true,
     }
 }
 
 // The run after a call that had room enough.
-fn settled(outcome: Outcome, stop: Stop, kinds: Kinds, replaced: u64, path: &[u8]) -> Turn {
+fn settled(outcome: Outcome, stop: Stop, kinds: Kinds, path: &[u8]) -> Turn {
     let answer = outcome.answer;
     let run = outcome.run;
     let number = answer.number();
@@ -49,7 +46,6 @@ fn settled(outcome: Outcome, stop: Stop, kinds: Kinds, replaced: u64, path: &[u8
             run,
             stop,
             kinds,
-            replaced,
             failed: false,
         };
     }
@@ -57,7 +53,7 @@ fn settled(outcome: Outcome, stop: Stop, kinds: Kinds, replaced: u64, path: &[u8
     broken(run)
 }
 
-// The code that a call on a block stopped the run at, if it did.
+// The code that a call on a part stopped the run at, if it did.
 pub fn stop_of_decoding(
     before: Run,
     numbers: Numbers,
@@ -66,7 +62,7 @@ pub fn stop_of_decoding(
     pairs: &[u16],
     index: &[u8],
     blocks: &[u16],
-    block: &[u8],
+    part: &[u8],
     outcome: Outcome,
 ) -> Stop {
     let after = outcome.run;
@@ -81,12 +77,12 @@ pub fn stop_of_decoding(
         pairs,
         index,
         blocks,
-        block,
+        part,
         outcome.read,
     )
 }
 
-// The same of a block of units.
+// The same of a part of units.
 fn stop_of_encoding(
     before: Run,
     numbers: Numbers,
@@ -95,7 +91,7 @@ fn stop_of_encoding(
     pairs: &[u16],
     index: &[u8],
     blocks: &[u16],
-    block: &[u16],
+    part: &[u16],
     outcome: Outcome,
 ) -> Stop {
     let after = outcome.run;
@@ -110,12 +106,12 @@ fn stop_of_encoding(
         pairs,
         index,
         blocks,
-        block,
+        part,
         outcome.read,
     )
 }
 
-// How much of a block comes before the code that its call stopped at: `read` of it was read.
+// How much of a part comes before the code that its call stopped at: `read` of it was read.
 fn before_stop(read: usize, stop: Stop) -> usize {
     if read < stop.size {
         return 0;
@@ -123,7 +119,7 @@ fn before_stop(read: usize, stop: Stop) -> usize {
     read - stop.size
 }
 
-// The codes without a character that a call on a block replaced or skipped.
+// The codes without a character that a call on a part replaced or skipped.
 pub fn kinds_of_decoding(
     before: Run,
     numbers: Numbers,
@@ -132,7 +128,7 @@ pub fn kinds_of_decoding(
     pairs: &[u16],
     index: &[u8],
     blocks: &[u16],
-    block: &[u8],
+    part: &[u8],
     last: bool,
     outcome: Outcome,
     stop: Stop,
@@ -150,11 +146,11 @@ pub fn kinds_of_decoding(
             pairs,
             index,
             blocks,
-            block,
+            part,
             last,
         );
     }
-    let end = tillbox_layout::front_bytes(before_stop(outcome.read, stop), block);
+    let end = tillbox_layout::front_bytes(before_stop(outcome.read, stop), part);
     kinds::in_bytes(
         before,
         numbers,
@@ -163,12 +159,12 @@ pub fn kinds_of_decoding(
         pairs,
         index,
         blocks,
-        &block[..end],
+        &part[..end],
         false,
     )
 }
 
-// The same of a block of units.
+// The same of a part of units.
 fn kinds_of_encoding(
     before: Run,
     numbers: Numbers,
@@ -177,7 +173,7 @@ fn kinds_of_encoding(
     pairs: &[u16],
     index: &[u8],
     blocks: &[u16],
-    block: &[u16],
+    part: &[u16],
     last: bool,
     outcome: Outcome,
     stop: Stop,
@@ -195,11 +191,11 @@ fn kinds_of_encoding(
             pairs,
             index,
             blocks,
-            block,
+            part,
             last,
         );
     }
-    let end = tillbox_layout::front_units(before_stop(outcome.read, stop), block);
+    let end = tillbox_layout::front_units(before_stop(outcome.read, stop), part);
     kinds::in_units(
         before,
         numbers,
@@ -208,12 +204,12 @@ fn kinds_of_encoding(
         pairs,
         index,
         blocks,
-        &block[..end],
+        &part[..end],
         false,
     )
 }
 
-// Decodes a block of bytes.
+// Decodes a part of bytes.
 fn decode_bytes(
     run: Run,
     numbers: Numbers,
@@ -223,12 +219,12 @@ fn decode_bytes(
     index: &[u8],
     blocks: &[u16],
     target: i32,
-    block: &[u8],
+    part: &[u8],
     last: bool,
     input: &[u8],
     output: &[u8],
 ) -> Turn {
-    let mut units = [0u16; 1024];
+    let mut units = [0u16; 2049];
     let outcome = convert::decode(
         run,
         numbers,
@@ -237,12 +233,12 @@ fn decode_bytes(
         pairs,
         index,
         blocks,
-        block,
+        part,
         last,
         &mut units,
     );
     let filled = tillbox_layout::front_units(outcome.written, &units);
-    let mut bytes = [0u8; 2048];
+    let mut bytes = [0u8; 4098];
     let length = utf16::to_bytes(&units[..filled], &mut bytes);
     if !files::write(target, &bytes[..length], output) {
         return broken(run);
@@ -255,7 +251,7 @@ fn decode_bytes(
         pairs,
         index,
         blocks,
-        block,
+        part,
         outcome,
     );
     let kinds = kinds_of_decoding(
@@ -266,16 +262,16 @@ fn decode_bytes(
         pairs,
         index,
         blocks,
-        block,
+        part,
         last,
         outcome,
         stop,
     );
-    settled(outcome, stop, kinds, 0, input)
+    settled(outcome, stop, kinds, input)
 }
 
-// Decodes a block of `size` bytes of a file.
-fn decode_block(
+// Decodes a part of `size` bytes of a file.
+fn decode_part(
     run: Run,
     numbers: Numbers,
     classes: &[u8],
@@ -290,8 +286,8 @@ fn decode_block(
     input: &[u8],
     output: &[u8],
 ) -> Turn {
-    let mut block = [0u8; 512];
-    let got = files::read_block(source, size, &mut block, input);
+    let mut part = [0u8; 2048];
+    let got = files::read_block(source, size, &mut part, input);
     if got.failed {
         return broken(run);
     }
@@ -305,16 +301,15 @@ fn decode_block(
         index,
         blocks,
         target,
-        &block[..count],
+        &part[..count],
         last,
         input,
         output,
     )
 }
 
-// Encodes a block of units.
+// Encodes a part of units.
 fn encode_units(
-    job: Job,
     run: Run,
     numbers: Numbers,
     classes: &[u8],
@@ -329,7 +324,7 @@ fn encode_units(
     output: &[u8],
 ) -> Turn {
     note_mark(run, units);
-    let mut bytes = [0u8; 2048];
+    let mut bytes = [0u8; 4098];
     let outcome = convert::encode(
         run,
         numbers,
@@ -370,27 +365,11 @@ fn encode_units(
         outcome,
         stop,
     );
-    if !job.counts {
-        return settled(outcome, stop, kinds, 0, input);
-    }
-    let replaced = replaced_in(
-        run,
-        numbers,
-        classes,
-        singles,
-        pairs,
-        index,
-        blocks,
-        units,
-        last,
-        written,
-    );
-    settled(outcome, stop, kinds, replaced, input)
+    settled(outcome, stop, kinds, input)
 }
 
-// Encodes a block of `size` units of a file.
-fn encode_block(
-    job: Job,
+// Encodes a part of `size` units of a file.
+fn encode_part(
     run: Run,
     numbers: Numbers,
     classes: &[u8],
@@ -405,18 +384,17 @@ fn encode_block(
     input: &[u8],
     output: &[u8],
 ) -> Turn
-    requires { ⌜ size ≤ 512 ⌝ }
+    requires { ⌜ size ≤ 2048 ⌝ }
 {
-    let mut block = [0u8; 1024];
-    let got = files::read_block(source, 2 * size, &mut block, input);
+    let mut part = [0u8; 4096];
+    let got = files::read_block(source, 2 * size, &mut part, input);
     if got.failed {
         return broken(run);
     }
     let count = got.count;
-    let mut units = [0u16; 512];
-    let length = utf16::to_units(&block[..count], &mut units);
+    let mut units = [0u16; 2048];
+    let length = utf16::to_units(&part[..count], &mut units);
     encode_units(
-        job,
         run,
         numbers,
         classes,
@@ -432,8 +410,8 @@ fn encode_block(
     )
 }
 
-// The next block.
-fn next_block(
+// The next part.
+fn next_part(
     job: Job,
     run: Run,
     numbers: Numbers,
@@ -449,10 +427,10 @@ fn next_block(
     output: &[u8],
 ) -> Turn {
     let direction = job.direction;
-    let size = tillbox_layout::block_len(run.read, total);
-    let last = tillbox_layout::is_final(run.read, total) && job.last;
+    let size = tillbox_layout::block_len(tillbox_layout::PART, run.read, total);
+    let last = tillbox_layout::is_final(tillbox_layout::PART, run.read, total) && job.last;
     match direction {
-        Direction::Decoding => decode_block(
+        Direction::Decoding => decode_part(
             run,
             numbers,
             classes,
@@ -467,8 +445,7 @@ fn next_block(
             input,
             output,
         ),
-        Direction::Encoding => encode_block(
-            job,
+        Direction::Encoding => encode_part(
             run,
             numbers,
             classes,
@@ -501,8 +478,8 @@ fn unsaved(clock: i64) -> Saving {
     }
 }
 
-// Progress and checkpoints on the way, after `done` blocks. A line is saved after every 128 blocks, unless the clock still shows the
-// second of the last save: a journal that comes fast is not held up by syncs.
+// Progress and checkpoints on the way, after `done` parts. A line is saved after every 32 parts (128 blocks), unless the clock still
+// shows the second of the last save: a journal that comes fast is not held up by syncs.
 fn on_the_way(
     job: Job,
     run: Run,
@@ -513,10 +490,10 @@ fn on_the_way(
     output: &[u8],
     checkpoint: &[u8],
 ) -> Saving {
-    if done % 8192 == 0 {
+    if done % 2048 == 0 {
         report::progress(run, total);
     }
-    if done % 128 != 0 {
+    if done % 32 != 0 {
         return unsaved(clock);
     }
     if !job.saves {
@@ -532,21 +509,21 @@ fn on_the_way(
     }
 }
 
-// A turn with what all blocks up to it met and replaced.
-fn with_totals(turn: Turn, kinds: Kinds, replaced: u64) -> Turn {
+// A turn with what all parts up to it met.
+fn with_totals(turn: Turn, kinds: Kinds) -> Turn {
     let run = turn.run;
     let stop = turn.stop;
     Turn {
         run,
         stop,
         kinds,
-        replaced,
         failed: turn.failed,
     }
 }
 
-// All blocks that are left, to the end of the input or of the run.
-pub fn all_blocks(
+// All parts that are left, to the end of the input or of the run. There are at most as many as blocks; a last text of which nothing is left
+// has one empty part.
+pub fn all_parts(
     job: Job,
     run: Run,
     numbers: Numbers,
@@ -565,11 +542,10 @@ pub fn all_blocks(
     let count = tillbox_layout::block_count(run.read, total, job.last);
     let mut run = run;
     let mut met = kinds::none();
-    let mut replaced = 0;
     let mut clock = clock::seconds();
     let mut done = 0;
     while done < count {
-        let turn = next_block(
+        let turn = next_part(
             job,
             run,
             numbers,
@@ -589,9 +565,8 @@ pub fn all_blocks(
         }
         run = turn.run;
         met = met.with(turn.kinds);
-        replaced = tillbox_layout::sum(replaced, turn.replaced);
         if run.ended {
-            return with_totals(turn, met, replaced);
+            return with_totals(turn, met);
         }
         done += 1;
         let saving = on_the_way(job, run, done, clock, target, total, output, checkpoint);
@@ -599,12 +574,14 @@ pub fn all_blocks(
             return broken(run);
         }
         clock = saving.clock;
+        if total <= run.read {
+            break;
+        }
     }
     Turn {
         run,
         stop: stops::none(),
         kinds: met,
-        replaced,
         failed: false,
     }
 }

@@ -56,7 +56,7 @@ fn told(run: Run, stop: Stop, kinds: Kinds, checkpoint: &[u8]) -> Ending {
     Ending::Done
 }
 
-// The end of a job whose blocks are done: the last line is saved and the run summed up.
+// The end of a job whose parts are done: the last line is saved and the run summed up.
 fn finished(job: Job, turn: Turn, target: i32, output: &[u8], checkpoint: &[u8]) -> Ending {
     let run = turn.run;
     let met = turn.kinds;
@@ -70,7 +70,7 @@ fn finished(job: Job, turn: Turn, target: i32, output: &[u8], checkpoint: &[u8])
         files::sync_folder(checkpoint);
     }
     if job.counts {
-        report::preview(run, turn.replaced, met);
+        report::preview(run, met);
         return Ending::Done;
     }
     let stop = turn.stop;
@@ -248,7 +248,7 @@ fn with_run(
     if job.saves {
         files::sync_folder(output);
     }
-    let turn = blocks::all_blocks(
+    let turn = blocks::all_parts(
         job,
         run,
         numbers,

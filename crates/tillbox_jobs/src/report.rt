@@ -109,8 +109,7 @@ pub fn say_kinds(kinds: Kinds) {
 // Numbers of codes by kind, and what they are; nothing where there are none.
 pub fn say_by_kind(what: &[u8], kinds: Kinds) {
     let before = sum(kinds.single, kinds.pair);
-    let all = sum(before, kinds.invalid);
-    if all == 0 {
+    if kinds.all() == 0 {
         return;
     }
     say(b"tillbox: ");
@@ -303,7 +302,7 @@ pub fn printed(page: Page) {
     say(b"\ntillbox: lines not broken: ");
     say_number(page.unbroken);
     say(b"\n");
-    say_replaced(page.replaced);
+    say_replaced(kinds.all());
     say_flags(run.flags);
     say_kinds(kinds);
 }
@@ -316,9 +315,9 @@ fn say_replaced(replaced: u64) {
 }
 
 // The summary of a receipt's preview.
-pub fn preview(run: Run, replaced: u64, kinds: Kinds) {
+pub fn preview(run: Run, kinds: Kinds) {
     say_totals(run);
-    say_replaced(replaced);
+    say_replaced(kinds.all());
     say_flags(run.flags);
     say_kinds(kinds);
 }

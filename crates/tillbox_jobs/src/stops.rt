@@ -1,4 +1,4 @@
-// The code that a run was stopped at by its policy: found again in the block that the stopping call was given.
+// The code that a run was stopped at by its policy: found again in the block that the stopping call was given, of at most 2,048 units.
 use codepage::Numbers;
 use convert::Direction;
 use convert::Pending;
@@ -240,7 +240,7 @@ pub fn stop_in_bytes(
         return none();
     }
     let byte = block[at];
-    let mut units = [0u16; 1024];
+    let mut units = [0u16; 2049];
     let outcome = convert::decode(
         before,
         numbers,
@@ -288,7 +288,7 @@ pub fn stop_in_units(
         return none();
     }
     let unit = block[at];
-    let mut bytes = [0u8; 2048];
+    let mut bytes = [0u8; 4098];
     let outcome = convert::encode(
         before,
         numbers,

@@ -35,15 +35,15 @@ unfoldable pub placeOf : (wide : Bool) → (unit : ℕ) → ℕ
 placeOf true unit = min (2 * unit) lastPlace
 placeOf false unit = min unit lastPlace
 
--- The block that begins where `read` units are read of `total`: how many units it has, and whether it is the last one.
-unfoldable pub blockLen : (read total : ℕ) → ℕ
-blockLen read total = min (total - read) 512
+-- The block that begins where `read` units are read of `total`: how many units it has, of at most `size`.
+unfoldable pub blockLen : (size read total : ℕ) → ℕ
+blockLen size read total = min (total - read) size
 
 -- whether the block that begins where `read` units are read of `total` is the last one
-unfoldable pub isFinal : (read total : ℕ) → Bool
-isFinal read total = leb (total - read) 512
+unfoldable pub isFinal : (size read total : ℕ) → Bool
+isFinal size read total = leb (total - read) size
 
--- How many blocks are left. A text that is complete ends with a block, if only an empty one.
+-- How many blocks of 512 are left. A text that is complete ends with a block, if only an empty one.
 unfoldable pub blockCount : (read total : ℕ) → (last : Bool) → ℕ
 blockCount read total true = max 1 ((total - read + 511) / 512)
 blockCount read total false = (total - read + 511) / 512

@@ -4,8 +4,11 @@ ghost use Prim.Native.Nat.{_+_, _-_, _≤_, min};
 ghost use lib.IntN.{pos};
 ghost use Rattle.tillbox_layout.specs.Files.{greatest, Front, fileSize, unitsIn, isWhole, placeOf, blockLen, isFinal, blockCount};
 
-// The most units in a block.
+// The most units of a block of the journal.
 pub const BLOCK: u64 = 512;
+
+// The most units that a job reads at a time: four blocks.
+pub const PART: u64 = 2048;
 
 const LAST_PLACE: u64 = 9223372036854775807;
 
@@ -115,26 +118,26 @@ fn left_of(read: u64, total: u64) -> u64
     total - read
 }
 
-// How many units the next block has.
-pub fn block_len(read: u64, total: u64) -> usize
-    ensures { λ r. ⌜ r ≡ blockLen read total ⌝ }
-    ensures { λ r. ⌜ r ≤ 512 ⌝ }
+// How many units the next block has, where a block has at most `size`.
+pub fn block_len(size: u64, read: u64, total: u64) -> usize
+    ensures { λ r. ⌜ r ≡ blockLen size read total ⌝ }
+    ensures { λ r. ⌜ r ≤ size ⌝ }
 {
     let left = left_of(read, total);
-    if left < BLOCK {
+    if left < size {
         return left as usize;
     }
-    512
+    size as usize
 }
 
 // Whether the next block is the last one.
-pub fn is_final(read: u64, total: u64) -> bool
-    ensures { λ r. ⌜ r ≡ isFinal read total ⌝ }
+pub fn is_final(size: u64, read: u64, total: u64) -> bool
+    ensures { λ r. ⌜ r ≡ isFinal size read total ⌝ }
 {
-    left_of(read, total) <= BLOCK
+    left_of(read, total) <= size
 }
 
-// How many blocks are left.
+// How many blocks of 512 are left.
 pub fn block_count(read: u64, total: u64, last: bool) -> u64
     ensures { λ r. ⌜ r ≡ blockCount read total last ⌝ }
 {

@@ -240,7 +240,7 @@ fn take_lines(
     let mut state = state::first();
     let mut left = tillbox_layout::block_count(0, total, false);
     while 0 < left {
-        let size = tillbox_layout::block_len(state.read, total);
+        let size = tillbox_layout::block_len(tillbox_layout::BLOCK, state.read, total);
         state = next_block(
             state,
             source,

@@ -4,7 +4,6 @@ mod breaking;
 mod lines;
 pub mod mark;
 mod page;
-pub mod replaced;
 
 pub use crate::page::Page;
 use codepage::Numbers;
@@ -85,7 +84,7 @@ pub fn print_ledger(
     let mut page = page::first(run);
     let mut done = 0;
     while done < count {
-        let size = tillbox_layout::block_len(page.run.read, total);
+        let size = tillbox_layout::block_len(tillbox_layout::BLOCK, page.run.read, total);
         page = next_block(
             page,
             numbers,

@@ -4,7 +4,6 @@ ghost use lib.ListN.{length};
 use crate::breaking;
 use crate::page::Page;
 use crate::page::append;
-use crate::replaced::replaced_in;
 use codepage::Numbers;
 use convert::Pending;
 use convert::Run;
@@ -12,11 +11,10 @@ use tillbox_checks::kinds;
 use tillbox_checks::kinds::Kinds;
 use tillbox_storage::messages;
 
-// What a call wrote, at the front of a lent buffer, the run after it, and the characters that it replaced, all and by kind.
+// What a call wrote, at the front of a lent buffer, the run after it, and the characters that it replaced, by kind.
 struct Encoded {
     run: Run,
     written: usize,
-    replaced: u64,
     kinds: Kinds,
     failed: bool,
 }
@@ -86,18 +84,6 @@ fn encode(
     Encoded {
         run: after,
         written: outcome.written,
-        replaced: replaced_in(
-            run,
-            numbers,
-            classes,
-            singles,
-            pairs,
-            index,
-            blocks,
-            units,
-            last,
-            outcome.written,
-        ),
         kinds: kinds_of(
             run,
             after.flags,
@@ -148,7 +134,7 @@ fn put_piece(
     );
     let after = encoded.run;
     let met = encoded.kinds;
-    let p = page.with_run(after, encoded.replaced, met).with_units();
+    let p = page.with_run(after, met).with_units();
     if encoded.failed {
         return p.broken();
     }
@@ -235,7 +221,7 @@ fn end_line(
     );
     let after = encoded.run;
     let met = encoded.kinds;
-    let p = page.with_run(after, encoded.replaced, met);
+    let p = page.with_run(after, met);
     if encoded.failed {
         return p.broken();
     }
@@ -417,7 +403,7 @@ pub fn end_text(
     );
     let after = encoded.run;
     let met = encoded.kinds;
-    let p = page.with_run(after, encoded.replaced, met);
+    let p = page.with_run(after, met);
     if encoded.failed {
         return p.broken();
     }

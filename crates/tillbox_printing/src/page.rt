@@ -6,7 +6,7 @@ use tillbox_layout::sum;
 use tillbox_storage::files;
 
 // The run; the bytes of the line at hand, whether it has units, whether it is over the buffer and so written as it comes, and its
-// number; what was written, the printed lines, the lines that were not broken, and the characters replaced so far, all and by kind; and
+// number; what was written, the printed lines, the lines that were not broken, and the characters replaced so far, by kind; and
 // whether something failed, whose reason was said.
 pub struct Page {
     pub run: Run,
@@ -17,7 +17,6 @@ pub struct Page {
     pub written: u64,
     pub printed: u64,
     pub unbroken: u64,
-    pub replaced: u64,
     pub kinds: Kinds,
     pub failed: bool,
 }
@@ -33,7 +32,6 @@ pub fn first(run: Run) -> Page {
         written: 0,
         printed: 0,
         unbroken: 0,
-        replaced: 0,
         kinds: kinds::none(),
         failed: false,
     }
@@ -48,7 +46,7 @@ impl Page {
     }
 
     // A call that gave another run, and replaced some characters.
-    pub fn with_run(self, run: Run, replaced: u64, kinds: Kinds) -> Page {
+    pub fn with_run(self, run: Run, kinds: Kinds) -> Page {
         let met = self.kinds;
         Page {
             run,
@@ -59,7 +57,6 @@ impl Page {
             written: self.written,
             printed: self.printed,
             unbroken: self.unbroken,
-            replaced: sum(self.replaced, replaced),
             kinds: met.with(kinds),
             failed: self.failed,
         }

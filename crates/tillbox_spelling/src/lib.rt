@@ -66,7 +66,7 @@ fn spell_list(
     let mut state = state::first();
     let mut done = 0;
     while done < count {
-        let size = tillbox_layout::block_len(state.read, total);
+        let size = tillbox_layout::block_len(tillbox_layout::BLOCK, state.read, total);
         state = next_block(
             state,
             numbers,

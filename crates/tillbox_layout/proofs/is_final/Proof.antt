@@ -11,7 +11,7 @@ left-of-requires c κs = search needs
 
 returns : tie.Need-returns
 unfolding isFinal
-returns c = ap (λ (n : ℕ). leb n 512) (c .left-of .ensures)
+returns c = ap (λ (n : ℕ). leb n (c .before .args .size)) (c .left-of .ensures)
 
 pub is-final-spec : {M : Type 1} → statement M
 is-final-spec = tie.close (tie.spec left-of-requires returns)

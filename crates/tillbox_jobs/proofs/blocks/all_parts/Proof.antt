@@ -1,13 +1,13 @@
 use Prim.Native.Nat.{_-_}
 use native.Mathlib.Omega.{arith}
-use Rattle.tillbox_jobs.proofs.blocks.all_blocks.Statement.{statement}
-use Rattle.tillbox_jobs.proofs.blocks.all_blocks.Tie as tie
+use Rattle.tillbox_jobs.proofs.blocks.all_parts.Statement.{statement}
+use Rattle.tillbox_jobs.proofs.blocks.all_parts.Tie as tie
 
 abbrev Inv-loop : tie.InvT-loop
-Inv-loop job numbers classes singles pairs index blocks source target total input output checkpoint count run₀ met₀ replaced₀ clock₀ done₀ run met replaced clock done = Unit {0}
+Inv-loop job numbers classes singles pairs index blocks source target total input output checkpoint count run₀ met₀ clock₀ done₀ run met clock done = Unit {0}
 
 abbrev μ-loop : tie.MeasureT-loop
-μ-loop job numbers classes singles pairs index blocks source target total input output checkpoint count run₀ met₀ replaced₀ clock₀ done₀ run met replaced clock done = count - done
+μ-loop job numbers classes singles pairs index blocks source target total input output checkpoint count run₀ met₀ clock₀ done₀ run met clock done = count - done
 
 block-count-requires : tie.Need-block-count-requires Inv-loop μ-loop
 block-count-requires c κs = tt
@@ -21,17 +21,14 @@ seconds-requires c κs = tt
 loop-holds : tie.Need-loop-holds Inv-loop μ-loop
 loop-holds c = tt
 
-next-block-requires : tie.Need-next-block-requires Inv-loop μ-loop
-next-block-requires c κs = tt
+next-part-requires : tie.Need-next-part-requires Inv-loop μ-loop
+next-part-requires c κs = tt
 
 returns : tie.Need-returns Inv-loop μ-loop
 returns c = tt
 
 with-requires : tie.Need-with-requires Inv-loop μ-loop
 with-requires c κs = tt
-
-sum-requires : tie.Need-sum-requires Inv-loop μ-loop
-sum-requires c κs = tt
 
 with-totals-requires : tie.Need-with-totals-requires Inv-loop μ-loop
 with-totals-requires c κs = tt
@@ -63,8 +60,8 @@ none-requires-2 c κs = tt
 returns-4 : tie.Need-returns-4 Inv-loop μ-loop
 returns-4 c = tt
 
-pub all-blocks-spec : {M : Type 1} → statement M
-all-blocks-spec =
+pub all-parts-spec : {M : Type 1} → statement M
+all-parts-spec =
     tie.close
     (tie.spec
     Inv-loop
@@ -73,10 +70,9 @@ all-blocks-spec =
     none-requires
     seconds-requires
     loop-holds
-    next-block-requires
+    next-part-requires
     returns
     with-requires
-    sum-requires
     with-totals-requires
     returns-2
     add-done
