@@ -9,11 +9,20 @@
 #define ENCODE TILL_ENCODING
 
 static const char *const peer_names[PEERS] = {"till", "iconv", "ICU", "encoding_rs"};
-static table_set pages[2]; /* 932, 1252 */
+
+/* The pages: the table image, and the peers' names. encoding_rs has no page 850 and 437. */
+#define PAGES 8
+static const struct {
+    const char *image, *iconv, *icu;
+    int ers;
+} names[PAGES] = {{"cp932", "CP932", "ibm-943_P15A-2003", 1}, {"cp1252", "CP1252", "ibm-5348_P100-1997", 1},
+    {"cp936", "CP936", "ibm-1386_P100-2001", 1}, {"cp949", "CP949", "ibm-1363_P11B-1998", 1}, {"cp950", "CP950", "ibm-1373_P100-2002", 1},
+    {"cp874", "CP874", "ibm-874_P100-1995", 1}, {"cp850", "CP850", "ibm-850_P100-1995", 0}, {"cp437", "CP437", "ibm-437_P100-1995", 0}};
+static table_set pages[PAGES];
 
 /* The state that a converter keeps from block to block. */
 typedef struct {
-    int direction;
+    int direction, ers_has; /* ers_has: encoding_rs has the page */
     const table_set *tables;
     till_run run;
     iconv_t iconv;
@@ -123,23 +132,24 @@ static size_t feed_ers(state *s, const void *in, size_t n, int last, void *out, 
 typedef size_t feeder(state *, const void *, size_t, int, void *, size_t);
 static feeder *const feeders[PEERS] = {feed_till, feed_iconv, feed_icu, feed_ers};
 
-static void open_state(state *s, const table_set *t, int direction)
+static void open_state(state *s, int page, int direction)
 {
     UErrorCode error = U_ZERO_ERROR;
-    const char *name = t->page == 932 ? "CP932" : "CP1252";
+    const char *name = names[page].iconv;
     s->direction = direction;
-    s->tables = t;
+    s->tables = &pages[page];
+    s->ers_has = names[page].ers;
     s->strict = s->replaced = 0;
     s->iconv = direction == ENCODE ? iconv_open(name, "UTF-16LE") : iconv_open("UTF-16LE", name);
     if (s->iconv == (iconv_t)-1)
         die("iconv has no such page");
-    s->icu = ucnv_open(t->page == 932 ? "ibm-943_P15A-2003" : "ibm-5348_P100-1997", &error);
+    s->icu = ucnv_open(names[page].icu, &error);
     if (U_FAILURE(error))
         die("ICU has no such page");
     ucnv_setSubstChars(s->icu, "?", 1, &error);
     if (U_FAILURE(error))
         die("ICU does not write 3F");
-    s->ers = direction == ENCODE ? ers_encoder(t->page) : ers_decoder(t->page);
+    s->ers = direction == ENCODE ? ers_encoder(s->tables->page) : ers_decoder(s->tables->page);
 }
 
 static void reset_state(state *s, int peer)
@@ -171,23 +181,25 @@ static size_t pass(state *s, int peer, const uint8_t *text, size_t units, size_t
     return written;
 }
 
-#define TEXTS 7
+#define TEXTS 13
 
 static const struct {
     const char *name;
     int page, damaged, encode_only;
 } texts[TEXTS] = {{"ascii", 0, 0, 0}, {"japanese", 0, 0, 0}, {"latin", 1, 0, 0}, {"damaged", 0, 1, 0}, {"journal", 0, 0, 0},
-    {"kana", 0, 0, 0}, {"emoji", 0, 0, 1}};
+    {"kana", 0, 0, 0}, {"chinese", 2, 0, 0}, {"korean", 3, 0, 0}, {"taiwan", 4, 0, 0}, {"thai", 5, 0, 0}, {"western", 6, 0, 0}, {"dos", 7, 0, 0},
+    {"emoji", 0, 0, 1}};
 
 /* How many codes (decoding: single bytes and pairs) or units (encoding) a peer converts as the till converter does. */
-static void agreement(const table_set *t, int direction, int peer)
+static void agreement(int page, int direction, int peer)
 {
+    const table_set *t = &pages[page];
     state s;
     size_t same = 0, other = 0, only_till = 0, only_peer = 0;
     uint8_t in[2], out[2][64];
     size_t written[2];
     UErrorCode error = U_ZERO_ERROR;
-    open_state(&s, t, direction);
+    open_state(&s, page, direction);
     s.strict = 1;
     ucnv_setToUCallBack(s.icu, UCNV_TO_U_CALLBACK_STOP, NULL, NULL, NULL, &error);
     ucnv_setFromUCallBack(s.icu, UCNV_FROM_U_CALLBACK_STOP, NULL, NULL, NULL, &error);
@@ -242,7 +254,7 @@ typedef struct {
     double best[PEERS];
 } cell;
 
-#define CELLS 26
+#define CELLS 50
 #define ROUNDS 4
 
 /* What is asked for of till's speed over a peer's. Short ASCII is encoded at memory's speed by encoding_rs, which tests no tables. */
@@ -253,6 +265,11 @@ static double bound(const cell *c, int peer)
     if (!strcmp(c->name, "journal"))
         return 1.5;
     return !strcmp(c->name, "ascii") && c->s.direction == ENCODE && c->block == 512 && peer == 3 ? 1.0 : 1.3;
+}
+
+static int has(const cell *c, int peer)
+{
+    return peer < 3 || c->s.ers_has;
 }
 
 static size_t cell_pass(cell *c, int peer, int step)
@@ -274,8 +291,8 @@ static int open_cell(cell *c, const char *folder, int k, int direction, size_t b
     c->text = read_file(name, &c->size);
     c->out = malloc(4 * c->size + 1024);
     c->block = block;
-    open_state(&c->s, &pages[texts[k].page], direction);
-    for (int p = 0; p < PEERS; p++) {
+    open_state(&c->s, texts[k].page, direction);
+    for (int p = 0; p < PEERS && has(c, p); p++) {
         size_t written = cell_pass(c, p, 1);
         c->best[p] = 1e9;
         if ((p == 0 || !texts[k].damaged) && (written * wide != expected_size || memcmp(c->out, expected, expected_size))) {
@@ -292,14 +309,18 @@ int main(int argc, char **argv)
     if (argc != 4)
         die("use: bench TEXTS TABLES PASSES");
     int passes = atoi(argv[3]);
-    read_pages(argv[2], pages);
+    for (int page = 0; page < PAGES; page++) {
+        char image[4096];
+        snprintf(image, sizeof image, "%s/%s.tbl", argv[2], names[page].image);
+        pages[page] = read_image(image);
+    }
 
     printf("Codes (decoding) and units (encoding) one by one:\n\n");
     printf("| Page | Direction | Peer | Same | Other | Only till | Only peer |\n|---|---|---|---|---|---|---|\n");
     for (int page = 0; page < 2; page++)
         for (int direction = 0; direction < 2; direction++)
             for (int peer = 1; peer < PEERS; peer++)
-                agreement(&pages[page], direction, peer);
+                agreement(page, direction, peer);
 
     printf("\nMB/s of input; in parentheses till's speed over the peer's (`!`: below its bound):\n\n");
     printf("| Text | Direction | Block | till | iconv | ICU | encoding_rs |\n|---|---|---|---|---|---|---|\n");
@@ -313,7 +334,7 @@ int main(int argc, char **argv)
     for (int round = 0; round < ROUNDS; round++)
         for (int i = 0; i < CELLS; i++)
             for (int turn = 0; turn < (passes + ROUNDS - 1) / ROUNDS; turn++)
-                for (int p = 0; p < PEERS; p++) {
+                for (int p = 0; p < PEERS && has(&cells[i], p); p++) {
                     double from = now();
                     cell_pass(&cells[i], p, 0);
                     double took = now() - from;
@@ -324,6 +345,10 @@ int main(int argc, char **argv)
         const cell *c = &cells[i];
         printf("| %s | %s | %zu | %.0f |", c->name, c->s.direction == ENCODE ? "encode" : "decode", c->block, (double)c->size / c->best[0] / 1e6);
         for (int p = 1; p < PEERS; p++) {
+            if (!has(c, p)) {
+                printf(" |");
+                continue;
+            }
             double ratio = c->best[p] / c->best[0];
             int mark = ratio < bound(c, p);
             low += mark;

@@ -60,7 +60,8 @@ def main():
         with open("%s/%s.cut" % (folder, name), "w") as f:
             f.write("%d %d %d\n" % cut(units_of(name)))
     for name, page in (("ascii", "cp932"), ("japanese", "cp932"), ("latin", "cp1252"), ("damaged", "cp932"), ("journal", "cp932"),
-                       ("kana", "cp932"), ("emoji", "cp932")):
+                       ("kana", "cp932"), ("chinese", "cp936"), ("korean", "cp949"), ("taiwan", "cp950"), ("thai", "cp874"), ("western", "cp850"),
+                       ("dos", "cp437"), ("emoji", "cp932")):
         table = second.read_image_file(page + ".tbl", [os.path.join(HERE, "..", "tables")])
         if name != "emoji":
             with open("%s/%s.bytes" % (folder, name), "rb") as f:

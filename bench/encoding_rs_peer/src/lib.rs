@@ -1,11 +1,14 @@
 // C functions around encoding_rs's Decoder and Encoder, for the benchmark.
-use encoding_rs::{CoderResult, Decoder, Encoder, EncoderResult, Encoding, SHIFT_JIS, WINDOWS_1252};
+use encoding_rs::{CoderResult, Decoder, Encoder, EncoderResult, Encoding, BIG5, EUC_KR, GBK, SHIFT_JIS, WINDOWS_1252, WINDOWS_874};
 
 fn encoding(page: u16) -> &'static Encoding {
-    if page == 932 {
-        SHIFT_JIS
-    } else {
-        WINDOWS_1252
+    match page {
+        932 => SHIFT_JIS,
+        936 => GBK,
+        949 => EUC_KR,
+        950 => BIG5,
+        874 => WINDOWS_874,
+        _ => WINDOWS_1252,
     }
 }
 
