@@ -22,7 +22,7 @@ def rows(lines):
         row = ROW.match(line.strip())
         if row:
             ratios = [(float(r), low != "") for r, low in RATIO.findall(row.group(4))]
-            if len(ratios) == len(PEERS):
+            if ratios:  # a peer that has not the page is the last
                 yield "%s, %s, %s" % (row.group(1), row.group(2), format(int(row.group(3)), ",")), ratios
 
 
