@@ -22,13 +22,13 @@ static table_set pages[PAGES];
 
 /* The state that a converter keeps from block to block. */
 typedef struct {
-    int direction, ers_has; /* ers_has: encoding_rs has the page */
+    int direction;
     const table_set *tables;
     till_run run;
     iconv_t iconv;
     size_t unread; /* units that a peer left unread at a block's end: the next block begins with them */
     UConverter *icu;
-    void *ers;
+    void *ers; /* none where encoding_rs has not the page */
     int strict, replaced; /* strict: ICU stops where it would substitute; replaced: something was not converted */
 } state;
 
@@ -138,7 +138,6 @@ static void open_state(state *s, int page, int direction)
     const char *name = names[page].iconv;
     s->direction = direction;
     s->tables = &pages[page];
-    s->ers_has = names[page].ers;
     s->strict = s->replaced = 0;
     s->iconv = direction == ENCODE ? iconv_open(name, "UTF-16LE") : iconv_open("UTF-16LE", name);
     if (s->iconv == (iconv_t)-1)
@@ -149,7 +148,7 @@ static void open_state(state *s, int page, int direction)
     ucnv_setSubstChars(s->icu, "?", 1, &error);
     if (U_FAILURE(error))
         die("ICU does not write 3F");
-    s->ers = direction == ENCODE ? ers_encoder(s->tables->page) : ers_decoder(s->tables->page);
+    s->ers = !names[page].ers ? NULL : direction == ENCODE ? ers_encoder(s->tables->page) : ers_decoder(s->tables->page);
 }
 
 static void reset_state(state *s, int peer)
@@ -269,7 +268,7 @@ static double bound(const cell *c, int peer)
 
 static int has(const cell *c, int peer)
 {
-    return peer < 3 || c->s.ers_has;
+    return peer < 3 || c->s.ers;
 }
 
 static size_t cell_pass(cell *c, int peer, int step)
@@ -309,11 +308,8 @@ int main(int argc, char **argv)
     if (argc != 4)
         die("use: bench TEXTS TABLES PASSES");
     int passes = atoi(argv[3]);
-    for (int page = 0; page < PAGES; page++) {
-        char image[4096];
-        snprintf(image, sizeof image, "%s/%s.tbl", argv[2], names[page].image);
-        pages[page] = read_image(image);
-    }
+    for (int page = 0; page < PAGES; page++)
+        pages[page] = read_page(argv[2], names[page].image);
 
     printf("Codes (decoding) and units (encoding) one by one:\n\n");
     printf("| Page | Direction | Peer | Same | Other | Only till | Only peer |\n|---|---|---|---|---|---|---|\n");

@@ -13,15 +13,19 @@ static inline double now(void)
     return (double)t.tv_sec + (double)t.tv_nsec * 1e-9;
 }
 
-/* The pages of the texts, from the folder of the table images: 932, 1252. */
+/* A page from the folder of the table images, by its name. */
+static inline table_set read_page(const char *folder, const char *name)
+{
+    char path[4096];
+    snprintf(path, sizeof path, "%s/%s.tbl", folder, name);
+    return read_image(path);
+}
+
+/* The pages of most texts: 932, 1252. */
 static inline void read_pages(const char *folder, table_set pages[2])
 {
-    static const char *const names[2] = {"cp932.tbl", "cp1252.tbl"};
-    char path[4096];
-    for (int i = 0; i < 2; i++) {
-        snprintf(path, sizeof path, "%s/%s", folder, names[i]);
-        pages[i] = read_image(path);
-    }
+    pages[0] = read_page(folder, "cp932");
+    pages[1] = read_page(folder, "cp1252");
 }
 
 /* Ends the first `size` bytes of a text with a whole line, so that no code is cut at their end. */

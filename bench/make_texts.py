@@ -87,24 +87,24 @@ def emoji_line(r):
         shop, r.randrange(1000000), r.choice(JAPANESE), r.randrange(1, 20), r.randrange(10, 20000))
 
 
-# The pages that have no other text: goods and words of receipts. Chinese has no spaces between its words, the others have.
+# The pages that have no other text: what stands between words (Chinese has no spaces), and goods and words of receipts.
 OTHERS = {
-    'chinese': ('cp936', """小票 合计 现金 找零 谢谢惠顾 欢迎光临 商品 数量 单价 金额 会员 积分 牛奶 面包 绿茶 咖啡 啤酒 鸡蛋 苹果 香蕉 西红柿 酱油 食盐 白糖
+    'chinese': ('cp936', '', """小票 合计 现金 找零 谢谢惠顾 欢迎光临 商品 数量 单价 金额 会员 积分 牛奶 面包 绿茶 咖啡 啤酒 鸡蛋 苹果 香蕉 西红柿 酱油 食盐 白糖
 黄油 酸奶 冰淇淋 洗发水 电池 报纸 邮票 退货 折扣 收银员 北京市 上海市 有限公司 电话 地址 日期 时间 优惠券 余额"""),
-    'korean': ('cp949', """영수증 합계 현금 거스름돈 감사합니다 어서오세요 상품 수량 단가 금액 회원 포인트 우유 식빵 녹차 커피 맥주 달걀 사과 바나나 토마토 간장 소금
+    'korean': ('cp949', ' ', """영수증 합계 현금 거스름돈 감사합니다 어서오세요 상품 수량 단가 금액 회원 포인트 우유 식빵 녹차 커피 맥주 달걀 사과 바나나 토마토 간장 소금
 설탕 버터 요구르트 아이스크림 샴푸 건전지 신문 우표 반품 할인 담당자 서울특별시 부산광역시 주식회사 전화 주소 날짜 시간 쿠폰 잔액"""),
-    'taiwan': ('cp950', """發票 合計 現金 找零 謝謝惠顧 歡迎光臨 商品 數量 單價 金額 會員 點數 牛奶 麵包 綠茶 咖啡 啤酒 雞蛋 蘋果 香蕉 番茄 醬油 食鹽 白糖
+    'taiwan': ('cp950', '', """發票 合計 現金 找零 謝謝惠顧 歡迎光臨 商品 數量 單價 金額 會員 點數 牛奶 麵包 綠茶 咖啡 啤酒 雞蛋 蘋果 香蕉 番茄 醬油 食鹽 白糖
 奶油 優酪乳 冰淇淋 洗髮精 電池 報紙 郵票 退貨 折扣 收銀員 臺北市 高雄市 有限公司 電話 地址 日期 時間 優惠券 餘額"""),
-    'thai': ('cp874', """ใบเสร็จ รวม เงินสด เงินทอน ขอบคุณ ยินดีต้อนรับ สินค้า จำนวน ราคา สมาชิก คะแนน นม ขนมปัง ชาเขียว กาแฟ เบียร์ ไข่ แอปเปิล กล้วย มะเขือเทศ
+    'thai': ('cp874', ' ', """ใบเสร็จ รวม เงินสด เงินทอน ขอบคุณ ยินดีต้อนรับ สินค้า จำนวน ราคา สมาชิก คะแนน นม ขนมปัง ชาเขียว กาแฟ เบียร์ ไข่ แอปเปิล กล้วย มะเขือเทศ
 ซีอิ๊ว เกลือ น้ำตาล เนย โยเกิร์ต ไอศกรีม แชมพู ถ่านไฟฉาย หนังสือพิมพ์ แสตมป์ คืนสินค้า ส่วนลด พนักงาน กรุงเทพ เชียงใหม่ บริษัท โทรศัพท์ ที่อยู่ วันที่ เวลา"""),
-    'western': ('cp850', """quittung käse brötchen müsli kaffee größe rückgeld straße über für café crème pâté gâteau très déjà reçu número señor mañana teléfono
+    'western': ('cp850', ' ', """quittung käse brötchen müsli kaffee größe rückgeld straße über für café crème pâté gâteau très déjà reçu número señor mañana teléfono
 artículo açúcar pão maçã leite manhã não preço ændring smørrebrød øl rødvin grød åben lägg smör mjölk ägg fläsk öppet kött"""),
-    'dos': ('cp437', """receipt cash total change café crème brûlée señor niño año jalapeño naïve façade über müsli käse öl größe straße ångström £5 ½ ¼ 20°
+    'dos': ('cp437', ' ', """receipt cash total change café crème brûlée señor niño año jalapeño naïve façade über müsli käse öl größe straße ångström £5 ½ ¼ 20°
 subtotal coffee bread milk butter cheese apples bananas tomatoes sugar salt tea beer eggs soap battery paper stamps"""),
 }
 
 
-def other_line(words, between):
+def other_line(between, words):
     """The lines of such a text: words, and every fourth line an article with its number and price."""
     words = words.split()
 
@@ -165,8 +165,7 @@ def main():
     for name, line, page in (('ascii', ascii_line, 'cp932'), ('japanese', japanese_line, 'cp932'), ('latin', latin_line, 'cp1252'),
                              ('journal', journal_line, 'cp932'), ('kana', kana_line, 'cp932'), ('figures', figures_line, 'cp932'),
                              ('notes', notes_line, 'cp932'),
-                             *((name, other_line(words, '' if name in ('chinese', 'taiwan') else ' '), page)
-                               for name, (page, words) in OTHERS.items())):
+                             *((name, other_line(between, words), page) for name, (page, between, words) in OTHERS.items())):
         text = text_of(line, random.Random('till ' + name), page)
         write(name + '.bytes', text.encode(page))
         write(name + '.units', text.encode('utf-16-le'))
