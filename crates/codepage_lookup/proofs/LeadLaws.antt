@@ -6,7 +6,7 @@ use Prim.Native.Nat.{ℕ, zero, suc, _+_, _*_, _/_, _%_, _^_, _-_, _<_, _≤_}
 use native.Mathlib.Nat.{pow-suc, mul-assoc, mul-comm, add-mul, mod-eq-of-lt, mod-lt}
 use native.Mathlib.Omega.{arith}
 use lib.Bits.{bitAnd, bitOr, and-mask, and-block}
-use lib.Count.{ones, ones-step, ones-cat, ones-le, leadingZeros, trailingZeros, under, leading-length, trailing-le}
+use lib.Count.{ones, ones-step, ones-cat, ones-le, leadingZeros, trailingZeros, under, leading-length, trailing-le, trailing-of-zero}
 use lib.Dec.{ltb, eqb}
 use lib.Pow.{pow-pos, pow-mono, pow-add, shl-lt, split as pow-split, low as pow-low}
 use lib.ListN.{length, List·getD-eq-default}
@@ -253,6 +253,24 @@ run-block cs from fits run k b e = by-zero (eqb (leadBits cs from 64) 0) refl
         side-by-side cs from (trailingZeros 64 (leadBits cs from 64)) (size .0) (ones (leadBits cs from 64)) fits (all-ones cs from 64 fits) (λ j l o. none-below cs from 64 j l)
         (λ j l o. none-above cs from 64 (size .0) j (size .2) l o) (omega (arith, size .1)) (omega (arith, size .1, digits)) k b e
 
+-- the ones of a word that stand side by side end within it
+pub run-within : (word : ℕ) → sideBySide word ≡ true → trailingZeros 64 word + ones word ≤ 64
+unfolding sideBySide
+run-within word run = by-zero (eqb word 0) refl
+  where
+    by-zero : (t : Bool) → eqb word 0 ≡ t → trailingZeros 64 word + ones word ≤ 64
+    by-zero true q =
+        let none : word ≡ 0 = eqb-true word 0 q in
+        subst (λ (n : ℕ). trailingZeros 64 n + ones n ≤ 64) (sym none) (omega (arith, trailing-of-zero 64, ones-le 0 0 (omega arith)))
+    by-zero false q =
+        let sum : ℕ = leadingZeros 64 word + ones word + trailingZeros 64 word in
+        let digits : sum ≡ 64 = eqb-true sum 64 (or-else (eqb word 0) (eqb sum 64) q run) in
+        omega (arith, digits)
+
+-- the block of a lead as its distance to the byte `low`, less that from there to `high` where its bit 6 is set
+abbrev pub Distance : (cs : List ℕ) (lead low high : ℕ) → Type 0
+Distance cs lead low high = (low ≤ lead) × (low ≤ high) × ((high - low) * (lead / 64 % 2) ≤ lead - low) × (lead - low - (high - low) * (lead / 64 % 2) ≡ leadsBelow cs lead)
+
 -- the block of a lead as a distance, in the low word and in the high one
 module _ (cs : List ℕ) (lead : ℕ) (size : length cs ≡ 256) (e : isLead (entryAt cs lead) ≡ true) where
   low-distance : NoLowLead cs → lead < 0xC0 → sideBySide (leadBits cs 0x80 64) ≡ true → leadsBelow cs lead + (0x80 + trailingZeros 64 (leadBits cs 0x80 64)) ≡ lead
@@ -286,6 +304,28 @@ module _ (cs : List ℕ) (lead : ℕ) (size : length cs ≡ 256) (e : isLead (en
     high-in-run h =
         subst (λ (x : Leads). sideBySide (x .high) ≡ true → (0xC0 + trailingZeros 64 (x .high) ≤ lead) × (leadsBelow cs lead + (0xC0 + trailingZeros 64 (x .high)) ≡ ones (x .low) + lead))
         (sym (at .0)) (high-distance (at .1) h)
+
+    -- the same of both words: a lead of C0 to FF has bit 6
+    pub in-runs : sideBySide (l .low) ≡ true → sideBySide (l .high) ≡ true → (low high : ℕ) → low ≡ 0x80 + trailingZeros 64 (l .low) → high + ones (l .low) ≡ 0xC0 + trailingZeros 64 (l .high)
+        → Distance cs lead low high
+    in-runs run₀ run₁ low high f g = by-word (ltb lead 0xC0) refl
+      where
+        ordered : low ≤ high
+        ordered = omega (arith, f, g, run-within (l .low) run₀)
+
+        by-word : (t : Bool) → ltb lead 0xC0 ≡ t → Distance cs lead low high
+        by-word true q =
+            let below = ltb-true lead 0xC0 q in
+            let from : 0x80 ≤ lead = lead-high cs lead (at .1) e in
+            let bit : lead / 64 % 2 ≡ 0 = omega arith in
+            let block = low-in-run below run₀ in
+            rw bit (omega (arith, f, block), ordered, omega arith, omega (arith, f, block))
+        by-word false q =
+            let from = ltb-false lead 0xC0 q in
+            let in-table : lead < 256 = subst (λ (n : ℕ). lead < n) size (lead-inside cs lead e) in
+            let bit : lead / 64 % 2 ≡ 1 = omega arith in
+            let block = high-in-run from run₁ in
+            rw bit (omega (arith, f, run-within (l .low) run₀), ordered, omega (arith, f, g, block .0, run-within (l .low) run₀), omega (arith, f, g, block .1, run-within (l .low) run₀))
 
 -- ---- eight classes as one word
 -- bit 1 of a known class tells a lead

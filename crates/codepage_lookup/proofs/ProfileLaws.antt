@@ -9,7 +9,8 @@ use lib.Bits.{bitAnd, bitXor, and-le-l, and-le-r, xor-add-and}
 use lib.Dec.{leb, ltb, eqb}
 use lib.ListN.{length, List·getD-eq-default}
 use borrow.Author.Tests.{le-leb, lt-leb, leb-true, leb-false, ltb-true, ltb-false, eq-eqb, ne-eqb, eqb-true}
-use Rattle.codepage.specs.CodePage.{pick, entryAt, isSingle, isLead, isTrail, leadsBelow}
+use Rattle.codepage.specs.CodePage.{pick, entryAt, isKnown, isSingle, isLead, isTrail, leadsBelow}
+use Rattle.codepage.specs.Marks.{markOf}
 use Rattle.codepage_lookup.specs.Profile.{SettledAs, unitEntry, ClearPage, NoCodes}
 use Rattle.codepage.specs.Reading.{lookup, byteAlone, byteJoins, bytePair, isHigh, isLow, isSurrogate, unitCode, unitAlone, decoder, encoder, settled}
 use Rattle.codepage.specs.declared.Kind.{Kind}
@@ -36,6 +37,38 @@ single-right = refl
 pub single-class : (class : ℕ) → class < 256 → bitXor (bitAnd class 0xFB) 1 ≡ 0 → isSingle class ≡ true
 unfolding singleRight
 single-class class c e = or-else (not (eqb (bitXor (bitAnd class 0xFB) 1) 0)) (isSingle class) (ap not (eq-eqb _ _ e)) (all-below singleRight 256 single-right class c)
+
+-- bit 1 of a known class tells a lead, bit 0 a single
+leadRight : ℕ → Bool
+leadRight class = not (isKnown class) || eqb (markOf (eqb (bitAnd class 2) 2)) (markOf (isLead class))
+
+lead-right : allBelow leadRight 256 ≡ true
+unfolding leadRight isKnown isLead
+lead-right = refl
+
+oddRight : ℕ → Bool
+oddRight class = not (isKnown class) || (not (eqb (bitAnd class 1) 1) || isSingle class)
+
+odd-right : allBelow oddRight 256 ≡ true
+unfolding oddRight isKnown isSingle
+odd-right = refl
+
+same-mark : (s t : Bool) → markOf s ≡ markOf t → s ≡ t
+same-mark true true e = refl
+same-mark true false e = absurd (omega (arith, e))
+same-mark false true e = absurd (omega (arith, e))
+same-mark false false e = refl
+
+pub known-lead-bit : (class : ℕ) → class < 256 → isKnown class ≡ true → eqb (bitAnd class 2) 2 ≡ isLead class
+unfolding leadRight
+known-lead-bit class h k =
+    same-mark _ _ (eqb-true _ _ (or-else (not (isKnown class)) (eqb (markOf (eqb (bitAnd class 2) 2)) (markOf (isLead class))) (ap not k) (all-below leadRight 256 lead-right class h)))
+
+pub known-single-bit : (class : ℕ) → class < 256 → isKnown class ≡ true → bitAnd class 1 ≡ 1 → isSingle class ≡ true
+unfolding oddRight
+known-single-bit class h k e =
+    let rest = or-else (not (isKnown class)) (not (eqb (bitAnd class 1) 1) || isSingle class) (ap not k) (all-below oddRight 256 odd-right class h) in
+    or-else (not (eqb (bitAnd class 1) 1)) (isSingle class) (ap not (eq-eqb _ _ e)) rest
 
 -- a single is no lead
 pub single-no-lead : (class : ℕ) → isSingle class ≡ true → isLead class ≡ false

@@ -8,7 +8,7 @@ ghost use mathlib.Core.Bool.{true};
 ghost use mathlib.Core.List.{List};
 ghost use Prim.Native.Nat.{ℕ, _+_, _*_, _≤_};
 ghost use lib.ListN.{length};
-ghost use Rattle.codepage.specs.CodePage.{entryAt, isLead, leadsBelow};
+ghost use Rattle.codepage.specs.CodePage.{entryAt, isKnown, isLead, leadsBelow};
 ghost use Rattle.codepage.specs.Reading.{lookup, byteAlone, bytePair, isHigh, isLow, isSurrogate, unitAlone, decoder, encoder, settled};
 ghost use Rattle.codepage_lookup.specs.Profile.{LeadsAt, SettledAs, unitEntry};
 use codepage::Kind;
@@ -33,6 +33,23 @@ pub fn is_lead(classes: &[u8], byte: u8) -> bool
 {
     let at = byte as usize;
     codepage::is_lead_class(classes[at])
+}
+
+// The class of a byte.
+pub fn class_of(classes: &[u8], byte: u8) -> u8
+    requires { ⌜ length (now classes) ≡ 256 ⌝ }
+    ensures { λ r. ⌜ r ≡ entryAt (now (classes .entry)) byte ⌝ }
+{
+    let at = byte as usize;
+    classes[at]
+}
+
+// Whether a known class is that of a lead byte: its bit 1 tells.
+pub fn known_lead(class: u8) -> bool
+    requires { ⌜ isKnown class ≡ true ⌝ }
+    ensures { λ r. ⌜ r ≡ isLead class ⌝ }
+{
+    class & 2 == 2
 }
 
 // A byte alone.
@@ -93,18 +110,46 @@ pub fn single_unit(classes: &[u8], singles: &[u16], byte: u8) -> u16
     0xFFFF
 }
 
-// The character of a lead byte and the byte after it, or FFFF where they have none.
+// The same of a byte whose class is known: its bit 0 tells a single byte.
+pub fn known_single_unit(class: u8, singles: &[u16], byte: u8) -> u16
+    requires { ⌜ (length (now singles) ≡ 256) × (isKnown class ≡ true) ⌝ }
+    ensures { λ r. ⌜ ((r ≡ 0xFFFF → ⊥) → (classes : List ℕ) → class ≡ entryAt classes byte → byteAlone classes (now (singles .entry)) byte ≡ Lookup.Found r) ⌝ }
+{
+    let at = byte as usize;
+    if class & 1 == 1 {
+        return singles[at];
+    }
+    0xFFFF
+}
+
+// The character of a lead byte and the byte after it, or FFFF where they have none. `class` is that of the byte.
+pub fn known_pair_unit(
+    class: u8,
+    classes: &[u8],
+    pairs: &[u16],
+    leads: Leads,
+    lead: u8,
+    byte: u8,
+) -> u16
+    requires { ⌜ (length (now classes) ≡ 256) × (isLead (entryAt (now classes) lead) ≡ true) × (256 * leadsBelow (now classes) lead + 256 ≤ length (now pairs)) ⌝ }
+    requires { ⌜ LeadsAt (now classes) leads × (class ≡ entryAt (now classes) byte) ⌝ }
+    ensures { λ r. ⌜ ((r ≡ 0xFFFF → ⊥) → bytePair (now (classes .entry)) (now (pairs .entry)) lead byte ≡ Lookup.Found r) ⌝ }
+{
+    if codepage::is_trail_class(class) {
+        let block = profile::block_of(classes, leads, lead);
+        return pair_entry(pairs, block, byte);
+    }
+    0xFFFF
+}
+
+// The same, with the class looked up.
 pub fn pair_unit(classes: &[u8], pairs: &[u16], leads: Leads, lead: u8, byte: u8) -> u16
     requires { ⌜ (length (now classes) ≡ 256) × (isLead (entryAt (now classes) lead) ≡ true) × (256 * leadsBelow (now classes) lead + 256 ≤ length (now pairs)) ⌝ }
     requires { ⌜ LeadsAt (now classes) leads ⌝ }
     ensures { λ r. ⌜ ((r ≡ 0xFFFF → ⊥) → bytePair (now (classes .entry)) (now (pairs .entry)) lead byte ≡ Lookup.Found r) ⌝ }
 {
-    let at = byte as usize;
-    if codepage::is_trail_class(classes[at]) {
-        let block = profile::block_of(classes, leads, lead);
-        return pair_entry(pairs, block, byte);
-    }
-    0xFFFF
+    let class = class_of(classes, byte);
+    known_pair_unit(class, classes, pairs, leads, lead, byte)
 }
 
 // Whether a unit is a high surrogate.

@@ -256,24 +256,25 @@ fn are_runs(leads: Leads) -> bool
     is_run(leads.high)
 }
 
-// How far a byte stands behind the first one of a word, whose lowest bit is that of the byte `from`.
-fn distance(lead: u8, from: usize, word: u64) -> usize
-    requires { ⌜ from + trailingZeros 64 word ≤ lead ⌝ }
-    ensures { λ r. ⌜ r + (from + trailingZeros 64 word) ≡ lead ⌝ }
+// The byte of the first one of a word, whose lowest bit is that of the byte `from`; 64 bytes on where it has none.
+fn first_from(from: usize, word: u64) -> usize
+    requires { ⌜ from ≤ 0xC0 ⌝ }
+    ensures { λ r. ⌜ r ≡ from + trailingZeros 64 word ⌝ }
 {
-    (lead as usize) - from - (u64::trailing_zeros(word) as usize)
+    from + (u64::trailing_zeros(word) as usize)
 }
 
-// The block of a lead byte where the ones of both words stand side by side: a distance, past the ones of the low word.
+// The block of a lead byte where the ones of both words stand side by side: its distance to the first lead, less the gap between the
+// words for a lead from C0 on. Bit 6 of a lead tells its word, so that nothing is asked.
 fn block_in_runs(classes: &[u8], leads: Leads, lead: u8) -> usize
     requires { ⌜ (length (now classes) ≡ 256) × (isLead (entryAt (now classes) lead) ≡ true) × LeadsAt (now classes) leads ⌝ }
     requires { ⌜ (sideBySide (leads .low) ≡ true) × (sideBySide (leads .high) ≡ true) ⌝ }
     ensures { λ r. ⌜ r ≡ leadsBelow (now (classes .entry)) lead ⌝ }
 {
-    if lead < 0xC0 {
-        return distance(lead, 0x80, leads.low);
-    }
-    ones_of(leads.low) + distance(lead, 0xC0, leads.high)
+    let low = first_from(0x80, leads.low);
+    let high = first_from(0xC0, leads.high) - ones_of(leads.low);
+    let byte = lead as usize;
+    byte - low - (high - low) * (byte / 64 % 2)
 }
 
 // The block of a lead byte, in loops: the compiler asks once whether there are gaps. `classes` serve the contract alone.

@@ -7,7 +7,7 @@ ghost use Prim.Native.Nat.{ℕ, _+_, _-_, _*_, _%_, _≤_, _<_};
 ghost use lib.ListN.{length};
 ghost use Rattle.codepage.specs.CodePage.{entryAt, isLead, leadsBelow};
 ghost use Rattle.codepage.specs.Reading.{decoder};
-ghost use Rattle.codepage_lookup.specs.Profile.{LeadsAt};
+ghost use Rattle.codepage_lookup.specs.Profile.{LeadsAt, KnownClasses};
 ghost use Rattle.codepage_lookup.specs.Words.{WordAt};
 ghost use Rattle.engine.specs.Steps.{DecodeSizes};
 ghost use Rattle.engine_fastpath.specs.Runs.{Ran};
@@ -114,7 +114,7 @@ fn run_of_pairs(
     n: usize,
     out: &mut [u16],
 ) -> usize
-    requires { ⌜ (length (now classes) ≡ 256) × LeadsAt (now classes) leads ⌝ }
+    requires { ⌜ (length (now classes) ≡ 256) × LeadsAt (now classes) leads × KnownClasses (now classes) ⌝ }
     requires { ⌜ ((lead : ℕ) → isLead (entryAt (now classes) lead) ≡ true → 256 * leadsBelow (now classes) lead + 256 ≤ length (now pairs)) ⌝ }
     requires { ⌜ (from + n ≤ length (now piece)) × (at + n ≤ length (now out)) ⌝ }
     ensures { λ r. ⌜ (2 * r ≤ n) × ((singles : List ℕ) → Ran (decoder (now (classes .entry)) singles (now (pairs .entry))) (now (piece .entry)) (now (out .entry)) from at (now (out .exit)) (from + 2 * r) (at + r)) ⌝ }
@@ -123,7 +123,8 @@ fn run_of_pairs(
     let mut k = 0;
     while k < most {
         let lead = piece[from + 2 * k];
-        if !codepage_lookup::is_lead(classes, lead) {
+        let class = codepage_lookup::class_of(classes, lead);
+        if !codepage_lookup::known_lead(class) {
             return k;
         }
         let unit = codepage_lookup::pair_unit(classes, pairs, leads, lead, piece[from + 2 * k + 1]);

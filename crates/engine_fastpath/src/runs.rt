@@ -163,7 +163,8 @@ pub fn run_of_singles(
     k + run_of_few(singles, piece, from + k, at + k, n - k, out)
 }
 
-// Codes of one or two bytes.
+// Codes of one or two bytes. The classes of the two bytes behind a code's first are read before it is told what the code is: where
+// that was guessed wrongly, the next code's class is there. Of the last two bytes none is taken.
 pub fn run_of_codes(
     leads: Leads,
     classes: &[u8],
@@ -179,38 +180,50 @@ pub fn run_of_codes(
     requires { ⌜ (from ≤ length (now piece)) × (at ≤ length (now out)) ⌝ }
     ensures { λ r. ⌜ Ran (decoder (now (classes .entry)) (now (singles .entry)) (now (pairs .entry))) (now (piece .entry)) (now (out .entry)) from at (now (out .exit)) (r .read) (r .written) ⌝ }
 {
-    let n = smaller((piece.len() - from) / 2, out.len() - at);
+    let end = from + smaller(piece.len() - from, out.len() - at);
     let mut i = from;
-    let mut k = 0;
-    while k < n {
+    let mut w = at;
+    if end - i < 3 {
+        return Place {
+            read: i,
+            written: w,
+        };
+    }
+    let mut class = codepage_lookup::class_of(classes, piece[i]);
+    while 3 <= end - i {
         let byte = piece[i];
-        if codepage_lookup::is_lead(classes, byte) {
-            let unit = codepage_lookup::pair_unit(classes, pairs, leads, byte, piece[i + 1]);
+        let second = piece[i + 1];
+        let next = codepage_lookup::class_of(classes, second);
+        let after = codepage_lookup::class_of(classes, piece[i + 2]);
+        if codepage_lookup::known_lead(class) {
+            let unit = codepage_lookup::known_pair_unit(next, classes, pairs, leads, byte, second);
             if unit == 0xFFFF {
                 return Place {
                     read: i,
-                    written: at + k,
+                    written: w,
                 };
             }
-            out[at + k] = unit;
+            out[w] = unit;
             i += 2;
-            k += 1;
+            w += 1;
+            class = after;
         } else {
-            let unit = codepage_lookup::single_unit(classes, singles, byte);
+            let unit = codepage_lookup::known_single_unit(class, singles, byte);
             if unit == 0xFFFF {
                 return Place {
                     read: i,
-                    written: at + k,
+                    written: w,
                 };
             }
-            out[at + k] = unit;
+            out[w] = unit;
             i += 1;
-            k += 1;
+            w += 1;
+            class = next;
         }
     }
     Place {
         read: i,
-        written: at + k,
+        written: w,
     }
 }
 

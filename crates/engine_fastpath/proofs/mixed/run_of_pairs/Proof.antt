@@ -1,19 +1,16 @@
 use borrow.Author.Tests.{not-false}
 use Rattle.engine_fastpath.proofs.RunLaws.{ran-start, ran-at, ran-pair}
 use Rattle.engine_fastpath.specs.Runs.{Ran}
+use Rattle.codepage.specs.CodePage.{isKnown, isLead}
 use Rattle.codepage.specs.Reading.{decoder}
-use borrow.Author.Needs.{needs}
 use mathlib.Core.List.{List}
 use mathlib.Core.Path.{_≡_, refl, sym, ap, _∙_}
 use Prim.Native.Nat.{ℕ, _+_, _-_, _*_, _/_, _%_, _<_, _≤_}
 use lib.ListN.{length, length-set}
 use native.Mathlib.Omega.{arith}
+use borrow.Author.Needs.{needs}
 use Rattle.engine_fastpath.proofs.mixed.run_of_pairs.Statement.{statement}
 use Rattle.engine_fastpath.proofs.mixed.run_of_pairs.Tie as tie
-use Rattle.engine_fastpath.proofs.mixed.run_of_pairs.Reads as reads
-use Rattle.engine_fastpath.proofs.mixed.run_of_pairs.Lts as lts
-use Rattle.codepage_lookup.proofs.is_lead.Reads as is-lead-reads
-use Rattle.codepage_lookup.proofs.pair_unit.Reads as pair-unit-reads
 
 abbrev Inv-loop : tie.InvT-loop
 Inv-loop leads classes pairs piece from at n out₀ most k₀ out k =
@@ -22,128 +19,83 @@ Inv-loop leads classes pairs piece from at n out₀ most k₀ out k =
 abbrev μ-loop : tie.MeasureT-loop
 μ-loop leads classes pairs piece from at n out₀ most k₀ out k = most - k
 
--- src/mixed.rt:136:5
 loop-holds : tie.Need-loop-holds Inv-loop μ-loop
 loop-holds c = (omega arith, refl, λ singles. ran-at (ran-start (omega arith) (omega arith)) (omega arith) (omega arith))
 
--- src/mixed.rt:137:33
 mul-lead : tie.Need-mul-lead Inv-loop μ-loop
 mul-lead c = omega arith
 
--- src/mixed.rt:137:26
 add-lead : tie.Need-add-lead Inv-loop μ-loop
 add-lead c = omega arith
 
--- src/mixed.rt:137:20
 shared-slice-read-lead : tie.Need-shared-slice-read-lead Inv-loop μ-loop
 shared-slice-read-lead c = omega arith
 
--- src/mixed.rt:138:13
-is-lead-requires : tie.Need-is-lead-requires Inv-loop μ-loop
-is-lead-requires c κs = c .before .before .before .before .before .before .before .pre .0 .0
+class-of-requires : tie.Need-class-of-requires Inv-loop μ-loop
+class-of-requires c κs = c .before .before .before .before .before .before .before .pre .0 .0
 
--- src/mixed.rt:139:13
+known-lead-requires : tie.Need-known-lead-requires Inv-loop μ-loop
+known-lead-requires c κs = ap isKnown (c .class-of .ensures) ∙ c .before .before .before .before .before .before .before .before .pre .0 .2 _ (omega (arith, c .before .before .before .before .before .shared-slice-known3 .given (c .before .before .before .before .before .before .before .before .args .from + 2 * c .before .before .before .loop .k)))
+
 same-length : tie.Need-same-length Inv-loop μ-loop
-same-length c = c .before .before .before .before .loop .inv .1
+same-length c = c .before .before .before .before .before .loop .inv .1
 
--- src/mixed.rt:139:13
 returns : tie.Need-returns Inv-loop μ-loop
-returns c = (omega arith, c .before .before .before .before .loop .inv .2)
+returns c = (omega arith, c .before .before .before .before .before .loop .inv .2)
 
--- src/mixed.rt:141:80
 mul-pair-unit : tie.Need-mul-pair-unit Inv-loop μ-loop
 mul-pair-unit c = omega arith
 
--- src/mixed.rt:141:73
 add-pair-unit : tie.Need-add-pair-unit Inv-loop μ-loop
 add-pair-unit c = omega arith
 
--- src/mixed.rt:141:73
 add-pair-unit-2 : tie.Need-add-pair-unit-2 Inv-loop μ-loop
 add-pair-unit-2 c = omega arith
 
--- src/mixed.rt:141:67
 shared-slice-read-pair-unit : tie.Need-shared-slice-read-pair-unit Inv-loop μ-loop
 shared-slice-read-pair-unit c = omega arith
 
--- src/mixed.rt:141:13
 pair-unit-requires : tie.Need-pair-unit-requires Inv-loop μ-loop
 pair-unit-requires c κs =
-    let pre = c .before .before .before .before .before .before .before .before .before .before .pre in
-    let lead = sym (c .before .before .is-lead .ensures) ∙ not-false _ (c .before .if1 .left) in
-    ((pre .0 .0, lead, pre .1 .0 _ lead), pre .0 .1)
+    let lead = ap isLead (sym (c .before .before .before .class-of .ensures)) ∙ sym (c .before .before .known-lead .ensures) ∙ not-false _ (c .before .if1 .left) in
+    ((c .before .before .before .before .before .before .before .before .before .before .before .pre .0 .0, lead, c .before .before .before .before .before .before .before .before .before .before .before .pre .1 .0 _ lead), c .before .before .before .before .before .before .before .before .before .before .before .pre .0 .1)
 
--- src/mixed.rt:143:13
 same-length-2 : tie.Need-same-length-2 Inv-loop μ-loop
-same-length-2 c = c .before .before .before .before .before .before .before .loop .inv .1
+same-length-2 c = c .before .before .before .before .before .before .before .before .loop .inv .1
 
--- src/mixed.rt:143:13
 returns-2 : tie.Need-returns-2 Inv-loop μ-loop
-returns-2 c = (omega arith, c .before .before .before .before .before .before .before .loop .inv .2)
+returns-2 c = (omega arith, c .before .before .before .before .before .before .before .before .loop .inv .2)
 
--- src/mixed.rt:145:13
 add-out : tie.Need-add-out Inv-loop μ-loop
 add-out c = omega arith
 
--- src/mixed.rt:145:9
 mul-out : tie.Need-mul-out Inv-loop μ-loop
 mul-out c = omega arith
 
--- src/mixed.rt:145:9
 slice-write-out : tie.Need-slice-write-out Inv-loop μ-loop
 slice-write-out c = omega arith
 
--- src/mixed.rt:146:9
 add-k : tie.Need-add-k Inv-loop μ-loop
 add-k c = omega arith
 
--- src/mixed.rt:136:5
 loop-less : tie.Need-loop-less Inv-loop μ-loop
 loop-less c = omega arith
 
--- src/mixed.rt:136:5
 loop-again : tie.Need-loop-again Inv-loop μ-loop
 loop-again c =
-    let turn = c .before .before .before .before .before .before .before .loop in
-    let lead = sym (c .before .before .before .before .is-lead .ensures) ∙ not-false _ (c .before .before .before .if1 .left) in (
+    let lead = ap isLead (sym (c .before .before .before .before .before .class-of .ensures)) ∙ sym (c .before .before .before .before .known-lead .ensures) ∙ not-false _ (c .before .before .before .if1 .left) in (
       omega arith,
-      simp length-set (turn .inv .1),
-      λ singles. ran-at (ran-pair _ _ _ (turn .inv .2 singles) (c .before .pair-unit .result) (omega arith) (omega arith) lead (c .before .pair-unit .ensures (c .if2 .left))) (omega arith) (omega arith),
+      simp length-set (c .before .before .before .before .before .before .before .before .loop .inv .1),
+      λ singles. ran-at (ran-pair _ _ _ (c .before .before .before .before .before .before .before .before .loop .inv .2 singles) (c .before .pair-unit .result) (omega arith) (omega arith) lead (c .before .pair-unit .ensures (c .if2 .left))) (omega arith) (omega arith),
     )
 
--- src/mixed.rt:119:1
 same-length-3 : tie.Need-same-length-3 Inv-loop μ-loop
 same-length-3 c = c .before .loop .inv .1
 
--- src/mixed.rt:119:1
 returns-3 : tie.Need-returns-3 Inv-loop μ-loop
 returns-3 c = (omega arith, c .before .loop .inv .2)
 
 pub run-of-pairs-spec : {M : Type 1} → statement M
 run-of-pairs-spec =
     tie.close
-    (tie.spec
-    Inv-loop
-    μ-loop
-    loop-holds
-    mul-lead
-    add-lead
-    shared-slice-read-lead
-    is-lead-requires
-    same-length
-    returns
-    mul-pair-unit
-    add-pair-unit
-    add-pair-unit-2
-    shared-slice-read-pair-unit
-    pair-unit-requires
-    same-length-2
-    returns-2
-    add-out
-    mul-out
-    slice-write-out
-    add-k
-    loop-less
-    loop-again
-    same-length-3
-    returns-3)
+    (tie.spec Inv-loop μ-loop loop-holds mul-lead add-lead shared-slice-read-lead class-of-requires known-lead-requires same-length returns mul-pair-unit add-pair-unit add-pair-unit-2 shared-slice-read-pair-unit pair-unit-requires same-length-2 returns-2 add-out mul-out slice-write-out add-k loop-less loop-again same-length-3 returns-3)

@@ -15,7 +15,7 @@ use Rattle.engine_fastpath.proofs.mixed.run_of_plain.Reads as run-of-pl
 run-of-pairs-requires : tie.Need-run-of-pairs-requires
 run-of-pairs-requires c κs =
     let pre = c .before .before .before .before .before .before .pre in
-    ((pre .0 .0 .all-classes, pre .1 .0), ((λ lead e. pair-room _ _ _ _ (pre .0 .0) e), pre .1 .1))
+    ((pre .0 .0 .all-classes, pre .1 .0, pre .0 .0 .known), ((λ lead e. pair-room _ _ _ _ (pre .0 .0) e), pre .1 .1))
 
 -- src/mixed.rt:194:20
 mul-i : tie.Need-mul-i

@@ -1,219 +1,156 @@
 use Rattle.engine_fastpath.proofs.RunLaws.{ran-start, ran-at, ran-single, ran-pair}
 use Rattle.engine.proofs.DecodeLaws.{pair-room}
 use Rattle.engine_fastpath.specs.Runs.{Ran}
+use Rattle.codepage.specs.CodePage.{entryAt, isKnown, isLead}
 use Rattle.codepage.specs.Reading.{decoder}
 use lib.ListN.{length, length-set}
 use native.Mathlib.Omega.{arith}
 use Prim.Native.Nat.{ℕ, _+_, _*_, _<_, _≤_, _-_}
-use mathlib.Core.Path.{_≡_, refl, sym, _∙_}
+use mathlib.Core.Path.{_≡_, refl, sym, ap, _∙_}
 use borrow.Author.Needs.{needs}
 use Rattle.engine_fastpath.proofs.runs.run_of_codes.Statement.{statement}
 use Rattle.engine_fastpath.proofs.runs.run_of_codes.Tie as tie
-use Rattle.engine_fastpath.proofs.runs.run_of_codes.Reads as reads
-use Rattle.engine_fastpath.proofs.runs.run_of_codes.Lts as lts
-use Rattle.codepage_lookup.proofs.is_lead.Reads as is-lead-reads
-use Rattle.codepage_lookup.proofs.pair_unit.Reads as pair-unit-reads
-use Rattle.codepage_lookup.proofs.single_unit.Reads as single-unit-reads
-use Rattle.engine_fastpath.proofs.runs.smaller.Reads as smaller-reads
 
 abbrev Inv-loop : tie.InvT-loop
-Inv-loop leads classes singles pairs piece from at out₀ n i₀ k₀ out i k = (k ≤ n) × (length out ≡ length out₀) × (i + 2 * (n - k) ≤ length piece) × Ran (decoder classes singles pairs) piece out₀ from at out i (at + k)
+Inv-loop leads classes singles pairs piece from at out₀ end i₀ w₀ class₀ out i w class =
+    (length out ≡ length out₀) × (i ≤ end) × (end ≤ length piece) × (w + (end - i) ≤ length out) × (class ≡ entryAt classes (entryAt piece i)) × Ran (decoder classes singles pairs) piece out₀ from at out i w
 
 abbrev μ-loop : tie.MeasureT-loop
-μ-loop leads classes singles pairs piece from at out₀ n i₀ k₀ out i k = n - k
+μ-loop leads classes singles pairs piece from at out₀ end i₀ w₀ class₀ out i w class = end - i
 
--- src/runs.rt:91:22
 sub-smaller : tie.Need-sub-smaller Inv-loop μ-loop
 sub-smaller c = omega arith
 
--- src/runs.rt:91:47
 sub-smaller-2 : tie.Need-sub-smaller-2 Inv-loop μ-loop
 sub-smaller-2 c = omega arith
 
--- src/runs.rt:91:9
 smaller-requires : tie.Need-smaller-requires Inv-loop μ-loop
 smaller-requires c κs = search needs
 
--- src/runs.rt:94:5
-loop-holds : tie.Need-loop-holds Inv-loop μ-loop
-loop-holds c = (omega arith, refl, omega arith, ran-at (ran-start (c .before .before .before .before .before .before .pre .1 .1 .0) (c .before .before .before .before .before .before .pre .1 .1 .1)) refl (omega arith))
+add-end : tie.Need-add-end Inv-loop μ-loop
+add-end c = omega arith
 
--- src/runs.rt:95:20
+sub-if1 : tie.Need-sub-if1 Inv-loop μ-loop
+sub-if1 c = omega arith
+
+returns : tie.Need-returns Inv-loop μ-loop
+returns c = ran-start (c .before .before .before .before .before .before .before .pre .1 .1 .0) (c .before .before .before .before .before .before .before .pre .1 .1 .1)
+
+shared-slice-read-class-of : tie.Need-shared-slice-read-class-of Inv-loop μ-loop
+shared-slice-read-class-of c = omega arith
+
+class-of-requires : tie.Need-class-of-requires Inv-loop μ-loop
+class-of-requires c κs = c .before .before .before .before .before .before .before .before .pre .0 .all-classes
+
+loop-holds : tie.Need-loop-holds Inv-loop μ-loop
+loop-holds c = (refl, omega arith, omega arith, omega arith, c .class-of .ensures, ran-start (c .before .before .before .before .before .before .before .before .before .pre .1 .1 .0) (c .before .before .before .before .before .before .before .before .before .pre .1 .1 .1))
+
+sub-loop : tie.Need-sub-loop Inv-loop μ-loop
+sub-loop c = c .loop .inv .1
+
 shared-slice-read-byte : tie.Need-shared-slice-read-byte Inv-loop μ-loop
 shared-slice-read-byte c = omega arith
 
--- src/runs.rt:96:12
-is-lead-requires : tie.Need-is-lead-requires Inv-loop μ-loop
-is-lead-requires c κs = c .before .before .before .before .before .before .before .before .before .pre .0 .all-classes
+add-second : tie.Need-add-second Inv-loop μ-loop
+add-second c = omega arith
 
--- src/runs.rt:97:86
-add-pair-unit : tie.Need-add-pair-unit Inv-loop μ-loop
-add-pair-unit c = omega arith
+shared-slice-read-second : tie.Need-shared-slice-read-second Inv-loop μ-loop
+shared-slice-read-second c = omega arith
 
--- src/runs.rt:97:80
-shared-slice-read-pair-unit : tie.Need-shared-slice-read-pair-unit Inv-loop μ-loop
-shared-slice-read-pair-unit c = omega arith
+class-of-requires-2 : tie.Need-class-of-requires-2 Inv-loop μ-loop
+class-of-requires-2 c κs = c .before .before .before .before .before .before .before .before .before .before .before .before .before .pre .0 .all-classes
 
--- src/runs.rt:97:17
-pair-unit-requires : tie.Need-pair-unit-requires Inv-loop μ-loop
-pair-unit-requires c κs =
-    let start = c .before .before .before .before .before .before .before .before .before .before .before .before in
-    let is-lead = c .before .before .is-lead in
-    let if1 = c .before .if1 in
-    ((start .pre .0 .all-classes, sym (is-lead .ensures) ∙ if1 .taken, pair-room _ _ _ _ (start .pre .0) (sym (is-lead .ensures) ∙ if1 .taken)), start .pre .1 .0)
+add-class-of : tie.Need-add-class-of Inv-loop μ-loop
+add-class-of c = omega arith
 
--- src/runs.rt:101:30
-add-t28 : tie.Need-add-t28 Inv-loop μ-loop
-add-t28 c = omega arith
+shared-slice-read-class-of-2 : tie.Need-shared-slice-read-class-of-2 Inv-loop μ-loop
+shared-slice-read-class-of-2 c = omega arith
 
--- src/runs.rt:99:17
+class-of-requires-3 : tie.Need-class-of-requires-3 Inv-loop μ-loop
+class-of-requires-3 c κs = c .before .before .before .before .before .before .before .before .before .before .before .before .before .before .before .pre .0 .all-classes
+
+known-lead-requires : tie.Need-known-lead-requires Inv-loop μ-loop
+known-lead-requires c κs = ap isKnown (c .before .before .before .before .before .before .loop .inv .4) ∙ c .before .before .before .before .before .before .before .before .before .before .before .before .before .before .before .before .pre .0 .known _ (omega (arith, c .before .before .before .before .shared-slice-known6 .given (c .before .before .before .before .before .before .loop .i)))
+
+known-pair-unit-requires : tie.Need-known-pair-unit-requires Inv-loop μ-loop
+known-pair-unit-requires c κs =
+    let lead = ap isLead (sym (c .before .before .before .before .before .before .before .before .loop .inv .4)) ∙ sym (c .before .known-lead .ensures) ∙ c .if2 .taken in
+    ((c .before .before .before .before .before .before .before .before .before .before .before .before .before .before .before .before .before .before .pre .0 .all-classes, lead, pair-room _ _ _ _ (c .before .before .before .before .before .before .before .before .before .before .before .before .before .before .before .before .before .before .pre .0) lead), (c .before .before .before .before .before .before .before .before .before .before .before .before .before .before .before .before .before .before .pre .1 .0, c .before .before .before .before .class-of2 .ensures))
+
 same-length : tie.Need-same-length Inv-loop μ-loop
-same-length c = c .before .before .before .before .before .before .before .loop .inv .1
+same-length c = c .before .before .before .before .before .before .before .before .before .before .loop .inv .0
 
--- src/runs.rt:99:17
-returns : tie.Need-returns Inv-loop μ-loop
-returns c = c .before .before .before .before .before .before .before .loop .inv .3
+returns-2 : tie.Need-returns-2 Inv-loop μ-loop
+returns-2 c = c .before .before .before .before .before .before .before .before .before .before .loop .inv .5
 
--- src/runs.rt:104:17
-add-out : tie.Need-add-out Inv-loop μ-loop
-add-out c = omega arith
-
--- src/runs.rt:104:13
 mul-out : tie.Need-mul-out Inv-loop μ-loop
 mul-out c = omega arith
 
--- src/runs.rt:104:13
 slice-write-out : tie.Need-slice-write-out Inv-loop μ-loop
 slice-write-out c = omega arith
 
--- src/runs.rt:105:13
 add-i : tie.Need-add-i Inv-loop μ-loop
 add-i c = omega arith
 
--- src/runs.rt:106:13
-add-k : tie.Need-add-k Inv-loop μ-loop
-add-k c = omega arith
+add-w : tie.Need-add-w Inv-loop μ-loop
+add-w c = omega arith
 
--- src/runs.rt:94:5
 loop-less : tie.Need-loop-less Inv-loop μ-loop
 loop-less c = omega arith
 
--- src/runs.rt:94:5
 loop-again : tie.Need-loop-again Inv-loop μ-loop
 loop-again c =
-    let turn = c .before .before .before .before .before .before .before .loop in
-    let is-lead = c .before .before .before .before .is-lead in
-    let if1 = c .before .before .before .if1 in
-    let pair-unit = c .before .pair-unit in (
+    let lead = ap isLead (sym (c .before .before .before .before .before .before .before .before .before .before .loop .inv .4)) ∙ sym (c .before .before .before .known-lead .ensures) ∙ c .before .before .if2 .taken in (
+      simp length-set (c .before .before .before .before .before .before .before .before .before .before .loop .inv .0),
       omega arith,
-      simp length-set (turn .inv .1),
-      omega arith,
-      ran-at
-          (ran-pair _ _ _ (turn .inv .3) (pair-unit .result) (omega arith) (omega arith) (sym (is-lead .ensures) ∙ if1 .taken) (pair-unit .ensures (c .if2 .left))) refl (omega arith),
+      c .before .before .before .before .before .before .before .before .before .before .loop .inv .2,
+      simp length-set (omega arith),
+      c .before .before .before .before .class-of3 .ensures,
+      ran-at (ran-pair _ _ _ (c .before .before .before .before .before .before .before .before .before .before .loop .inv .5) (c .before .known-pair-unit .result) (omega arith) (omega arith) lead (c .before .known-pair-unit .ensures (c .if3 .left))) refl refl,
     )
 
--- src/runs.rt:108:17
-single-unit-requires : tie.Need-single-unit-requires Inv-loop μ-loop
-single-unit-requires c κs = (c .before .before .before .before .before .before .before .before .before .before .before .pre .0 .all-classes, c .before .before .before .before .before .before .before .before .before .before .before .pre .0 .all-singles)
+known-single-unit-requires : tie.Need-known-single-unit-requires Inv-loop μ-loop
+known-single-unit-requires c κs = (c .before .before .before .before .before .before .before .before .before .before .before .before .before .before .before .before .before .before .pre .0 .all-singles, ap isKnown (c .before .before .before .before .before .before .before .before .loop .inv .4) ∙ c .before .before .before .before .before .before .before .before .before .before .before .before .before .before .before .before .before .before .pre .0 .known _ (omega (arith, c .before .before .before .before .before .before .shared-slice-known6 .given (c .before .before .before .before .before .before .before .before .loop .i))))
 
--- src/runs.rt:112:30
-add-t32 : tie.Need-add-t32 Inv-loop μ-loop
-add-t32 c = omega arith
-
--- src/runs.rt:110:17
 same-length-2 : tie.Need-same-length-2 Inv-loop μ-loop
-same-length-2 c = c .before .before .before .before .before .before .loop .inv .1
+same-length-2 c = c .before .before .before .before .before .before .before .before .before .before .loop .inv .0
 
--- src/runs.rt:110:17
-returns-2 : tie.Need-returns-2 Inv-loop μ-loop
-returns-2 c = c .before .before .before .before .before .before .loop .inv .3
+returns-3 : tie.Need-returns-3 Inv-loop μ-loop
+returns-3 c = c .before .before .before .before .before .before .before .before .before .before .loop .inv .5
 
--- src/runs.rt:115:17
-add-out-2 : tie.Need-add-out-2 Inv-loop μ-loop
-add-out-2 c = omega arith
-
--- src/runs.rt:115:13
 mul-out-2 : tie.Need-mul-out-2 Inv-loop μ-loop
 mul-out-2 c = omega arith
 
--- src/runs.rt:115:13
 slice-write-out-2 : tie.Need-slice-write-out-2 Inv-loop μ-loop
 slice-write-out-2 c = omega arith
 
--- src/runs.rt:116:13
 add-i-2 : tie.Need-add-i-2 Inv-loop μ-loop
 add-i-2 c = omega arith
 
--- src/runs.rt:117:13
-add-k-2 : tie.Need-add-k-2 Inv-loop μ-loop
-add-k-2 c = omega arith
+add-w-2 : tie.Need-add-w-2 Inv-loop μ-loop
+add-w-2 c = omega arith
 
--- src/runs.rt:94:5
 loop-less-2 : tie.Need-loop-less-2 Inv-loop μ-loop
 loop-less-2 c = omega arith
 
--- src/runs.rt:94:5
 loop-again-2 : tie.Need-loop-again-2 Inv-loop μ-loop
 loop-again-2 c =
-    let turn = c .before .before .before .before .before .before .loop in
-    let is-lead = c .before .before .before .is-lead in
-    let if1 = c .before .before .if1 in
-    let single-unit = c .before .single-unit in (
+    let alone = ap isLead (sym (c .before .before .before .before .before .before .before .before .before .before .loop .inv .4)) ∙ sym (c .before .before .before .known-lead .ensures) ∙ c .before .before .if2 .left in (
+      simp length-set (c .before .before .before .before .before .before .before .before .before .before .loop .inv .0),
       omega arith,
-      simp length-set (turn .inv .1),
-      omega arith,
-      ran-at
-          (ran-single _ _ _ (turn .inv .3) (single-unit .result) (omega arith) (omega arith) (sym (is-lead .ensures) ∙ if1 .left) (single-unit .ensures (c .if3 .left))) refl (omega arith),
+      c .before .before .before .before .before .before .before .before .before .before .loop .inv .2,
+      simp length-set (omega arith),
+      c .before .before .before .before .before .before .class-of2 .ensures,
+      ran-at (ran-single _ _ _ (c .before .before .before .before .before .before .before .before .before .before .loop .inv .5) (c .before .known-single-unit .result) (omega arith) (omega arith) alone (c .before .known-single-unit .ensures (c .if4 .left) _ (c .before .before .before .before .before .before .before .before .before .before .loop .inv .4))) refl refl,
     )
 
--- src/runs.rt:122:18
-add-t15 : tie.Need-add-t15 Inv-loop μ-loop
-add-t15 c = omega arith
-
--- src/runs.rt:76:1
 same-length-3 : tie.Need-same-length-3 Inv-loop μ-loop
-same-length-3 c = c .before .loop .inv .1
+same-length-3 c = c .before .loop .inv .0
 
--- src/runs.rt:76:1
-returns-3 : tie.Need-returns-3 Inv-loop μ-loop
-returns-3 c = c .before .loop .inv .3
+returns-4 : tie.Need-returns-4 Inv-loop μ-loop
+returns-4 c = c .before .loop .inv .5
 
 pub run-of-codes-spec : {M : Type 1} → statement M
 run-of-codes-spec =
     tie.close
-    (tie.spec
-    Inv-loop
-    μ-loop
-    sub-smaller
-    sub-smaller-2
-    smaller-requires
-    loop-holds
-    shared-slice-read-byte
-    is-lead-requires
-    add-pair-unit
-    shared-slice-read-pair-unit
-    pair-unit-requires
-    add-t28
-    same-length
-    returns
-    add-out
-    mul-out
-    slice-write-out
-    add-i
-    add-k
-    loop-less
-    loop-again
-    single-unit-requires
-    add-t32
-    same-length-2
-    returns-2
-    add-out-2
-    mul-out-2
-    slice-write-out-2
-    add-i-2
-    add-k-2
-    loop-less-2
-    loop-again-2
-    add-t15
-    same-length-3
-    returns-3)
+    (tie.spec Inv-loop μ-loop sub-smaller sub-smaller-2 smaller-requires add-end sub-if1 returns shared-slice-read-class-of class-of-requires loop-holds sub-loop shared-slice-read-byte add-second shared-slice-read-second class-of-requires-2 add-class-of shared-slice-read-class-of-2 class-of-requires-3 known-lead-requires known-pair-unit-requires same-length returns-2 mul-out slice-write-out add-i add-w loop-less loop-again known-single-unit-requires same-length-2 returns-3 mul-out-2 slice-write-out-2 add-i-2 add-w-2 loop-less-2 loop-again-2 same-length-3 returns-4)
