@@ -22,7 +22,7 @@ use Rattle.fields.specs.declared.Answer.the-variants.{Field as FieldFoun
 use Rattle.fields.specs.declared.Held.{Held}
 use Rattle.fields.specs.declared.Outcome.{Outcome}
 use Rattle.fields.specs.Fields.{fieldLimit, separator, unitsBefore, fieldUnits, eitherEnd, separatorIn, endIn, fieldRefusal, freshHeld, readWith, overFrom, foundCall, heldCall, refusedFieldCall, fieldCall, FieldAnswered}
-use Rattle.fields.specs.Steps.{isSeparator, separatorEnd, NoSeparator, Scanned}
+use Rattle.fields.specs.Steps.{isSeparator, separatorEnd}
 
 -- ---- separators
 pub no-separator : (u : ℕ) → isSeparator u ≡ false → separator u ≡ none
@@ -67,21 +67,6 @@ module _ (block : List ℕ) (i : ℕ) (so-far : length (fieldUnits block) ≡ i 
   scan-end h =
       let here : length (fieldUnits (drop i block)) ≡ 0 = ap (λ (l : List ℕ). length (fieldUnits l)) (drop-of-length-le block h) in
       omega arith
-
--- four units at a time
-module _ (block : List ℕ) where
-  -- no separator at the place, in a scan of four: the next place is passed too
-  pub scan-next : (i j : ℕ) → NoSeparator block i → i < length block → isSeparator (getD block i 0) ≡ false → j ≡ i + 1 → NoSeparator block j
-  scan-next i j so-far h e q = subst (NoSeparator block) (sym q) (scan-turn block i so-far h e)
-
-  -- a separator among the four units: how many stand before it
-  pub scan-found : (i n j : ℕ) → n < 4 → i + n ≡ j → NoSeparator block j → j < length block → isSeparator (getD block j 0) ≡ true → Scanned block i n
-  scan-found i n j small q so-far h e =
-      record { within = omega arith; found = λ l. q ∙ scan-stop block j so-far h e; passed = λ w. absurd (omega arith) }
-
-  -- no separator among the four units: all four are passed
-  pub scan-passed : (i : ℕ) → NoSeparator block (i + 4) → Scanned block i 4
-  scan-passed i so-far = record { within = omega arith; found = λ l. absurd (omega arith); passed = λ w. so-far }
 
 -- ---- the copy
 -- the first units of a block, copied behind those held, are laid over the buffer there

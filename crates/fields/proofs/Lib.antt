@@ -1,5 +1,6 @@
 pub mod FieldLaws
 pub mod CallLaws
+pub mod WordLaws
 pub mod RefusalLaws
 pub mod EveryCutting
 pub mod BoundLaws

@@ -8,12 +8,13 @@
 //     state = outcome.state;                                           // then again on the block behind what was read
 ghost use mathlib.Core.Path.{_≡_};
 ghost use mathlib.Core.Bool.{_&&_};
-ghost use Prim.Native.Nat.{_+_, _≤_};
+ghost use mathlib.Core.List.{List};
+ghost use Prim.Native.Nat.{ℕ, _+_, _≤_};
 ghost use lib.Dec.{ltb};
 ghost use lib.ListN.{length, take};
 ghost use denote.Ref.{ptr};
 ghost use Rattle.fields.specs.Fields.{fieldUnits, refusalNumber, freshHeld, overFrom, readWith, foundCall, heldCall, fieldCall, FieldAnswered, front, ShownAs};
-ghost use Rattle.fields.specs.Steps.{isSeparator, separatorEnd, NoSeparator, Scanned};
+ghost use Rattle.fields.specs.Steps.{isSeparator, separatorEnd, NoSeparator, fourAt, WordAt, nonzeroMarked, marksOf};
 ghost use Rattle.convert.specs.Runs.{pieceLimit};
 use convert::Run;
 
@@ -120,26 +121,6 @@ fn end_of(unit: u16) -> End
     End::LineFeed
 }
 
-// Looks at four units: how many stand before the first separator among them, or 4.
-fn scan_four(block: &[u16], i: usize) -> usize
-    requires { ⌜ (i + 4 ≤ length (now block)) × NoSeparator (now block) i ⌝ }
-    ensures { λ r. ⌜ Scanned (now (block .entry)) i r ⌝ }
-{
-    if is_separator(block[i]) {
-        return 0;
-    }
-    if is_separator(block[i + 1]) {
-        return 1;
-    }
-    if is_separator(block[i + 2]) {
-        return 2;
-    }
-    if is_separator(block[i + 3]) {
-        return 3;
-    }
-    4
-}
-
 // How many units stand before the first separator, if none stands before `start`.
 fn scan_rest(block: &[u16], start: usize) -> usize
     requires { ⌜ (start ≤ length (now block)) × NoSeparator (now block) start ⌝ }
@@ -155,15 +136,56 @@ fn scan_rest(block: &[u16], start: usize) -> usize
     i
 }
 
-// How many units stand before the first separator of a block. Four are looked at in a turn, since a turn costs as much as a unit.
+// The mark of each unit of a word: its top bit.
+const MARKS: u64 = 0x8000800080008000;
+
+// A bar, and a line feed, at each unit of a word.
+const BARS: u64 = 0x007C007C007C007C;
+
+const LINE_FEEDS: u64 = 0x000A000A000A000A;
+
+// Four units as a word: the first is its lowest.
+fn word_at(block: &[u16], i: usize) -> u64
+    requires { ⌜ i + 4 ≤ length (now block) ⌝ }
+    ensures { λ r. ⌜ WordAt (now (block .entry)) i r ⌝ }
+{
+    let two = (block[i] as u64) + 0x10000 * (block[i + 1] as u64);
+    let three = two + 0x100000000 * (block[i + 2] as u64);
+    three + 0x1000000000000 * (block[i + 3] as u64)
+}
+
+// Marks each unit of a word that is not 0: its low bits and 7FFF carry into its top bit, and no further. The bits below are anything.
+fn mark_nonzero(word: u64) -> u64
+    ensures { λ r. ⌜ r ≡ nonzeroMarked 0x7FFF7FFF7FFF7FFF word ⌝ }
+{
+    ((word & 0x7FFF7FFF7FFF7FFF) + 0x7FFF7FFF7FFF7FFF) | word
+}
+
+// The marks of those of four units that are no separators.
+fn marks_of(block: &[u16], i: usize) -> u64
+    requires { ⌜ i + 4 ≤ length (now block) ⌝ }
+    ensures { λ r. ⌜ r ≡ marksOf (fourAt (now (block .entry)) i) ⌝ }
+{
+    let word = word_at(block, i);
+    mark_nonzero(word ^ BARS) & mark_nonzero(word ^ LINE_FEEDS) & MARKS
+}
+
+// How many of four units stand before the first that is not marked.
+fn first_unmarked(marks: u64) -> usize
+    ensures { λ r. ⌜ (r ≤ 4) × ((units : List ℕ) → length units ≡ 4 → marks ≡ marksOf units → r ≡ length (fieldUnits units)) ⌝ }
+{
+    (u64::trailing_zeros(marks ^ MARKS) / 16) as usize
+}
+
+// How many units stand before the first separator of a block. Four are looked at in a turn, as one word, since a turn costs as much as a unit.
 fn field_size(block: &[u16]) -> usize
     ensures { λ r. ⌜ r ≡ length (fieldUnits (now (block .entry))) ⌝ }
 {
     let mut i = 0;
     while 4 <= block.len() - i {
-        let count = scan_four(block, i);
-        if count < 4 {
-            return i + count;
+        let marks = marks_of(block, i);
+        if marks != MARKS {
+            return i + first_unmarked(marks);
         }
         i += 4;
     }
