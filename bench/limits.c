@@ -12,7 +12,7 @@ till_outcome nothing_decode(till_run run, TILL_TABLES, const uint8_t *piece, siz
 enum call { NOTHING, DECODE, ENCODE, DECODE_HERE, ENCODE_HERE, START, SAVE, LOAD, SHAPE, CALLS };
 static const char *const call_names[CALLS] = {"(parameters of a run call)", "till_decode", "till_encode", "till_decode_here", "till_encode_here", "till_start", "till_save", "till_load", "till_shape"};
 
-static table_set page;
+static table_set pages[2]; /* 932, 1252 */
 static uint8_t *text;
 static size_t text_size, piece_size;
 static uint8_t *lowest_free; /* the painted part of the thread's stack: its lowest byte, and the stack pointer of the caller */
@@ -27,7 +27,7 @@ static till_saved saved;
 static till_fault fault;
 static size_t deepest;
 
-static const table_set *volatile page_now = &page;
+static const table_set *volatile page_now = pages;
 
 static int is_encoding(enum call c)
 {
@@ -101,14 +101,19 @@ static void load_text(const char *folder, const char *name, const char *kind)
 
 static void stack_table(const char *folder)
 {
-    static const char *const names[3] = {"ascii", "japanese", "damaged"};
+    /* a page with lead bytes, and one of single bytes: they go by loops of their own */
+    static const struct {
+        const char *name;
+        int page;
+    } texts[] = {{"ascii", 0}, {"japanese", 0}, {"damaged", 0}, {"journal", 0}, {"latin", 1}, {"damaged", 1}};
     printf("\nStack of a call, in bytes below the caller's stack pointer (parameters and return address included), the deepest byte\n"
-           "written over pieces of 1, 512 and 65,536 bytes of three texts:\n\n");
+           "written over pieces of 1, 512 and 65,536 bytes of six texts, of the pages 932 and 1252:\n\n");
     printf("| Call | Bytes |\n|---|---|\n");
     for (enum call c = NOTHING; c < CALLS; c++) {
         deepest = 0;
-        for (int k = 0; k < 3; k++) {
-            load_text(folder, names[k], is_encoding(c) ? "units" : "bytes");
+        for (size_t k = 0; k < sizeof texts / sizeof *texts; k++) {
+            page_now = &pages[texts[k].page];
+            load_text(folder, texts[k].name, is_encoding(c) ? "units" : "bytes");
             measure_stack(c, is_encoding(c) ? 2 : 1);
             measure_stack(c, 512);
             measure_stack(c, 65536);
@@ -149,7 +154,7 @@ static void growth_table(const char *folder)
             load_text(folder, names[k], encode ? "units" : "bytes");
             printf("| %s | %s |", names[k], encode ? "encode" : "decode");
             for (int i = 0; i < 5; i++) {
-                double ns = call_time(&page, encode, text, sizes[i]);
+                double ns = call_time(&pages[0], encode, text, sizes[i]);
                 printf(" %.0f (%.2f) |", ns, ns / (double)sizes[i]);
             }
             printf("\n");
@@ -228,11 +233,9 @@ static void leads_table(const char *folder)
 
 int main(int argc, char **argv)
 {
-    char path[4096];
     if (argc != 3)
         die("use: limits TEXTS TABLES");
-    snprintf(path, sizeof path, "%s/cp932.tbl", argv[2]);
-    page = read_image(path);
+    read_pages(argv[2], pages);
     stack_table(argv[1]);
     growth_table(argv[1]);
     leads_table(argv[1]);

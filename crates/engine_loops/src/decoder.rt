@@ -410,9 +410,9 @@ fn decode_codes(
     requires { ⌜ (pending ≡ true → isLead (entryAt (now classes) lead) ≡ true) ⌝ }
     ensures { λ r. ⌜ Ends (decodeFed (now (classes .entry)) (now (singles .entry)) (now (pairs .entry)) policy default last (length (now (out .entry))) (optional pending lead) (now (piece .entry))) (now (out .entry)) (now (out .exit)) r ⌝ }
 {
+    let plain = codepage_lookup::profile::mixed_page(classes, singles);
     let leads = codepage_lookup::profile::leads_of(classes);
     let start = turns::start(pending, lead as u16);
-    let plain = codepage_lookup::profile::mixed_page(classes, singles);
     decode_rest(
         policy,
         default,
@@ -438,8 +438,15 @@ pub enum Way {
     Codes,
 }
 
-// Finds out how a call goes on, and copies a plain piece.
-fn way_of(pending: bool, classes: &[u8], singles: &[u16], piece: &[u8], out: &mut [u16]) -> Way
+// Finds out how a call goes on, and copies a plain piece. A page that has pairs has lead bytes.
+fn way_of(
+    pending: bool,
+    classes: &[u8],
+    singles: &[u16],
+    pairs: &[u16],
+    piece: &[u8],
+    out: &mut [u16],
+) -> Way
     requires { ⌜ (length (now classes) ≡ 256) × (length (now singles) ≡ 256) ⌝ }
     ensures { λ r. ⌜ WayFound (now (classes .entry)) (now (singles .entry)) (now (piece .entry)) pending (now (out .entry)) r (now (out .exit)) ⌝ }
 {
@@ -448,6 +455,9 @@ fn way_of(pending: bool, classes: &[u8], singles: &[u16], piece: &[u8], out: &mu
     }
     if plain::decode_plain(classes, singles, piece, out) {
         return Way::Copied;
+    }
+    if 0 < pairs.len() {
+        return Way::Codes;
     }
     if codepage_lookup::profile::only_singles(classes) {
         return Way::Singles;
@@ -473,7 +483,7 @@ pub fn decode_loop(
     ensures { λ r. ⌜ r ≡ summary (decodeFed (now (classes .entry)) (now (singles .entry)) (now (pairs .entry)) policy default last (length (now (out .entry))) (optional pending lead) (now (piece .entry))) ⌝ }
     ensures { λ _. ⌜ now (out .exit) ≡ over (now (out .entry)) (decodeFed (now (classes .entry)) (now (singles .entry)) (now (pairs .entry)) policy default last (length (now (out .entry))) (optional pending lead) (now (piece .entry)) .output) ⌝ }
 {
-    let way = way_of(pending, classes, singles, piece, out);
+    let way = way_of(pending, classes, singles, pairs, piece, out);
     match way {
         Way::Copied => Progress {
             answer: 0,
