@@ -35,7 +35,9 @@ class-of-requires : tie.Need-class-of-requires Inv-loop μ-loop
 class-of-requires c κs = c .before .before .before .before .before .before .before .pre .0 .0
 
 known-lead-requires : tie.Need-known-lead-requires Inv-loop μ-loop
-known-lead-requires c κs = ap isKnown (c .class-of .ensures) ∙ c .before .before .before .before .before .before .before .before .pre .0 .2 _ (omega (arith, c .before .before .before .before .before .shared-slice-known3 .given (c .before .before .before .before .before .before .before .before .args .from + 2 * c .before .before .before .loop .k)))
+known-lead-requires c κs =
+    let pre = c .before .before .before .before .before .before .before .before .pre in
+    ap isKnown (c .class-of .ensures) ∙ pre .0 .2 _ (omega (arith, c .before .before .before .before .before .shared-slice-known3 .given (c .before .before .before .before .before .before .before .before .args .from + 2 * c .before .before .before .loop .k)))
 
 same-length : tie.Need-same-length Inv-loop μ-loop
 same-length c = c .before .before .before .before .before .loop .inv .1
@@ -57,8 +59,9 @@ shared-slice-read-pair-unit c = omega arith
 
 pair-unit-requires : tie.Need-pair-unit-requires Inv-loop μ-loop
 pair-unit-requires c κs =
+    let pre = c .before .before .before .before .before .before .before .before .before .before .before .pre in
     let lead = ap isLead (sym (c .before .before .before .class-of .ensures)) ∙ sym (c .before .before .known-lead .ensures) ∙ not-false _ (c .before .if1 .left) in
-    ((c .before .before .before .before .before .before .before .before .before .before .before .pre .0 .0, lead, c .before .before .before .before .before .before .before .before .before .before .before .pre .1 .0 _ lead), c .before .before .before .before .before .before .before .before .before .before .before .pre .0 .1)
+    ((pre .0 .0, lead, pre .1 .0 _ lead), pre .0 .1)
 
 same-length-2 : tie.Need-same-length-2 Inv-loop μ-loop
 same-length-2 c = c .before .before .before .before .before .before .before .before .loop .inv .1
@@ -83,10 +86,12 @@ loop-less c = omega arith
 
 loop-again : tie.Need-loop-again Inv-loop μ-loop
 loop-again c =
+    let turn = c .before .before .before .before .before .before .before .before .loop in
+    let pair = c .before .pair-unit in
     let lead = ap isLead (sym (c .before .before .before .before .before .class-of .ensures)) ∙ sym (c .before .before .before .before .known-lead .ensures) ∙ not-false _ (c .before .before .before .if1 .left) in (
       omega arith,
-      simp length-set (c .before .before .before .before .before .before .before .before .loop .inv .1),
-      λ singles. ran-at (ran-pair _ _ _ (c .before .before .before .before .before .before .before .before .loop .inv .2 singles) (c .before .pair-unit .result) (omega arith) (omega arith) lead (c .before .pair-unit .ensures (c .if2 .left))) (omega arith) (omega arith),
+      simp length-set (turn .inv .1),
+      λ singles. ran-at (ran-pair _ _ _ (turn .inv .2 singles) (pair .result) (omega arith) (omega arith) lead (pair .ensures (c .if2 .left))) (omega arith) (omega arith),
     )
 
 same-length-3 : tie.Need-same-length-3 Inv-loop μ-loop
@@ -98,4 +103,29 @@ returns-3 c = (omega arith, c .before .loop .inv .2)
 pub run-of-pairs-spec : {M : Type 1} → statement M
 run-of-pairs-spec =
     tie.close
-    (tie.spec Inv-loop μ-loop loop-holds mul-lead add-lead shared-slice-read-lead class-of-requires known-lead-requires same-length returns mul-pair-unit add-pair-unit add-pair-unit-2 shared-slice-read-pair-unit pair-unit-requires same-length-2 returns-2 add-out mul-out slice-write-out add-k loop-less loop-again same-length-3 returns-3)
+    (tie.spec
+    Inv-loop
+    μ-loop
+    loop-holds
+    mul-lead
+    add-lead
+    shared-slice-read-lead
+    class-of-requires
+    known-lead-requires
+    same-length
+    returns
+    mul-pair-unit
+    add-pair-unit
+    add-pair-unit-2
+    shared-slice-read-pair-unit
+    pair-unit-requires
+    same-length-2
+    returns-2
+    add-out
+    mul-out
+    slice-write-out
+    add-k
+    loop-less
+    loop-again
+    same-length-3
+    returns-3)

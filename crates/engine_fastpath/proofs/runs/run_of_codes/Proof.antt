@@ -1,4 +1,4 @@
-use Rattle.engine_fastpath.proofs.RunLaws.{ran-start, ran-at, ran-single, ran-pair}
+use Rattle.engine_fastpath.proofs.RunLaws.{ran-start, ran-single, ran-pair}
 use Rattle.engine.proofs.DecodeLaws.{pair-room}
 use Rattle.engine_fastpath.specs.Runs.{Ran}
 use Rattle.codepage.specs.CodePage.{entryAt, isKnown, isLead}
@@ -43,7 +43,9 @@ class-of-requires : tie.Need-class-of-requires Inv-loop μ-loop
 class-of-requires c κs = c .before .before .before .before .before .before .before .before .pre .0 .all-classes
 
 loop-holds : tie.Need-loop-holds Inv-loop μ-loop
-loop-holds c = (refl, omega arith, omega arith, omega arith, c .class-of .ensures, ran-start (c .before .before .before .before .before .before .before .before .before .pre .1 .1 .0) (c .before .before .before .before .before .before .before .before .before .pre .1 .1 .1))
+loop-holds c =
+    let start = c .before .before .before .before .before .before .before .before .before .pre in
+    (refl, omega arith, omega arith, omega arith, c .class-of .ensures, ran-start (start .1 .1 .0) (start .1 .1 .1))
 
 sub-loop : tie.Need-sub-loop Inv-loop μ-loop
 sub-loop c = c .loop .inv .1
@@ -70,12 +72,15 @@ class-of-requires-3 : tie.Need-class-of-requires-3 Inv-loop μ-loop
 class-of-requires-3 c κs = c .before .before .before .before .before .before .before .before .before .before .before .before .before .before .before .pre .0 .all-classes
 
 known-lead-requires : tie.Need-known-lead-requires Inv-loop μ-loop
-known-lead-requires c κs = ap isKnown (c .before .before .before .before .before .before .loop .inv .4) ∙ c .before .before .before .before .before .before .before .before .before .before .before .before .before .before .before .before .pre .0 .known _ (omega (arith, c .before .before .before .before .shared-slice-known6 .given (c .before .before .before .before .before .before .loop .i)))
+known-lead-requires c κs =
+    let turn = c .before .before .before .before .before .before .loop in
+    ap isKnown (turn .inv .4) ∙ c .before .before .before .before .before .before .before .before .before .before .before .before .before .before .before .before .pre .0 .known _ (omega (arith, c .before .before .before .before .shared-slice-known6 .given (turn .i)))
 
 known-pair-unit-requires : tie.Need-known-pair-unit-requires Inv-loop μ-loop
 known-pair-unit-requires c κs =
+    let pre = c .before .before .before .before .before .before .before .before .before .before .before .before .before .before .before .before .before .before .pre in
     let lead = ap isLead (sym (c .before .before .before .before .before .before .before .before .loop .inv .4)) ∙ sym (c .before .known-lead .ensures) ∙ c .if2 .taken in
-    ((c .before .before .before .before .before .before .before .before .before .before .before .before .before .before .before .before .before .before .pre .0 .all-classes, lead, pair-room _ _ _ _ (c .before .before .before .before .before .before .before .before .before .before .before .before .before .before .before .before .before .before .pre .0) lead), (c .before .before .before .before .before .before .before .before .before .before .before .before .before .before .before .before .before .before .pre .1 .0, c .before .before .before .before .class-of2 .ensures))
+    ((pre .0 .all-classes, lead, pair-room _ _ _ _ (pre .0) lead), (pre .1 .0, c .before .before .before .before .class-of2 .ensures))
 
 same-length : tie.Need-same-length Inv-loop μ-loop
 same-length c = c .before .before .before .before .before .before .before .before .before .before .loop .inv .0
@@ -100,17 +105,22 @@ loop-less c = omega arith
 
 loop-again : tie.Need-loop-again Inv-loop μ-loop
 loop-again c =
-    let lead = ap isLead (sym (c .before .before .before .before .before .before .before .before .before .before .loop .inv .4)) ∙ sym (c .before .before .before .known-lead .ensures) ∙ c .before .before .if2 .taken in (
-      simp length-set (c .before .before .before .before .before .before .before .before .before .before .loop .inv .0),
+    let turn = c .before .before .before .before .before .before .before .before .before .before .loop in
+    let pair = c .before .known-pair-unit in
+    let lead = ap isLead (sym (turn .inv .4)) ∙ sym (c .before .before .before .known-lead .ensures) ∙ c .before .before .if2 .taken in (
+      simp length-set (turn .inv .0),
       omega arith,
-      c .before .before .before .before .before .before .before .before .before .before .loop .inv .2,
+      turn .inv .2,
       simp length-set (omega arith),
       c .before .before .before .before .class-of3 .ensures,
-      ran-at (ran-pair _ _ _ (c .before .before .before .before .before .before .before .before .before .before .loop .inv .5) (c .before .known-pair-unit .result) (omega arith) (omega arith) lead (c .before .known-pair-unit .ensures (c .if3 .left))) refl refl,
+      ran-pair _ _ _ (turn .inv .5) (pair .result) (omega arith) (omega arith) lead (pair .ensures (c .if3 .left)),
     )
 
 known-single-unit-requires : tie.Need-known-single-unit-requires Inv-loop μ-loop
-known-single-unit-requires c κs = (c .before .before .before .before .before .before .before .before .before .before .before .before .before .before .before .before .before .before .pre .0 .all-singles, ap isKnown (c .before .before .before .before .before .before .before .before .loop .inv .4) ∙ c .before .before .before .before .before .before .before .before .before .before .before .before .before .before .before .before .before .before .pre .0 .known _ (omega (arith, c .before .before .before .before .before .before .shared-slice-known6 .given (c .before .before .before .before .before .before .before .before .loop .i))))
+known-single-unit-requires c κs =
+    let turn = c .before .before .before .before .before .before .before .before .loop in
+    let pre = c .before .before .before .before .before .before .before .before .before .before .before .before .before .before .before .before .before .before .pre in
+    (pre .0 .all-singles, ap isKnown (turn .inv .4) ∙ pre .0 .known _ (omega (arith, c .before .before .before .before .before .before .shared-slice-known6 .given (turn .i))))
 
 same-length-2 : tie.Need-same-length-2 Inv-loop μ-loop
 same-length-2 c = c .before .before .before .before .before .before .before .before .before .before .loop .inv .0
@@ -135,13 +145,15 @@ loop-less-2 c = omega arith
 
 loop-again-2 : tie.Need-loop-again-2 Inv-loop μ-loop
 loop-again-2 c =
-    let alone = ap isLead (sym (c .before .before .before .before .before .before .before .before .before .before .loop .inv .4)) ∙ sym (c .before .before .before .known-lead .ensures) ∙ c .before .before .if2 .left in (
-      simp length-set (c .before .before .before .before .before .before .before .before .before .before .loop .inv .0),
+    let turn = c .before .before .before .before .before .before .before .before .before .before .loop in
+    let single = c .before .known-single-unit in
+    let alone = ap isLead (sym (turn .inv .4)) ∙ sym (c .before .before .before .known-lead .ensures) ∙ c .before .before .if2 .left in (
+      simp length-set (turn .inv .0),
       omega arith,
-      c .before .before .before .before .before .before .before .before .before .before .loop .inv .2,
+      turn .inv .2,
       simp length-set (omega arith),
       c .before .before .before .before .before .before .class-of2 .ensures,
-      ran-at (ran-single _ _ _ (c .before .before .before .before .before .before .before .before .before .before .loop .inv .5) (c .before .known-single-unit .result) (omega arith) (omega arith) alone (c .before .known-single-unit .ensures (c .if4 .left) _ (c .before .before .before .before .before .before .before .before .before .before .loop .inv .4))) refl refl,
+      ran-single _ _ _ (turn .inv .5) (single .result) (omega arith) (omega arith) alone (single .ensures (c .if4 .left) _ (turn .inv .4)),
     )
 
 same-length-3 : tie.Need-same-length-3 Inv-loop μ-loop
@@ -153,4 +165,44 @@ returns-4 c = c .before .loop .inv .5
 pub run-of-codes-spec : {M : Type 1} → statement M
 run-of-codes-spec =
     tie.close
-    (tie.spec Inv-loop μ-loop sub-smaller sub-smaller-2 smaller-requires add-end sub-if1 returns shared-slice-read-class-of class-of-requires loop-holds sub-loop shared-slice-read-byte add-second shared-slice-read-second class-of-requires-2 add-class-of shared-slice-read-class-of-2 class-of-requires-3 known-lead-requires known-pair-unit-requires same-length returns-2 mul-out slice-write-out add-i add-w loop-less loop-again known-single-unit-requires same-length-2 returns-3 mul-out-2 slice-write-out-2 add-i-2 add-w-2 loop-less-2 loop-again-2 same-length-3 returns-4)
+    (tie.spec
+    Inv-loop
+    μ-loop
+    sub-smaller
+    sub-smaller-2
+    smaller-requires
+    add-end
+    sub-if1
+    returns
+    shared-slice-read-class-of
+    class-of-requires
+    loop-holds
+    sub-loop
+    shared-slice-read-byte
+    add-second
+    shared-slice-read-second
+    class-of-requires-2
+    add-class-of
+    shared-slice-read-class-of-2
+    class-of-requires-3
+    known-lead-requires
+    known-pair-unit-requires
+    same-length
+    returns-2
+    mul-out
+    slice-write-out
+    add-i
+    add-w
+    loop-less
+    loop-again
+    known-single-unit-requires
+    same-length-2
+    returns-3
+    mul-out-2
+    slice-write-out-2
+    add-i-2
+    add-w-2
+    loop-less-2
+    loop-again-2
+    same-length-3
+    returns-4)

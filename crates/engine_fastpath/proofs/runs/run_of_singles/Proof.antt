@@ -43,4 +43,16 @@ returns c = singles-join (c .before .before .before .before .before .before .run
 pub run-of-singles-spec : {M : Type 1} → statement M
 run-of-singles-spec =
     tie.close
-    (tie.spec sub-smaller sub-smaller-2 smaller-requires unit-bits-requires run-of-words-requires add-run-of-alone add-run-of-alone-2 sub-run-of-alone run-of-alone-requires add-result same-length returns)
+    (tie.spec
+    sub-smaller
+    sub-smaller-2
+    smaller-requires
+    unit-bits-requires
+    run-of-words-requires
+    add-run-of-alone
+    add-run-of-alone-2
+    sub-run-of-alone
+    run-of-alone-requires
+    add-result
+    same-length
+    returns)

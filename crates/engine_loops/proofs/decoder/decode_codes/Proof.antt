@@ -38,4 +38,10 @@ returns c =
 pub decode-codes-spec : {M : Type 1} → statement M
 decode-codes-spec =
     tie.close
-    (tie.spec mixed-page-requires leads-of-requires start-requires decode-rest-requires same-length returns)
+    (tie.spec
+    mixed-page-requires
+    leads-of-requires
+    start-requires
+    decode-rest-requires
+    same-length
+    returns)

@@ -46,4 +46,15 @@ returns-5 c =
 pub way-of-spec : {M : Type 1} → statement M
 way-of-spec =
     tie.close
-    (tie.spec returns decode-plain-requires same-length returns-2 same-length-2 returns-3 only-singles-requires same-length-3 returns-4 same-length-4 returns-5)
+    (tie.spec
+    returns
+    decode-plain-requires
+    same-length
+    returns-2
+    same-length-2
+    returns-3
+    only-singles-requires
+    same-length-3
+    returns-4
+    same-length-4
+    returns-5)
