@@ -8,7 +8,7 @@ use native.Mathlib.Omega.{arith}
 use lib.Bits.{bit_and, bit_or, and_le_l, and_le_r, or_add_and}
 use lib.Dec.{leb, ltb, eqb}
 use lib.ListN.{length, take}
-use borrow.Author.Tests.{ltb-true, ltb-false, lt-ltb, le-ltb, leb-true, le-leb, eq-eqb, ne_eqb, eqb-true, eqb-false, not-true, not-false}
+use borrow.Author.Tests.{ltb-true, ltb-false, lt-ltb, le-ltb, leb-true, le-leb, eq-eqb, eqb-true, eqb-false, not-true, not-false}
 use Rattle.codepage.specs.CodePage.{CodePage, GoodShape, pick, entry_at, is_known, is_lead, leads, leads_below, bad_class, first_fault, is_good}
 use Rattle.codepage.specs.Marks.{mark_of, Marked, Largest, good_sizes, NoLowLead}
 use Rattle.codepage.proofs.ShapeLaws.{and_left, and_right, or_left_false, or_right_false, count_lead, count_other, below_all, shape_exact}

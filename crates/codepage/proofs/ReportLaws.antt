@@ -1,15 +1,15 @@
 -- The report names the first bad place: each case exactly if what it says holds.
-use mathlib.Core.Bool.{Bool, true, false, not, ◌&&◌, ◌||◌, true≢false, false≢true}
+use mathlib.Core.Bool.{Bool, true, false, not, ◌&&◌, ◌||◌, false≢true}
 use mathlib.Core.List.{List, [], ◌∷◌}
 use mathlib.Core.Logic.{◌↔◌}
-use mathlib.Core.Path.{◌≡◌, refl, sym, ap, ◌∙◌, subst}
-use Prim.Native.Nat.{ℕ, zero, suc, ◌+◌, ◌*◌, ◌/◌, ◌%◌, ◌<◌, ◌≤◌}
+use mathlib.Core.Path.{◌≡◌, refl, sym, ◌∙◌, subst}
+use Prim.Native.Nat.{ℕ, zero, suc, ◌+◌, ◌/◌, ◌%◌, ◌<◌}
 use native.Mathlib.Nat.{zero-add}
 use native.Mathlib.Omega.{arith}
 use lib.Dec.{leb, ltb, eqb}
-use lib.ListN.{length, get_or}
+use lib.ListN.{length}
 use borrow.Author.Tests.{eqb-true, eqb-false, leb-true, leb-false, ltb-true, ltb-false, eq-eqb, ne_eqb, le-leb, lt-leb, lt-ltb, le-ltb, not-true, not-false}
-use Rattle.codepage.specs.CodePage.{CodePage, pick, entry_at, is_known, is_lead, leads, GoodShape, first_bad, bad_class, bad_number, class_fault, sizes_fault, entries_fault, first_fault, is_good, GoodClass, GoodNumber, GoodBlocks, PageGood, ClassesGood, SinglesGood, PairsGood, IndexGood, SizesGood, Names}
+use Rattle.codepage.specs.CodePage.{CodePage, pick, entry_at, is_known, is_lead, GoodShape, first_bad, bad_class, bad_number, class_fault, sizes_fault, entries_fault, first_fault, GoodClass, GoodNumber, GoodBlocks, PageGood, ClassesGood, SinglesGood, PairsGood, IndexGood, SizesGood, Names}
 use Rattle.codepage.specs.declared.Fault.{Fault}
 use Rattle.codepage.specs.declared.Fault.TheVariants.{Good, Page, ClassesSize, SinglesSize, PairsSize, IndexSize, BlocksSize, Class, Lead, Number}
 use Rattle.codepage.proofs.ShapeLaws.{bad_here, bad_later, and_left, and_right, or_left_false, or_right_false, none_at_all, all_are_good, no_fault}
@@ -132,9 +132,9 @@ module _ (p : CodePage) where
   unfolding bad_number
   good_number k h = lt-leb count (entry_at p.index k) (omega arith)
 
-  bad_number : (k : ℕ) → (GoodNumber p k → ⊥) → GoodBlocks p → bad_number count k (entry_at p.index k) ≡ true
+  bad_number_lem : (k : ℕ) → (GoodNumber p k → ⊥) → GoodBlocks p → bad_number count k (entry_at p.index k) ≡ true
   unfolding bad_number
-  bad_number k h b = by_test (leb count (entry_at p.index k)) refl
+  bad_number_lem k h b = by_test (leb count (entry_at p.index k)) refl
     where
       by_test : (t : Bool) → leb count (entry_at p.index k) ≡ t → leb count (entry_at p.index k) ≡ true
       by_test true e = e
@@ -271,7 +271,7 @@ module _ (p : CodePage) where
   unfolding first_fault entries_fault
   number_is s k l c b g =
       let none : first_class ≡ length p.classes = all_are_good bad_class p.classes (λ j q. good_class j (c j (omega (arith, s.0.0.0.0.1)))) in
-      let at : first_number ≡ k = at_zero (bad_number count) p.index k (omega (arith, s.0.1)) (bad_number k b s.1) (λ j q. good_number j (g j q)) in
+      let at : first_number ≡ k = at_zero (bad_number count) p.index k (omega (arith, s.0.1)) (bad_number_lem k b s.1) (λ j q. good_number j (g j q)) in
       sizes_pass s _ ∙ rw (none, le-ltb (length p.classes) 256 (omega (arith, s.0.0.0.0.1)), at, lt-ltb k 256 l)
 
   named : (f : Fault) → Names p f → first_fault p ≡ f

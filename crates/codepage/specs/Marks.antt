@@ -1,5 +1,5 @@
 -- Definitions that the shape test's contracts cite, and that no promise does.
-use Rattle.std.specs.Prelude.{Bool, true, false, ◌&&◌, List, ◌⊎◌, ◌≡◌, ℕ, ◌<◌, ◌≤◌, ◌/◌, ◌%◌, leb, eqb}
+use Rattle.std.specs.Prelude.{Bool, true, false, ◌&&◌, List, ◌≡◌, ℕ, ◌<◌, ◌≤◌, ◌/◌, ◌%◌, leb, eqb}
 use Rattle.codepage.specs.CodePage.{entry_at, is_lead}
 
 -- 1 for a place that has something, else 0

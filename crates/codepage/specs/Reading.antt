@@ -1,6 +1,6 @@
 -- Document 01, "Reading one code from bytes" and "Reading one unit for bytes", as amended by CR 2 and CR 5: what a code means,
 -- with no policy. docs/RULES.md, "Reading bytes" and "Reading units".
-use Rattle.std.specs.Prelude.{Bool, true, false, ◌&&◌, ◌||◌, List, [], ◌∷◌, ◌++◌, ℕ, zero, suc, ◌+◌, ◌*◌, ◌/◌, ◌%◌, leb, eqb, length}
+use Rattle.std.specs.Prelude.{Bool, true, ◌&&◌, ◌||◌, List, [], ◌∷◌, ◌++◌, ℕ, ◌+◌, ◌*◌, ◌/◌, ◌%◌, leb, eqb, length}
 use Rattle.std.proofs.Math.Option.{Option, none, some}
 use Rattle.codepage.specs.CodePage.{pick, entry_at, is_single, is_lead, is_trail, leads_below}
 use Rattle.codepage.specs.declared.Kind.{Kind}

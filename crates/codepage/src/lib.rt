@@ -6,6 +6,9 @@
 //     let fault = codepage::shape_report(numbers, classes, singles, pairs, index, blocks);
 //
 // The other functions are small questions about a class.
+
+#![tactic(auto)]
+
 pub mod marks;
 mod scans;
 pub mod shape;
@@ -15,7 +18,7 @@ ghost use Rattle.codepage.specs.CodePage.{code_page, is_single, is_lead, is_trai
 ghost use Rattle.codepage.specs.declared.Fault.TheVariants.{Good};
 
 // The numbers of a table set.
-#[derive(Drop)]
+#[derive(Clone, Copy)]
 pub struct Numbers {
     pub page: u16,
     pub default_byte: u8,
@@ -23,7 +26,7 @@ pub struct Numbers {
 }
 
 // What the shape report says: the shape is good, or its first bad place.
-#[derive(Drop)]
+#[derive(Clone, Copy)]
 pub enum Fault {
     Good,
     // The page is 0.
@@ -43,7 +46,7 @@ pub enum Fault {
 }
 
 // Why a code has no character.
-#[derive(Drop)]
+#[derive(Clone, Copy)]
 pub enum Kind {
     UndefinedSingle,
     UndefinedPair,
@@ -51,7 +54,7 @@ pub enum Kind {
 }
 
 // What a table says of a code: its character (in encoding, of a unit: its code), or none and why.
-#[derive(Drop)]
+#[derive(Clone, Copy)]
 pub enum Lookup {
     Found(u16),
     Lacking(Kind),

@@ -21,7 +21,7 @@ fn high_mark(class: u8) -> u8
 }
 
 // What a scan of the classes finds: a mark, 0 where no byte has a bad class, and how many lead bytes there are from 80 on.
-#[derive(Drop)]
+#[derive(Clone, Copy)]
 pub struct ClassScan {
     pub mark: u8,
     pub leads: u8,

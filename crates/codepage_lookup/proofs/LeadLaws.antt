@@ -2,23 +2,21 @@
 use mathlib.Core.Bool.{Bool, true, false, not, ◌||◌, true≢false}
 use mathlib.Core.List.{List}
 use mathlib.Core.Path.{◌≡◌, refl, sym, ap, ap₂, ◌∙◌, subst}
-use Prim.Native.Nat.{ℕ, zero, suc, ◌+◌, ◌*◌, ◌/◌, ◌%◌, ◌^◌, ◌-◌, ◌<◌, ◌≤◌, min, max}
-use native.Mathlib.Nat.{pow-suc, mul_assoc, add-mul, mod-eq_of_lt, mod-lt}
+use Prim.Native.Nat.{ℕ, zero, suc, ◌+◌, ◌*◌, ◌/◌, ◌%◌, ◌^◌, ◌-◌, ◌<◌, ◌≤◌}
+use native.Mathlib.Nat.{pow-suc, mul_assoc, mul_comm, add-mul, mod-eq_of_lt, mod-lt}
 use native.Mathlib.Omega.{arith}
-use lib.Bits.{bit_and, bit_or, and_mask}
-use lib.Count.{ones, ones_step, ones_cat, ones-le, ones-ones, count_leading_zeros, count_trailing_zeros, under, leading_length, trailing_le, trailing_of_zero}
+use lib.Bits.{bit_and, bit_or, and_mask, and_block}
+use lib.Count.{ones, ones_step, ones_cat, ones-le, count_leading_zeros, count_trailing_zeros, under, leading_length, trailing_le, trailing_of_zero}
 use lib.Dec.{ltb, eqb}
-use lib.Pow.{pow_pos, pow_mono, pow-add, shl_lt, split as pow_split, low as pow_low, high as pow_high, shr_lt, ones_lt, ones_split}
+use lib.Pow.{pow_pos, pow_mono, pow-add, shl_lt, split as pow_split, low as pow_low}
 use lib.ListN.{length, get_or-eq_default}
-use borrow.Author.Tests.{lt-ltb, le-ltb, ltb-true, ltb-false, eqb-true, eqb-false, eq-eqb, ne_eqb}
-use Rattle.codepage.specs.CodePage.{CodePage, GoodShape, pick, entry_at, is_known, is_lead, leads_below}
+use borrow.Author.Tests.{ltb-true, ltb-false, eqb-true}
+use Rattle.codepage.specs.CodePage.{CodePage, GoodShape, entry_at, is_known, is_lead, leads_below}
 use Rattle.codepage.specs.Marks.{mark_of, NoLowLead}
 use Rattle.codepage.proofs.MarkLaws.{mark_le, or_else, all_below, all_below_lem, below_next, below_steps, below_same, none_low}
-use Rattle.codepage_lookup.specs.Profile.{lead_bits, digit, DigitsFrom, across, LeadColumns, leads_as, LeadsAt, KnownClasses, ones_below, block_of, side_by_side}
-use Rattle.codepage_lookup.specs.Words.{WordAt}
+use Rattle.codepage_lookup.specs.Profile.{lead_bits, leads_as, LeadsAt, KnownClasses, ones_below, block_of, side_by_side}
+use Rattle.codepage_lookup.specs.Words.{word_in, WordAt}
 use Rattle.codepage_lookup.specs.declared.profile.Leads.{Leads}
-use Rattle.codepage_lookup.proofs.DigitLaws.{digit_lt, none_digit, and_digit, or_digit, shr_digit, shl_digit, shl_none, mod_digit, same_digits}
-use Rattle.codepage_lookup.proofs.WordLaws.{word_digit}
 
 -- ---- digits
 half_of : (m n : ℕ) → m ≤ 1 → (m + 2 * n) / 2 ≡ n
@@ -59,22 +57,9 @@ module _ (cs : List ℕ) where
   bits_step from n = refl
 
   -- no bytes, no bits
-  bits_none : (from : ℕ) → lead_bits cs from 0 ≡ 0
+  pub bits_none : (from : ℕ) → lead_bits cs from 0 ≡ 0
   unfolding lead_bits
   bits_none from = refl
-
-  -- each bit is a byte's
-  bits_digit : (from n k : ℕ) → k < n → digit (lead_bits cs from n) k ≡ bit (from + k)
-  unfolding digit
-  bits_digit from zero k h = absurd (omega arith)
-  bits_digit from (suc n) zero h =
-      let at : from + 0 ≡ from = omega arith in
-      rw at (omega (arith, bits_step from n, bit_le from))
-  bits_digit from (suc n) (suc k) h =
-      let at : suc from + k ≡ from + suc k = omega arith in
-      let next : suc k ≡ 1 + k = omega arith in
-      let half : lead_bits cs from (suc n) / 2 ≡ lead_bits cs (suc from) n = omega (arith, bits_step from n, bit_le from) in
-      ap (digit (lead_bits cs from (suc n))) next ∙ sym (shr_digit (lead_bits cs from (suc n)) 1 k) ∙ ap (λ (x : ℕ). digit x k) half ∙ bits_digit (suc from) n k (omega arith) ∙ ap bit at
 
   -- the bits of n bytes are a number below 2^n
   pub bits_lt : (from n : ℕ) → lead_bits cs from n < 2 ^ n
@@ -84,6 +69,21 @@ module _ (cs : List ℕ) where
   below_bit : (byte : ℕ) → byte < length cs → leads_below cs (byte + 1) ≡ leads_below cs byte + bit byte
   unfolding bit
   below_bit byte h = below_next cs byte h
+
+  -- the bits of some bytes, and those of the bytes behind them
+  pub bits_join : (from a b : ℕ) → lead_bits cs from (a + b) ≡ lead_bits cs from a + 2 ^ a * lead_bits cs (from + a) b
+  bits_join from zero b =
+      let at : from + 0 ≡ from = omega arith in
+      let count : 0 + b ≡ b = omega arith in
+      rw (at, count) (omega (arith, bits_none from))
+  bits_join from (suc a) b =
+      let at : suc from + a ≡ from + suc a = omega arith in
+      let count : suc a + b ≡ suc (a + b) = omega arith in
+      let rest : lead_bits cs (suc from) (a + b) ≡ lead_bits cs (suc from) a + 2 ^ a * lead_bits cs (from + suc a) b =
+      bits_join (suc from) a b ∙ ap (λ (x : ℕ). lead_bits cs (suc from) a + 2 ^ a * lead_bits cs x b) at in
+      let twice : 2 ^ suc a * lead_bits cs (from + suc a) b ≡ 2 * (2 ^ a * lead_bits cs (from + suc a) b) =
+      ap (λ (x : ℕ). x * lead_bits cs (from + suc a) b) (pow-suc 2 a ∙ mul_comm (2 ^ a) 2) ∙ mul_assoc 2 (2 ^ a) (lead_bits cs (from + suc a) b) in
+      ap (lead_bits cs from) count ∙ omega (arith, bits_step from (a + b), bits_step from a, rest, twice)
 
   -- the ones below a place are the leads of the bytes before it
   pub bits_ones : (from n k : ℕ) → k ≤ n → from + n ≤ length cs → leads_below cs (from + k) ≡ leads_below cs from + ones (lead_bits cs from n % 2 ^ k)
@@ -208,10 +208,6 @@ never : (t : Bool) → (t ≡ true → ⊥) → t ≡ false
 never true n = absurd (n refl)
 never false n = refl
 
-always : (t : Bool) → (t ≡ false → ⊥) → t ≡ true
-always true n = refl
-always false n = absurd (n refl)
-
 -- among 64 bytes with so many leads, none before the place `first` and none from the place `end` on
 module _ (cs : List ℕ) (from first end count : ℕ) (fits : from + 64 ≤ length cs) (total : leads_below cs (from + 64) ≡ leads_below cs from + count)
     (before : (k : ℕ) → k < first → k < 64 → is_lead (entry_at cs (from + k)) ≡ false) (behind : (k : ℕ) → end ≤ k → k < 64 → is_lead (entry_at cs (from + k)) ≡ false) where
@@ -232,8 +228,8 @@ module _ (cs : List ℕ) (from first end count : ℕ) (fits : from + 64 ≤ leng
       omega (arith, total, rw at at some, rw all at none)
 
   -- where there is no room for a gap, a lead's block is its distance to the first place
-  side_by_side : end ≤ 64 → end ≤ first + count → (k : ℕ) → k < 64 → is_lead (entry_at cs (from + k)) ≡ true → leads_below cs (from + k) + first ≡ leads_below cs from + k
-  side_by_side l r k b e = by_first (ltb k first) refl (ltb k end) refl
+  side_by_side_lem : end ≤ 64 → end ≤ first + count → (k : ℕ) → k < 64 → is_lead (entry_at cs (from + k)) ≡ true → leads_below cs (from + k) + first ≡ leads_below cs from + k
+  side_by_side_lem l r k b e = by_first (ltb k first) refl (ltb k end) refl
     where
       by_first : (s : Bool) → ltb k first ≡ s → (t : Bool) → ltb k end ≡ t → leads_below cs (from + k) + first ≡ leads_below cs from + k
       by_first true p t q = absurd (true≢false (sym e ∙ before k (ltb-true k first p) b))
@@ -254,86 +250,8 @@ run_block cs from fits run k b e = by_zero (eqb (lead_bits cs from 64) 0) refl
         let sum : ℕ = count_leading_zeros 64 (lead_bits cs from 64) + ones (lead_bits cs from 64) + count_trailing_zeros 64 (lead_bits cs from 64) in
         let digits : sum ≡ 64 = eqb-true sum 64 (or_else (eqb (lead_bits cs from 64) 0) (eqb sum 64) q run) in
         let size = leading_length 64 (lead_bits cs from 64) (bits_lt cs from 64) in
-        side_by_side cs from (count_trailing_zeros 64 (lead_bits cs from 64)) size.0 (ones (lead_bits cs from 64)) fits (all_ones cs from 64 fits) (λ j l o. none_below cs from 64 j l)
+        side_by_side_lem cs from (count_trailing_zeros 64 (lead_bits cs from 64)) size.0 (ones (lead_bits cs from 64)) fits (all_ones cs from 64 fits) (λ j l o. none_below cs from 64 j l)
         (λ j l o. none_above cs from 64 size.0 j size.2 l o) (omega (arith, size.1)) (omega (arith, size.1, digits)) k b e
-
--- the digits below the trailing zeros' end are none
-none_trailing : (k n : ℕ) → n % 2 ^ count_trailing_zeros k n ≡ 0
-unfolding count_trailing_zeros
-none_trailing zero n = omega arith
-none_trailing (suc k) n = by_odd (n % 2) refl (none_trailing k (n / 2))
-  where
-    by_odd : (m : ℕ) → n % 2 ≡ m → n / 2 % 2 ^ count_trailing_zeros k (n / 2) ≡ 0 → n % 2 ^ under m (count_trailing_zeros k (n / 2)) ≡ 0
-    by_odd zero e none =
-        let even : n ≡ 0 + 2 * (n / 2) = omega arith in
-        ap (λ (x : ℕ). x % 2 ^ suc (count_trailing_zeros k (n / 2))) even ∙ rest_below 0 (n / 2) (count_trailing_zeros k (n / 2)) (omega arith) ∙ omega (arith, none)
-    by_odd (suc m) e none = omega arith
-
--- a word that is not 0 has a one between the zeros below and above
-pub zeros_lt : (word : ℕ) → (word ≡ 0 → ⊥) → word < 2 ^ 64 → count_trailing_zeros 64 word + count_leading_zeros 64 word < 64
-zeros_lt word some h =
-    let size = leading_length 64 word h in
-    let low = count_trailing_zeros 64 word in
-    let inside : 2 ^ low ≤ word = ltb-false word (2 ^ low) (never (ltb word (2 ^ low)) (λ q. some (sym (mod-eq_of_lt (ltb-true word (2 ^ low) q)) ∙ none_trailing 64 word))) in
-    let above : ltb low size.0 ≡ false → ⊥ = λ q. omega (arith, inside, size.2, pow_mono {i = size.0} {j = low} (ltb-false low size.0 q)) in
-    omega (arith, size.1, ltb-true low size.0 (always (ltb low size.0) above))
-
--- a number of k digits that are all ones
-all_set : (k n : ℕ) → n < 2 ^ k → ones n ≡ k → n ≡ 2 ^ k - 1
-all_set zero n h e = omega arith
-all_set (suc k) n h e =
-    let half : n / 2 < 2 ^ k = omega (arith, h, pow-suc 2 k) in
-    let most = ones-le k (n / 2) half in
-    let rest : n / 2 ≡ 2 ^ k - 1 = all_set k (n / 2) half (omega (arith, e, ones_step n, most)) in
-    omega (arith, rest, e, ones_step n, most, pow-suc 2 k, pow_pos k)
-
--- all ones, shifted down
-ones_shifted : (by : ℕ) → by < 64 → 0xFFFFFFFFFFFFFFFF / 2 ^ by ≡ 2 ^ (64 - by) - 1
-ones_shifted by fewer =
-    let size : 64 - by + by ≡ 64 = omega (arith, fewer) in
-    let split : 2 ^ 64 - 1 ≡ (2 ^ (64 - by) - 1) * 2 ^ by + (2 ^ by - 1) = ap (λ (k : ℕ). 2 ^ k - 1) (sym size) ∙ ones_split (64 - by) by in
-    ap (λ (x : ℕ). x / 2 ^ by) split ∙ pow_high (2 ^ (64 - by) - 1) by (ones_lt by)
-
--- no one of a word is among the zeros below
-ones_above : (word : ℕ) → ones word ≡ ones (word / 2 ^ count_trailing_zeros 64 word)
-ones_above word =
-    let low = count_trailing_zeros 64 word in
-    let whole : word ≡ word / 2 ^ low * 2 ^ low + 0 = sym (pow_split word low) ∙ ap (λ (x : ℕ). word / 2 ^ low * 2 ^ low + x) (none_trailing 64 word) in
-    ap ones whole ∙ ones_cat low (word / 2 ^ low) 0 (pow_pos low) ∙ omega (arith, ones_none)
-
--- the ones of a word stand side by side exactly if, without the zeros below, they are as many ones as there are digits between the
--- zeros below and above
-module _ (word : ℕ) (some : word ≡ 0 → ⊥) (h : word < 2 ^ 64) where
-  abbrev zeros : ℕ
-  zeros = count_trailing_zeros 64 word + count_leading_zeros 64 word
-
-  run_shifted : word / 2 ^ count_trailing_zeros 64 word ≡ 0xFFFFFFFFFFFFFFFF / 2 ^ zeros → side_by_side word ≡ true
-  unfolding side_by_side
-  run_shifted e =
-      let fewer = zeros_lt word some h in
-      let count : ones word ≡ 64 - zeros = ones_above word ∙ ap ones (e ∙ ones_shifted zeros fewer) ∙ ones-ones (64 - zeros) in
-      let sum : count_leading_zeros 64 word + ones word + count_trailing_zeros 64 word ≡ 64 = omega (arith, count, fewer) in
-      rw (ne_eqb word 0 some, eq-eqb _ _ sum)
-
-  run_between : side_by_side word ≡ true → word / 2 ^ count_trailing_zeros 64 word ≡ 0xFFFFFFFFFFFFFFFF / 2 ^ zeros
-  unfolding side_by_side
-  run_between run =
-      let fewer = zeros_lt word some h in
-      let sum : ℕ = count_leading_zeros 64 word + ones word + count_trailing_zeros 64 word in
-      let digits : sum ≡ 64 = eqb-true sum 64 (or_else (eqb word 0) (eqb sum 64) (ne_eqb word 0 some) run) in
-      let size = leading_length 64 word h in
-      let inside : word < 2 ^ (64 - zeros + count_trailing_zeros 64 word) = subst (λ (k : ℕ). word < 2 ^ k) (omega (arith, size.1, fewer)) size.2 in
-      all_set (64 - zeros) (word / 2 ^ count_trailing_zeros 64 word) (shr_lt (64 - zeros) (count_trailing_zeros 64 word) inside) (sym (ones_above word) ∙ omega (arith, digits, fewer))
-      ∙ sym (ones_shifted zeros fewer)
-
-  pub run_told : eqb (word / 2 ^ count_trailing_zeros 64 word) (0xFFFFFFFFFFFFFFFF / 2 ^ zeros) ≡ side_by_side word
-  run_told = by (eqb (word / 2 ^ count_trailing_zeros 64 word) (0xFFFFFFFFFFFFFFFF / 2 ^ zeros)) (side_by_side word) refl refl
-    where
-      by : (a b : Bool) → eqb (word / 2 ^ count_trailing_zeros 64 word) (0xFFFFFFFFFFFFFFFF / 2 ^ zeros) ≡ a → side_by_side word ≡ b → a ≡ b
-      by true true q r = refl
-      by true false q r = absurd (true≢false (sym (run_shifted (eqb-true _ _ q)) ∙ r))
-      by false true q r = absurd (eqb-false _ _ q (run_between r))
-      by false false q r = refl
 
 -- the ones of a word that stand side by side end within it
 pub run_within : (word : ℕ) → side_by_side word ≡ true → count_trailing_zeros 64 word + ones word ≤ 64
@@ -349,9 +267,9 @@ run_within word run = by_zero (eqb word 0) refl
         let digits : sum ≡ 64 = eqb-true sum 64 (or_else (eqb word 0) (eqb sum 64) q run) in
         omega (arith, digits)
 
--- the block of a lead is its distance to a byte
-abbrev pub Distance : (cs : List ℕ) (lead from : ℕ) → Type 0
-Distance cs lead from = (from ≤ lead) × (lead - from ≡ leads_below cs lead)
+-- the block of a lead as its distance to the byte `low`, less that from there to `high` where its bit 6 is set
+abbrev pub Distance : (cs : List ℕ) (lead low high : ℕ) → Type 0
+Distance cs lead low high = (low ≤ lead) × (low ≤ high) × ((high - low) * (lead / 64 % 2) ≤ lead - low) × (lead - low - (high - low) * (lead / 64 % 2) ≡ leads_below cs lead)
 
 -- the block of a lead as a distance, in the low word and in the high one
 module _ (cs : List ℕ) (lead : ℕ) (size : length cs ≡ 256) (e : is_lead (entry_at cs lead) ≡ true) where
@@ -387,121 +305,117 @@ module _ (cs : List ℕ) (lead : ℕ) (size : length cs ≡ 256) (e : is_lead (e
         subst (λ (x : Leads). side_by_side x.high ≡ true → (0xC0 + count_trailing_zeros 64 x.high ≤ lead) × (leads_below cs lead + (0xC0 + count_trailing_zeros 64 x.high) ≡ ones x.low + lead))
         (sym at.0) (high_distance at.1 h)
 
-    -- the same of both words
+    -- the same of both words: a lead of C0 to FF has bit 6
     pub in_runs : side_by_side l.low ≡ true → side_by_side l.high ≡ true → (low high : ℕ) → low ≡ 0x80 + count_trailing_zeros 64 l.low → high + ones l.low ≡ 0xC0 + count_trailing_zeros 64 l.high
-        → Distance cs lead (pick (ltb lead 0xC0) low high)
+        → Distance cs lead low high
     in_runs run₀ run₁ low high f g = by_word (ltb lead 0xC0) refl
       where
-        by_word : (t : Bool) → ltb lead 0xC0 ≡ t → Distance cs lead (pick t low high)
-        by_word true q =
-            let block = low_in_run (ltb-true lead 0xC0 q) run₀ in
-            (omega (arith, f, block), omega (arith, f, block))
-        by_word false q =
-            let block = high_in_run (ltb-false lead 0xC0 q) run₁ in
-            (omega (arith, g, block.0), omega (arith, g, block.0, block.1))
+        ordered : low ≤ high
+        ordered = omega (arith, f, g, run_within l.low run₀)
 
--- ---- the leads as digits
+        by_word : (t : Bool) → ltb lead 0xC0 ≡ t → Distance cs lead low high
+        by_word true q =
+            let below = ltb-true lead 0xC0 q in
+            let from : 0x80 ≤ lead = lead_high cs lead at.1 e in
+            let bit : lead / 64 % 2 ≡ 0 = omega arith in
+            let block = low_in_run below run₀ in
+            rw bit (omega (arith, f, block), ordered, omega arith, omega (arith, f, block))
+        by_word false q =
+            let from = ltb-false lead 0xC0 q in
+            let in_table : lead < 256 = subst (λ (n : ℕ). lead < n) size (lead_inside cs lead e) in
+            let bit : lead / 64 % 2 ≡ 1 = omega arith in
+            let block = high_in_run from run₁ in
+            rw bit (omega (arith, f, run_within l.low run₀), ordered, omega (arith, f, g, block.0, run_within l.low run₀), omega (arith, f, g, block.1, run_within l.low run₀))
+
+-- ---- eight classes as one word
 -- bit 1 of a known class tells a lead
 bit_right : ℕ → Bool
-bit_right class = not (is_known class) || eqb (digit class 1) (mark_of (is_lead class))
+bit_right class = not (is_known class) || eqb (bit_and class 2) (2 * mark_of (is_lead class))
 
 bit_right_lem : all_below bit_right 256 ≡ true
-unfolding bit_right is_known is_lead digit
+unfolding bit_right is_known is_lead
 bit_right_lem = refl
 
--- a mask of bit 1 of each byte, shifted down by one
-mask_right : ℕ → Bool
-mask_right place = eqb (digit 0x0202020202020202 (1 + place)) (pick (eqb (place % 8) 0) 1 0)
+class_bit : (class : ℕ) → class < 256 → is_known class ≡ true → bit_and class 2 ≡ 2 * mark_of (is_lead class)
+unfolding bit_right
+class_bit class h k =
+    let twice = 2 * mark_of (is_lead class) in
+    eqb-true _ _ (or_else (not (is_known class)) (eqb (bit_and class 2) twice) (ap not k) (all_below_lem bit_right 256 bit_right_lem class h))
 
-mask_right_lem : all_below mask_right 64 ≡ true
-unfolding mask_right digit
-mask_right_lem = refl
+class_at : (cs : List ℕ) (i : ℕ) → ((k : ℕ) → entry_at cs k < 256) → KnownClasses cs → i < 256 → bit_and (entry_at cs i) 2 ≡ 2 * bit cs i
+unfolding bit
+class_at cs i small known h = class_bit (entry_at cs i) (small i) (known i h)
 
-mask_digit : (place : ℕ) → place < 64 → digit 0x0202020202020202 (1 + place) ≡ pick (eqb (place % 8) 0) 1 0
-unfolding mask_right
-mask_digit place h = eqb-true _ _ (all_below_lem mask_right 64 mask_right_lem place h)
+-- a number's lowest digits, each in a byte of its own
+unfoldable spread : (count number : ℕ) → ℕ
+spread zero number = 0
+spread (suc count) number = number % 2 + 256 * spread count (number / 2)
 
--- what the columns of 64 bytes have at a place
-module _ (cs : List ℕ) (known : KnownClasses cs) where
-  class_digit : (i : ℕ) → entry_at cs i < 256 → i < 256 → digit (entry_at cs i) 1 ≡ bit cs i
-  unfolding bit bit_right
-  class_digit i small h = eqb-true _ _ (or_else (not (is_known (entry_at cs i))) (eqb (digit (entry_at cs i) 1) (mark_of (is_lead (entry_at cs i)))) (ap not (known i h)) (all_below_lem bit_right 256 bit_right_lem (entry_at cs i) small))
+-- so many bytes with bit 1 alone
+unfoldable twos : ℕ → ℕ
+twos zero = 0
+twos (suc count) = 2 + 256 * twos count
 
-  -- eight classes, read as a word: the leads are the lowest bits of the bytes
-  eight_marks : (i word place : ℕ) → WordAt cs i word → i + 8 ≤ 256 → place < 64 → digit (bit_and word 0x0202020202020202 / 2 ^ 1) place ≡ pick (eqb (place % 8) 0) (bit cs (i + place / 8)) 0
-  eight_marks i word place a h l = value ∙ by_column (eqb (place % 8) 0) refl
-    where
-      value : digit (bit_and word 0x0202020202020202 / 2 ^ 1) place ≡ min (digit word (1 + place)) (pick (eqb (place % 8) 0) 1 0)
-      value = shr_digit (bit_and word 0x0202020202020202) 1 place ∙ and_digit word 0x0202020202020202 (1 + place) ∙ ap (min (digit word (1 + place))) (mask_digit place l)
+-- a byte at a time
+mask_step : (e word mask : ℕ) → e < 256 → bit_and (e + 256 * word) (2 + 256 * mask) ≡ 256 * bit_and word mask + bit_and e 2
+mask_step e word mask h =
+    let l : e + 256 * word ≡ word * 2 ^ 8 + e = omega arith in
+    let r : 2 + 256 * mask ≡ mask * 2 ^ 8 + 2 = omega arith in
+    ap₂ bit_and l r ∙ and_block 8 word mask e 2 h (omega arith) ∙ omega arith
 
-      by_column : (t : Bool) → eqb (place % 8) 0 ≡ t → min (digit word (1 + place)) (pick t 1 0) ≡ pick t (bit cs (i + place / 8)) 0
-      by_column true q =
-          let first : place % 8 ≡ 0 = eqb-true (place % 8) 0 q in
-          let row : (1 + place) / 8 ≡ place / 8 = omega arith in
-          let column : (1 + place) % 8 ≡ 1 = omega arith in
-          let byte : digit word (1 + place) ≡ digit (entry_at cs (i + place / 8)) 1 =
-          ap (λ (x : ℕ). digit x (1 + place)) a.value ∙ word_digit cs a.bytes 8 i (1 + place) (omega arith) ∙ ap₂ (λ (x y : ℕ). digit (entry_at cs (i + x)) y) row column in
-          omega (arith, byte, class_digit (i + place / 8) (a.bytes (i + place / 8)) (omega arith), digit_lt word (1 + place))
-      by_column false q = omega arith
+-- the bits 1 of a word of known classes are its leads, each in its byte
+word_leads : (cs : List ℕ) (n i : ℕ) → ((k : ℕ) → entry_at cs k < 256) → KnownClasses cs → i + n ≤ 256 → bit_and (word_in n cs i) (twos n) ≡ 2 * spread n (lead_bits cs i n)
+unfolding word_in twos spread
+word_leads cs zero i small known h = refl
+word_leads cs (suc n) i small known h =
+    let rest = lead_bits cs (suc i) n in
+    let next : i + 1 ≡ suc i = omega arith in
+    let here = class_at cs i small known (omega arith) in
+    let later : bit_and (word_in n cs (i + 1)) (twos n) ≡ 2 * spread n rest = ap (λ (x : ℕ). bit_and (word_in n cs x) (twos n)) next ∙ word_leads cs n (suc i) small known (omega arith) in
+    let low : lead_bits cs i (suc n) % 2 ≡ bit cs i = ap (λ (x : ℕ). x % 2) (bits_step cs i n) ∙ odd_of (bit cs i) rest (bit_le cs i) in
+    let high : lead_bits cs i (suc n) / 2 ≡ rest = ap (λ (x : ℕ). x / 2) (bits_step cs i n) ∙ half_of (bit cs i) rest (bit_le cs i) in
+    mask_step (entry_at cs i) (word_in n cs (i + 1)) (twos n) (small i) ∙ omega (arith, here, later, low, ap (spread n) high)
 
--- the mark of a byte among 64 from one on, 0 past them
-pub among : (cs : List ℕ) (from at : ℕ) → ℕ
-among cs from at = pick (ltb at 64) (bit cs (from + at)) 0
+-- eight digits, each in a byte of its own, brought side by side: those of the upper four bytes go between the others, and a product adds up all at one place
+abbrev folded : ℕ → ℕ
+folded marks = bit_and (bit_or marks (marks / 2 ^ 28)) 0x11111111
 
--- the columns of the bytes from the place i on
-abbrev pub ColumnsFrom : (cs : List ℕ) (from i columns : ℕ) → Type 0
-ColumnsFrom cs from i columns = (place : ℕ) → place < 64 → digit columns place ≡ among cs from (i + across place)
+abbrev gathered : ℕ → ℕ
+gathered marks = bit_and (folded marks * 0x204081 / 2 ^ 21) 0xFF
 
-module _ (cs : List ℕ) (from : ℕ) where
-  among_in : (at : ℕ) → at < 64 → among cs from at ≡ bit cs (from + at)
-  unfolding among
-  among_in at h = rw (lt-ltb at 64 h)
+gather_right : ℕ → Bool
+gather_right number = eqb (gathered (spread 8 number)) number
 
-  among_past : (at : ℕ) → 64 ≤ at → among cs from at ≡ 0
-  unfolding among
-  among_past at h = rw (le-ltb at 64 h)
+gather_right_lem : all_below gather_right 256 ≡ true
+unfolding gather_right spread
+gather_right_lem = refl
 
-  -- of no bytes, and of all
-  pub columns_none : ColumnsFrom cs from 64 0
-  columns_none place h = none_digit place ∙ sym (among_past (64 + across place) (omega arith))
+gather_spread : (number : ℕ) → number < 256 → gathered (spread 8 number) ≡ number
+unfolding gather_right
+gather_spread number h = eqb-true _ _ (all_below_lem gather_right 256 gather_right_lem number h)
 
-  pub columns_all : (columns : ℕ) → ColumnsFrom cs from 0 columns → LeadColumns cs from columns
-  unfolding bit
-  columns_all columns met place h =
-      let at : 0 + across place ≡ across place = omega arith in
-      met place h ∙ ap (among cs from) at ∙ among_in (across place) (omega arith)
+-- eight known classes, read as a word, give the bits of their leads
+pub eight_leads : (cs : List ℕ) (i word : ℕ) → WordAt cs i word → KnownClasses cs → i + 8 ≤ 256 → gathered (bit_and word 0x0202020202020202 / 2) ≡ lead_bits cs i 8
+unfolding twos
+eight_leads cs i word a known h =
+    let lead_bits = lead_bits cs i 8 in
+    let marks : bit_and word 0x0202020202020202 ≡ 2 * spread 8 lead_bits = ap (λ (x : ℕ). bit_and x 0x0202020202020202) a.value ∙ word_leads cs 8 i a.bytes known h in
+    let half : bit_and word 0x0202020202020202 / 2 ≡ spread 8 lead_bits = omega (arith, marks) in
+    ap gathered half ∙ gather_spread lead_bits (bits_lt cs i 8)
 
-  -- eight bytes more
-  pub columns_more : KnownClasses cs → from + 64 ≤ 256 → (i columns word : ℕ) → 8 ≤ i → i ≤ 64 → i % 8 ≡ 0 → ColumnsFrom cs from i columns → WordAt cs (from + (i - 8)) word
-      → ColumnsFrom cs from (i - 8) (bit_or (columns * 2 ^ 1 % 2 ^ 64) (bit_and word 0x0202020202020202 / 2 ^ 1))
-  columns_more known fits i columns word h l even met a place b =
-      or_digit (columns * 2 ^ 1 % 2 ^ 64) (bit_and word 0x0202020202020202 / 2 ^ 1) place
-      ∙ ap₂ max (mod_digit (columns * 2 ^ 1) 64 place b) (eight_marks cs known (from + (i - 8)) word place a (omega arith) b) ∙ by_column (eqb (place % 8) 0) refl (ltb place 1) refl
-    where
-      by_column : (t : Bool) → eqb (place % 8) 0 ≡ t → (s : Bool) → ltb place 1 ≡ s
-          → max (digit (columns * 2 ^ 1) place) (pick t (bit cs (from + (i - 8) + place / 8)) 0) ≡ among cs from (i - 8 + across place)
-      by_column true q s r =
-          let first : place % 8 ≡ 0 = eqb-true (place % 8) 0 q in
-          let at : from + (i - 8 + across place) ≡ from + (i - 8) + place / 8 = omega arith in
-          omega (arith, above s r first, among_in (i - 8 + across place) (omega arith), ap (bit cs) at)
-        where
-          above : (s : Bool) → ltb place 1 ≡ s → place % 8 ≡ 0 → digit (columns * 2 ^ 1) place ≡ 0
-          above true r first = shl_none columns 1 place (ltb-true place 1 r)
-          above false r first =
-              let past : 1 ≤ place = ltb-false place 1 r in
-              shl_digit columns 1 place past ∙ met (place - 1) (omega arith) ∙ among_past (i + across (place - 1)) (omega arith)
-      by_column false q s r =
-          let later : place % 8 ≡ 0 → ⊥ = eqb-false (place % 8) 0 q in
-          let at : i + across (place - 1) ≡ i - 8 + across place = omega arith in
-          omega (arith, shl_digit columns 1 place (omega arith), met (place - 1) (omega arith), ap (among cs from) at)
-
-  -- the transposed columns are the leads in their order
-  pub lead_word : (columns word : ℕ) → LeadColumns cs from columns → DigitsFrom across columns word → word < 2 ^ 64 → word ≡ lead_bits cs from 64
-  unfolding bit
-  lead_word columns word met moved fits =
-      same_digits 64 word (lead_bits cs from 64) fits (bits_lt cs from 64) (λ k h.
-      let at : across (across k) ≡ k = omega arith in
-      moved k h ∙ met (across k) (omega arith) ∙ ap (λ (x : ℕ). bit cs (from + x)) at ∙ sym (bits_digit cs from 64 k h))
+-- ---- the words, made from the last byte on: shifted by eight, with the bits of the eight bytes before
+pub eight_more : (cs : List ℕ) (from i word eight : ℕ) → 8 ≤ i → i ≤ 64 → word ≡ lead_bits cs (from + i) (64 - i) → eight ≡ lead_bits cs (from + (i - 8)) 8
+    → word * 2 ^ 8 % 2 ^ 64 + eight ≡ lead_bits cs (from + (i - 8)) (64 - (i - 8))
+eight_more cs from i word eight h l met e =
+    let count : 8 + (64 - i) ≡ 64 - (i - 8) = omega arith in
+    let at : from + (i - 8) + 8 ≡ from + i = omega arith in
+    let join : lead_bits cs (from + (i - 8)) (64 - (i - 8)) ≡ eight + 256 * word =
+    ap (lead_bits cs (from + (i - 8))) (sym count) ∙ bits_join cs (from + (i - 8)) 8 (64 - i)
+    ∙ ap₂ (λ (x y : ℕ). x + 256 * y) (sym e) (ap (λ (x : ℕ). lead_bits cs x (64 - i)) at ∙ sym met) in
+    let most : 2 ^ (64 - i) ≤ 2 ^ 56 = pow_mono {i = 64 - i} {j = 56} (omega arith) in
+    let small : word < 2 ^ 56 = omega (arith, met, bits_lt cs (from + i) (64 - i), most) in
+    let kept : word * 2 ^ 8 % 2 ^ 64 ≡ 256 * word = omega (arith, small) in
+    omega (arith, join, kept)
 
 -- what stands below a place, with all from it on shifted out of the word
 pub shifted_ones : (word place : ℕ) → place < 64 → ones (word * 2 ^ (63 - place) % 2 ^ 64 * 2 % 2 ^ 64) ≡ ones_below word place

@@ -1,18 +1,16 @@
 -- Rows of the count of ones: leads at the words' ends, all leads, and why no lead may be below 80.
-use mathlib.Core.Bool.{Bool, true, false, not, ◌||◌}
+use mathlib.Core.Bool.{true, not, ◌||◌}
 use mathlib.Core.List.{List, [], ◌∷◌}
-use mathlib.Core.Path.{◌≡◌, refl, sym, ◌∙◌}
-use Prim.Native.Nat.{ℕ, zero, suc, ◌<◌}
-use native.Mathlib.Omega.{arith}
-use lib.Bits.{bit_and}
+use mathlib.Core.Path.{◌≡◌, refl}
+use Prim.Native.Nat.{ℕ, zero, suc}
 use lib.Count.{ones, ones_in}
-use lib.Dec.{leb, ltb, eqb}
-use lib.ListN.{length, take}
+use lib.Dec.{leb, eqb}
+use lib.ListN.{length}
 use borrow.Author.Tests.{not-true}
 use Rattle.codepage.specs.CodePage.{pick, entry_at, is_lead, leads, leads_below}
-use Rattle.codepage.specs.Marks.{mark_of, NoLowLead}
+use Rattle.codepage.specs.Marks.{NoLowLead}
 use Rattle.codepage.proofs.MarkLaws.{all_below, all_below_lem}
-use Rattle.codepage_lookup.specs.Profile.{lead_bits, leads_as, ones_below, block_of}
+use Rattle.codepage_lookup.specs.Profile.{lead_bits, leads_as, block_of}
 use Rattle.codepage_lookup.proofs.LeadLaws.{block_below}
 
 -- so many classes, by the byte, from one on

@@ -1,4 +1,3 @@
-pub mod DigitLaws
 pub mod WordLaws
 pub mod ProfileLaws
 pub mod LeadLaws

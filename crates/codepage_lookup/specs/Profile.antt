@@ -13,26 +13,6 @@ unfoldable pub lead_bits : (classes : List ℕ) (from count : ℕ) → ℕ
 lead_bits classes from zero = 0
 lead_bits classes from (suc count) = mark_of (is_lead (entry_at classes from)) + 2 * lead_bits classes (suc from) count
 
--- the binary digit of a number at a place
-unfoldable pub digit : (number place : ℕ) → ℕ
-digit number place = number / 2 ^ place % 2
-
--- a word of 64 digits that another has at other places: `from` tells for each place where its digit was
-abbrev pub DigitsFrom : (from : ℕ → ℕ) (word r : ℕ) → Type 0
-DigitsFrom from word r = (place : ℕ) → place < 64 → digit r place ≡ digit word (from place)
-
--- where the digit at a place was before the digits at a mask's places and those so many places above them were exchanged
-unfoldable pub exchanged_from : (mask by place : ℕ) → ℕ
-exchanged_from mask by place = pick (eqb (digit mask place) 1) (by + place) (pick (eqb (digit (mask * 2 ^ by) place) 1) (place - by) place)
-
--- the place on the other side of the diagonal, in a square of eight times eight
-abbrev pub across : ℕ → ℕ
-across place = 8 * (place % 8) + place / 8
-
--- the leads among 64 bytes from one on, as the digits of a word by columns: the byte of row k and column j is at row j and column k
-abbrev pub LeadColumns : (classes : List ℕ) (from r : ℕ) → Type 0
-LeadColumns classes from r = (place : ℕ) → place < 64 → digit r place ≡ mark_of (is_lead (entry_at classes (from + across place)))
-
 -- the leads of a page: those of 80 to BF, and those of C0 to FF
 abbrev pub leads_as : List ℕ → Leads
 leads_as classes = record { low = lead_bits classes 0x80 64; high = lead_bits classes 0xC0 64 }

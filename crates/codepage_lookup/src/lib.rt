@@ -1,5 +1,8 @@
 // Inner: what the tables say of a code, looked up by our own crates on tables whose shape was found good. No public calls.
 // (Document 01, "Reading one code from bytes" and "Reading one unit for bytes"; docs/RULES.md, "Reading bytes", "Reading units".)
+
+#![tactic(auto)]
+
 pub mod profile;
 pub mod words;
 
@@ -69,7 +72,7 @@ fn pair_entry(pairs: &[u16], block: usize, byte: u8) -> u16
 }
 
 // The code of a unit that waited, settled by the one after it: what it means, and how many units it takes after the first, 0 or 1.
-#[derive(Drop)]
+#[derive(Clone, Copy)]
 pub struct SettledCode {
     pub means: Lookup,
     pub more: usize,

@@ -1,17 +1,16 @@
 // What a call finds out about a page once, so that its loops ask less of each code. These are no public calls.
-ghost use Rattle.std.specs.Prelude.{◌≡◌, true, false, ℕ, ◌+◌, ◌*◌, ◌^◌, ◌≤◌, ◌<◌, ltb, length};
-ghost use Rattle.std.specs.Int.Bits.{bit_and};
+ghost use Rattle.std.specs.Prelude.{◌≡◌, true, false, ℕ, ◌+◌, ◌*◌, ◌≤◌, ◌<◌, length};
 ghost use Rattle.std.specs.Int.Count.{ones, count_trailing_zeros};
-ghost use Rattle.codepage.specs.CodePage.{pick, entry_at, is_single, is_lead, leads_below};
+ghost use Rattle.codepage.specs.CodePage.{entry_at, is_single, is_lead, leads_below};
 ghost use Rattle.codepage.specs.Reading.{byte_alone, unit_alone};
 ghost use Rattle.codepage.specs.Marks.{NoLowLead};
-ghost use Rattle.codepage_lookup.specs.Profile.{DigitsFrom, exchanged_from, across, LeadColumns, ones_below, block_of, side_by_side, KnownClasses, ClearPage, LeadsAt, NoCodes};
+ghost use Rattle.codepage_lookup.specs.Profile.{lead_bits, ones_below, block_of, side_by_side, KnownClasses, ClearPage, LeadsAt, NoCodes};
 
 use crate::words;
-use codepage::Lookup;
+use codepage::{Lookup, marks};
 
 // The lead bytes of a page as bits: byte 80 is the lowest of `low`, C0 the lowest of `high`.
-#[derive(Drop)]
+#[derive(Clone, Copy)]
 pub struct Leads {
     pub low: u64,
     pub high: u64,
@@ -32,7 +31,7 @@ fn singles_below(classes: &[u8], to: usize) -> bool
     let mut mark: u8 = 0;
     let mut i: usize = 0;
     while i < to {
-        mark = mark | single_mark(classes[i]);
+        mark = marks::larger(mark, single_mark(classes[i]));
         i += 1;
     }
     mark == 0
@@ -74,14 +73,14 @@ pub fn plain_bytes(classes: &[u8], singles: &[u16]) -> bool
     counts_up(singles, 0)
 }
 
-// FFFF where the class is a single's, else the entry: joined by `&`, such marks are FFFF only if every byte is a single or has no entry.
+// 0 for an entry that a byte of a class may have among the singles: any for a single, none for another. Else another number.
 fn entry_mark(class: u8, unit: u16) -> u16
-    ensures { result ≡ 0xFFFF → (unit ≡ 0xFFFF → ⊥) → is_single class ≡ true }
+    ensures { result ≡ 0 → (unit ≡ 0xFFFF → ⊥) → is_single class ≡ true }
 {
     if class & 0xFB == 1 {
-        return 0xFFFF;
+        return 0;
     }
-    unit
+    unit ^ 0xFFFF
 }
 
 // Whether no byte from 80 on but a single has an entry among the singles.
@@ -89,13 +88,13 @@ fn clear_from_80(classes: &[u8], singles: &[u16]) -> bool
     requires { (length classes.now ≡ 256) × (length singles.now ≡ 256) }
     ensures { result ≡ true → (byte : ℕ) → 0x80 ≤ byte → byte < 256 → (entry_at singles.now byte ≡ 0xFFFF → ⊥) → is_single (entry_at classes.now byte) ≡ true }
 {
-    let mut mark: u16 = 0xFFFF;
+    let mut mark: u16 = 0;
     let mut i: usize = 128;
     while i < 256 {
-        mark = mark & entry_mark(classes[i], singles[i]);
+        mark = mark | entry_mark(classes[i], singles[i]);
         i += 1;
     }
-    mark == 0xFFFF
+    mark == 0
 }
 
 // Whether every byte below 80 is a single whose character is itself, and the singles alone tell which bytes have a character alone.
@@ -178,49 +177,33 @@ pub fn codes_asked(bound: u16, index: &[u8], blocks: &[u16], piece: &[u16]) -> b
     no_surrogate_codes(index, blocks)
 }
 
-// Exchanges the bits at a mask's places with those `by` places above: where two differ, both are changed.
-fn exchanged(word: u64, mask: u64, by: u32) -> u64
-    requires { (by < 64) × (bit_and mask (mask * 2 ^ by) ≡ 0) }
-    ensures { DigitsFrom (exchanged_from mask by) word result }
-{
-    let differing = (word ^ (word >> by)) & mask;
-    word ^ differing ^ (differing << by)
-}
-
-// A word as a square of eight times eight bits, transposed: squares of one bit are exchanged first, then of two, then of four.
-fn transposed(word: u64) -> u64
-    ensures { DigitsFrom across word result }
-{
-    let ones = exchanged(word, 0x00AA00AA00AA00AA, 7);
-    let twos = exchanged(ones, 0x0000CCCC0000CCCC, 14);
-    exchanged(twos, 0x00000000F0F0F0F0, 28)
-}
-
-// The lead bytes among 64, as bits by columns: that of byte 8 k + j is bit 8 j + k. Eight are read at a time, the last first; bit 1 of a
-// known class tells a lead byte.
-fn lead_columns(classes: &[u8], from: usize) -> u64
-    requires classes_len { (length classes.now ≡ 256) × (from + 64 ≤ 256) }
+// The lead bytes among eight, as bits: the first is the lowest. Bit 1 of a known class tells a lead byte; the product brings the eight
+// bits, four and four first, side by side.
+fn eight_bits(classes: &[u8], from: usize) -> u64
+    requires classes_len { (length classes.now ≡ 256) × (from + 8 ≤ 256) }
     requires known_classes { KnownClasses classes.now }
-    ensures { LeadColumns classes.now from result }
+    ensures { result ≡ lead_bits classes.now from 8 }
 {
-    let mut columns: u64 = 0;
-    let mut i: usize = 64;
-    while 0 < i {
-        i -= 8;
-        let marks = (words::word_at(classes, from + i) & 0x0202020202020202) >> 1;
-        columns = (columns << 1) | marks;
-    }
-    columns
+    let word = words::word_at(classes, from);
+    let marks = (word & 0x0202020202020202) >> 1;
+    let folded = (marks | (marks >> 28)) & 0x11111111;
+    ((folded * 0x204081) >> 21) & 0xFF
 }
 
-// The lead bytes of a page: the transposed columns are in the order of the bytes.
+// The lead bytes of a page, met from the last on.
 pub fn leads_of(classes: &[u8]) -> Leads
     requires classes_len { length classes.now ≡ 256 }
     requires known_classes { KnownClasses classes.now × NoLowLead classes.now }
     ensures { LeadsAt classes.now result }
 {
-    let low = transposed(lead_columns(classes, 0x80));
-    let high = transposed(lead_columns(classes, 0xC0));
+    let mut low: u64 = 0;
+    let mut high: u64 = 0;
+    let mut i: usize = 64;
+    while 0 < i {
+        i -= 8;
+        low = (low << 8) + eight_bits(classes, 0x80 + i);
+        high = (high << 8) + eight_bits(classes, 0xC0 + i);
+    }
     Leads { low, high }
 }
 
@@ -251,15 +234,14 @@ pub fn block_counted(leads: Leads, lead: u8) -> usize
     ones_of(leads.low) + ones_below(leads.high, lead - 0xC0)
 }
 
-// Whether the ones of a word stand side by side: shifted to the lowest place, the word is as many ones as its zeros at both ends leave.
+// Whether the ones of a word stand side by side.
 fn is_run(word: u64) -> bool
     ensures { result ≡ side_by_side word }
 {
     if word == 0 {
         return true;
     }
-    let low = u64::trailing_zeros(word);
-    word >> low == 0xFFFFFFFFFFFFFFFF >> (low + u64::leading_zeros(word))
+    u64::leading_zeros(word) + u64::count_ones(word) + u64::trailing_zeros(word) == 64
 }
 
 // Whether those of both words do.
@@ -280,18 +262,8 @@ fn first_from(from: usize, word: u64) -> usize
     from + (u64::trailing_zeros(word) as usize)
 }
 
-// The one of two bytes from which the blocks of a lead byte's word are counted. It is chosen, as a value, so that no way is guessed.
-fn counted_from(lead: u8, low: usize, high: usize) -> usize
-    ensures { result ≡ pick (ltb lead 0xC0) low high }
-{
-    if lead < 0xC0 {
-        return low;
-    }
-    high
-}
-
-// The block of a lead byte where the ones of both words stand side by side: its distance to the first lead of its word, and as many
-// more as there are leads in the word below.
+// The block of a lead byte where the ones of both words stand side by side: its distance to the first lead, less the gap between the
+// words for a lead from C0 on. Bit 6 of a lead tells its word, so that nothing is asked.
 fn block_in_runs(classes: &[u8], leads: Leads, lead: u8) -> usize
     requires classes_len { (length classes.now ≡ 256) × (is_lead (entry_at classes.now lead) ≡ true) × LeadsAt classes.now leads }
     requires low_value { (side_by_side leads.low ≡ true) × (side_by_side leads.high ≡ true) }
@@ -299,7 +271,8 @@ fn block_in_runs(classes: &[u8], leads: Leads, lead: u8) -> usize
 {
     let low = first_from(0x80, leads.low);
     let high = first_from(0xC0, leads.high) - ones_of(leads.low);
-    (lead as usize) - counted_from(lead, low, high)
+    let byte = lead as usize;
+    byte - low - (high - low) * (byte / 64 % 2)
 }
 
 // The block of a lead byte, in loops: the compiler asks once whether there are gaps. `classes` serve the contract alone.

@@ -1,5 +1,8 @@
 // Inner: the code at a place of a byte text, read with no policy: its size, and what it means. Our own crates call it on tables whose
 // shape was found good. No public calls. (Document 02, CR 7, 8, 11 and 12; docs/RULES.md, "Reading bytes".)
+
+#![tactic(auto)]
+
 ghost use Rattle.std.specs.Prelude.{◌≡◌, true, ℕ, ◌+◌, ◌*◌, ◌≤◌, ◌<◌, length};
 ghost use Rattle.codepage.specs.CodePage.{entry_at, is_lead, leads_below};
 ghost use Rattle.codepage.specs.Reading.{decoder};
@@ -10,7 +13,7 @@ use codepage::Lookup;
 use codepage_lookup::profile::Leads;
 
 // A code: how many bytes it has, 1 or 2, and what it means.
-#[derive(Drop)]
+#[derive(Clone, Copy)]
 pub struct CodeRead {
     pub size: usize,
     pub means: Lookup,

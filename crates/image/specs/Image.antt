@@ -1,5 +1,5 @@
 -- A table image: a table set as bytes. All numbers are low byte first.
-use Rattle.std.specs.Prelude.{Bool, ◌&&◌, List, [], ◌∷◌, ◌++◌, ◌≡◌, ℕ, ◌+◌, ◌*◌, leb, eqb, length, take, drop}
+use Rattle.std.specs.Prelude.{Bool, ◌&&◌, List, [], ◌∷◌, ◌≡◌, ℕ, ◌+◌, ◌*◌, leb, eqb, length, take, drop}
 use Rattle.codepage.specs.CodePage.{pick, entry_at}
 use Rattle.codepage.specs.Lent.{over}
 use Rattle.codepage.specs.declared.Numbers.{Numbers}

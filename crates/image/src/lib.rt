@@ -4,6 +4,9 @@
 //     let loaded = image::load(bytes, classes, singles, pairs, index, blocks);
 //
 // `Loaded::Table(numbers, sizes)`: the fronts of the lent tables, `sizes` long, hold the image's. Else they are as before.
+
+#![tactic(auto)]
+
 ghost use Rattle.std.specs.Prelude.{◌≡◌, ◌+◌, ◌*◌, ◌≤◌, ◌<◌, ◌^◌, length};
 ghost use Rattle.codepage.specs.Lent.{over};
 ghost use Rattle.image.specs.Image.{two, four, numbers_of, sizes_of, zeros_kept, fit, end_of, is_image, part, units, rooms_of, load_of, LoadedAs};
@@ -11,7 +14,7 @@ ghost use Rattle.image.specs.Image.{two, four, numbers_of, sizes_of, zeros_kept,
 use codepage::Numbers;
 
 // How many elements each table has.
-#[derive(Drop)]
+#[derive(Clone, Copy)]
 pub struct Sizes {
     pub classes: usize,
     pub singles: usize,
@@ -21,7 +24,7 @@ pub struct Sizes {
 }
 
 // What reading an image answers.
-#[derive(Drop)]
+#[derive(Clone, Copy)]
 pub enum Loaded {
     // The table set: its numbers and the sizes of its tables.
     Table(Numbers, Sizes),

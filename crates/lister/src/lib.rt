@@ -4,6 +4,9 @@
 //     let mut cursor = Cursor::new();
 //     let listed = lister::write_line(numbers, classes, singles, pairs, index, blocks, cursor, out);
 //     // Listed::Line(length, next): out[..length] is the line, cursor = next; Listed::Done; or Listed::Refused(why): why.number()
+
+#![tactic(auto)]
+
 mod lines;
 mod records;
 
@@ -14,13 +17,13 @@ ghost use Rattle.lister.specs.Lister.{lister_number, first_line, list_of, Listed
 use codepage::Numbers;
 
 // Where to go on: a place among those that records can have.
-#[derive(Drop)]
+#[derive(Clone, Copy)]
 pub struct Cursor {
     pub place: usize,
 }
 
 // Why a line is not written.
-#[derive(Drop)]
+#[derive(Clone, Copy)]
 pub enum Refusal {
     // 10: the shape of the tables is not good.
     BadShape,
@@ -29,7 +32,7 @@ pub enum Refusal {
 }
 
 // What writing a line answers.
-#[derive(Drop)]
+#[derive(Clone, Copy)]
 pub enum Listed {
     // The length of the line, and where to go on.
     Line(usize, Cursor),

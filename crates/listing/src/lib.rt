@@ -8,6 +8,9 @@
 //     // Read::Accepted(next): progress = next; or Read::Refused(why): why.number()
 //     let ended = listing::end(progress);
 //     // Ended::Whole(numbers, sizes), or Ended::Refused(why)
+
+#![tactic(auto)]
+
 mod change;
 pub mod form;
 mod order;
@@ -20,21 +23,21 @@ ghost use Rattle.listing.specs.Tables.{listing_number, tables, tables_fit, readi
 use codepage::Numbers;
 
 // 128 bytes as bits.
-#[derive(Drop)]
+#[derive(Clone, Copy)]
 pub struct Half {
     pub low: u64,
     pub high: u64,
 }
 
 // 256 bytes as bits.
-#[derive(Drop)]
+#[derive(Clone, Copy)]
 pub struct Bytes {
     pub low: Half,
     pub high: Half,
 }
 
 // The record of a line.
-#[derive(Drop)]
+#[derive(Clone, Copy)]
 pub enum Record {
     // `P`: the page.
     Page(u16),
@@ -55,7 +58,7 @@ pub enum Record {
 }
 
 // The letter of the last record.
-#[derive(Drop)]
+#[derive(Clone, Copy)]
 pub enum Letter {
     Start,
     P,
@@ -68,7 +71,7 @@ pub enum Letter {
 }
 
 // What has been read of a listing.
-#[derive(Drop)]
+#[derive(Clone, Copy)]
 pub struct Progress {
     // The letter and the key of the last record.
     pub letter: Letter,
@@ -83,7 +86,7 @@ pub struct Progress {
 }
 
 // The sizes that the tables need.
-#[derive(Drop)]
+#[derive(Clone, Copy)]
 pub struct Sizes {
     pub classes: usize,
     pub singles: usize,
@@ -93,7 +96,7 @@ pub struct Sizes {
 }
 
 // Why a line or the end is refused.
-#[derive(Drop)]
+#[derive(Clone, Copy)]
 pub enum Refusal {
     // 22: the line breaks the form or order, or the end comes before `P` and `D`.
     BadLine,
@@ -102,7 +105,7 @@ pub enum Refusal {
 }
 
 // What reading a line answers.
-#[derive(Drop)]
+#[derive(Clone, Copy)]
 pub enum Read {
     // What has been read with this line.
     Accepted(Progress),
@@ -110,7 +113,7 @@ pub enum Read {
 }
 
 // What the end of a listing answers.
-#[derive(Drop)]
+#[derive(Clone, Copy)]
 pub enum Ended {
     // The numbers of the table set, and the sizes that its tables need.
     Whole(Numbers, Sizes),

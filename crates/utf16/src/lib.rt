@@ -1,4 +1,7 @@
 // Inner: UTF-16 units as bytes, low byte first.
+
+#![tactic(auto)]
+
 ghost use Rattle.std.specs.Prelude.{◌≡◌, ◌+◌, ◌*◌, ◌/◌, ◌%◌, ◌≤◌, min, length, take};
 ghost use Rattle.utf16.specs.Utf16.{utf16_bytes, utf16_units, LaidOver};
 

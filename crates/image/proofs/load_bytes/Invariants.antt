@@ -1,0 +1,12 @@
+use mathlib.Core.Path.{◌≡◌}
+use mathlib.Core.List.{◌++◌}
+use Prim.Native.Nat.{◌+◌, ◌-◌, ◌≤◌}
+use lib.ListN.{length, take, drop}
+use Rattle.image.specs.Image.{part}
+use Rattle.image.proofs.load_bytes.Given as goal
+
+abbrev pub invariant-loop-i : goal.invariant-loop-i
+invariant-loop-i l = (l.i ≤ l.count) × (l.at + l.count ≤ length l.bytes) × (l.count ≤ length l.initial.table) × (length l.table ≡ length l.initial.table) × (length (part l.bytes l.at l.count) ≡ l.count) × (l.table ≡ take l.i (part l.bytes l.at l.count) ++ drop l.i l.initial.table)
+
+abbrev pub decreases-loop-i : goal.decreases-loop-i
+decreases-loop-i l = l.count - l.i
