@@ -1,11 +1,11 @@
 -- The answers 0 to 3 of a call without its recursion: which codes were taken, and why it ended there. So a code is written
 -- whole or not at all, and its input is then unread.
-use mathlib.Core.Bool.{Bool, true, false, true≢false, false≢true}
+use mathlib.Core.Bool.{Bool, true, false}
 use mathlib.Core.List.{List, [], ◌∷◌, ◌++◌}
 use mathlib.Core.Logic.{◌↔◌, ◌⊎◌, inl, inr}
 use mathlib.Core.Option.{Option, none, some}
-use mathlib.Core.Path.{◌≡◌, refl, sym, ap, ◌∙◌, subst}
-use Prim.Native.Nat.{ℕ, ◌+◌, ◌-◌, ◌<◌, ◌≤◌}
+use mathlib.Core.Path.{◌≡◌, refl, sym, ap, ◌∙◌}
+use Prim.Native.Nat.{ℕ, ◌+◌, ◌-◌, ◌≤◌}
 use native.Mathlib.Omega.{arith}
 use lib.Dec.{leb}
 use lib.ListN.{length, length-append}
@@ -15,7 +15,7 @@ use mathlib.Core.List.{append-nil}
 use Rattle.codepage.specs.Reading.{Code, size_of, call_codes, left_pending}
 use Rattle.codepage.proofs.ReadingLaws.{sizes_of}
 use Rattle.engine.specs.Policies.{stopped_flag}
-use Rattle.engine.specs.Engine.{Effect, Converter, Room, limit, endless, fits, room_left, Fed, halt, after, stop_at, take_when, take_code, at_end, take_codes, feed_from}
+use Rattle.engine.specs.Engine.{Converter, Room, limit, endless, fits, room_left, Fed, halt, after, stop_at, take_when, take_code, at_end, take_codes, feed_from}
 use Rattle.engine.proofs.EngineLaws.{after_none, after_after}
 
 -- all that some codes write, and their flags

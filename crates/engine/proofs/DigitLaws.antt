@@ -6,15 +6,14 @@ use mathlib.Core.Path.{◌≡◌, refl, sym, ap, ◌∙◌}
 use Prim.Native.Nat.{ℕ}
 use lib.Dec.{eqb}
 use lib.ListN.{length}
-use Rattle.codepage.specs.CodePage.{CodePage, pick, entry_at}
+use Rattle.codepage.specs.CodePage.{CodePage, pick}
 use Rattle.codepage.specs.Reading.{lookup, is_surrogate, unit_code, unit_alone, bytes_of, encoder, Reader, Code}
 use Rattle.codepage.specs.declared.Kind.TheVariants.{UndefinedSingle, Invalid}
-use Rattle.codepage.specs.declared.Lookup.{Lookup}
 use Rattle.codepage.specs.declared.Lookup.TheVariants.{Found, Lacking}
 use Rattle.codepage.proofs.ReadingLaws.{by_units}
 use Rattle.engine.specs.declared.Direction.TheVariants.{Encoding}
 use Rattle.engine.specs.declared.Policy.{Policy}
-use Rattle.engine.specs.Policies.{action_of, flag_of}
+use Rattle.engine.specs.Policies.{action_of}
 use Rattle.engine.specs.Engine.{Effect, acted, effect_of, Converter, converter, converter_of, Room, room_left, Fed, halt, take_code, feed_from}
 use Rattle.engine.specs.Steps.{does_alone, does_together}
 use Rattle.engine.proofs.EngineLaws.{feed_wait, feed_one, feed_two, feed_alone, feed_end, feed_last, feed_stays}

@@ -1,12 +1,10 @@
 -- The program's numbers stand for the effects of the rules.
-use mathlib.Core.Bool.{Bool, true, false, ◌&&◌}
-use mathlib.Core.List.{List, [], ◌∷◌}
-use mathlib.Core.Path.{◌≡◌, refl, sym, ap, ◌∙◌}
-use Prim.Native.Nat.{ℕ, zero, suc, ◌+◌, ◌/◌, ◌%◌, ◌<◌, ◌≤◌}
+use mathlib.Core.Bool.{true, false}
+use mathlib.Core.Path.{◌≡◌, refl, ap, ◌∙◌}
+use Prim.Native.Nat.{ℕ, zero, suc, ◌%◌, ◌<◌, ◌≤◌}
 use native.Mathlib.Omega.{arith}
-use lib.Dec.{leb, eqb}
+use lib.Dec.{leb}
 use borrow.Author.Tests.{leb-true, le-leb, lt-leb}
-use Rattle.codepage.specs.CodePage.{pick}
 use Rattle.codepage.specs.Reading.{unit_of, bytes_of}
 use Rattle.codepage.specs.declared.Kind.{Kind}
 use Rattle.codepage.specs.declared.Kind.TheVariants.{UndefinedSingle, UndefinedPair, Invalid}
@@ -18,7 +16,7 @@ use Rattle.engine.specs.declared.policies.Action.{Action}
 use Rattle.engine.specs.declared.policies.Action.TheVariants.{Stop, Skip, Write}
 use Rattle.engine.specs.declared.policies.CodeEffect.{CodeEffect}
 use Rattle.engine.specs.Policies.{digit_of, flag_of, action_of, policy_allowed}
-use Rattle.engine.specs.Engine.{Effect, acted, effect_of}
+use Rattle.engine.specs.Engine.{acted, effect_of}
 use Rattle.engine.specs.Steps.{acted_as, unit_effect, byte_effect}
 
 unit_acted : (flag : ℕ) (action : Action) → unit_effect (acted_as flag action) ≡ acted flag action

@@ -9,7 +9,7 @@ use native.Mathlib.Numerals.{one-add}
 use native.Mathlib.Omega.{arith}
 use lib.ListN.{length, get_or, drop}
 use lib.Bits.{bit_or, or_step, or_zero_l}
-use Rattle.codepage.specs.Reading.{size_of, alone, together, settled, call_codes, left_pending, completed, waits_then, codes_at_end, as_units}
+use Rattle.codepage.specs.Reading.{size_of, settled, call_codes, left_pending, completed, waits_then, codes_at_end, as_units}
 use Rattle.codepage.proofs.ReadingLaws.{codes_settled, left_settled, by_units}
 use Rattle.engine.specs.Engine.{Effect, Converter, Room, endless, fits, room_left, Fed, halt, after, stop_at, take_when, take_code, take_codes, feed_from, feed}
 use Rattle.engine.specs.Steps.{does_alone, does_together, does_settled}

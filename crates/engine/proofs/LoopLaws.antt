@@ -1,20 +1,18 @@
 -- The ways of a code that is met: it stops the call, does not fit, or is taken.
-use mathlib.Core.Bool.{Bool, true, false}
+use mathlib.Core.Bool.{true, false}
 use mathlib.Core.Path.{◌≡◌, refl, sym, ap, ◌∙◌, subst}
 use mathlib.Core.List.{List, [], ◌++◌, append-nil}
-use mathlib.Core.Option.{Option, none, some}
 use Prim.Native.Nat.{ℕ, ◌+◌, ◌-◌, ◌<◌, ◌≤◌}
 use native.Mathlib.Nat.{add-zero}
 use native.Mathlib.Omega.{arith}
-use lib.ListN.{length, take, drop, length-append, take-append-drop}
+use lib.ListN.{length, take, drop, length-append}
 use lib.Seq.{length-take-le, drop-drop, sets, sets-eq, length-sets, take_at, drop_at}
 use lib.Bits.{bit_or, or_zero_r}
 use borrow.Author.Tests.{le-leb, lt-leb}
-use Rattle.engine.specs.Engine.{Effect, Converter, Room, limit, fits, room_left, Fed, halt, after, stop_at, take_code, feed_from}
-use Rattle.codepage.specs.Lent.{over}
-use Rattle.engine.specs.Steps.{sofar, ended, stopped_by, full_at, taken_by, Took, summary, Ends}
+use Rattle.engine.specs.Engine.{Effect, limit, fits, halt, after, stop_at}
+use Rattle.engine.specs.Steps.{sofar, ended, stopped_by, full_at, taken_by, Took}
 use Rattle.engine.specs.declared.progress.Progress.{Progress}
-use Rattle.engine.proofs.EngineLaws.{after_none, after_after, take_stop, take_fits, take_full, feed_end, feed_stays}
+use Rattle.engine.proofs.EngineLaws.{after_after, take_stop, take_fits, take_full}
 
 -- ---- the three ways of a code
 module _ (k : Effect) (n : ℕ) (s : Progress) (out : List ℕ) (h : s.written ≤ length out) where

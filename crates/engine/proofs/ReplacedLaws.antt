@@ -1,18 +1,17 @@
 -- How many codes a run under 555 replaces, by what it writes and what a run under 111 does.
-use mathlib.Core.Bool.{Bool, true, false}
+use mathlib.Core.Bool.{false}
 use mathlib.Core.List.{List, [], ◌∷◌}
-use mathlib.Core.Option.{Option, none, some}
+use mathlib.Core.Option.{none}
 use mathlib.Core.Path.{◌≡◌, refl}
 use Prim.Native.Nat.{ℕ, ◌+◌}
 use native.Mathlib.Omega.{arith}
 use lib.ListN.{length, length-append}
 use Rattle.codepage.specs.Reading.{Reader, Code, codes}
-use Rattle.codepage.specs.declared.Kind.{Kind}
 use Rattle.codepage.specs.declared.Kind.TheVariants.{UndefinedSingle, UndefinedPair, Invalid}
 use Rattle.codepage.specs.declared.Lookup.{Lookup}
 use Rattle.codepage.specs.declared.Lookup.TheVariants.{Found, Lacking}
 use Rattle.engine.specs.Policies.{action_of, replacing, skipping}
-use Rattle.engine.specs.Engine.{Effect, acted, effect_of, converter, endless, fits, room_left, Fed, halt, after, take_when, take_code, take_codes, whole, lacks, lacking_in}
+use Rattle.engine.specs.Engine.{Effect, effect_of, converter, endless, fits, room_left, Fed, halt, after, take_when, take_code, take_codes, whole, lacks, lacking_in}
 
 -- One code: what it does under 555 and under 111.
 record Replaced (found : Lookup) (k m : Effect) : Type 0 where

@@ -1,7 +1,7 @@
 -- Taking code after code: one engine for both directions, for a run call and for the whole reading.
 -- (Document 01, "Policies and flags", "One call of a run" and, for the whole reading, "The lists of demand 3".)
 -- docs/RULES.md, "Policies and flags", "A call of a run", "Lists of calls".
-use Rattle.std.specs.Prelude.{Bool, true, false, List, [], ◌∷◌, ◌++◌, ℕ, zero, suc, ◌+◌, ◌-◌, leb, length}
+use Rattle.std.specs.Prelude.{Bool, true, false, List, [], ◌∷◌, ◌++◌, ℕ, ◌+◌, ◌-◌, leb, length}
 use Rattle.std.proofs.Math.Option.{Option, none, some}
 use Rattle.std.specs.Int.Bits.{bit_or}
 use Rattle.codepage.specs.CodePage.{CodePage}

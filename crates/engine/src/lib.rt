@@ -1,5 +1,8 @@
 // Inner: taking code after code, what it means and what a code does. `convert` hands on the types that a caller needs, `Policy` and
 // `Direction`. (Document 01, "Policies and flags" and the first paragraph of "One call of a run"; docs/RULES.md, "Policies and flags".)
+
+#![tactic(auto)]
+
 ghost use Rattle.std.specs.Prelude.{◌≡◌};
 ghost use Rattle.engine.specs.Policies.{digits, standard, replacing, skipping};
 
@@ -7,14 +10,14 @@ pub mod policies;
 pub mod progress;
 
 // Decoding turns bytes into units, encoding units into bytes.
-#[derive(Drop)]
+#[derive(Clone, Copy)]
 pub enum Direction {
     Decoding,
     Encoding,
 }
 
 // What is done about a code without a character: a digit for an undefined single, an undefined pair, an invalid code.
-#[derive(Drop)]
+#[derive(Clone, Copy)]
 pub struct Policy {
     pub single: u8,
     pub pair: u8,

@@ -10,7 +10,7 @@ use crate::{Direction, Policy};
 use codepage::{Kind, Lookup};
 
 // What a digit does.
-#[derive(Drop)]
+#[derive(Clone, Copy)]
 pub enum Action {
     Stop,
     Skip,
@@ -18,7 +18,7 @@ pub enum Action {
 }
 
 // What a code does: the flag that it sets, what it writes (count: how many elements, of `value`), and whether it stops.
-#[derive(Drop)]
+#[derive(Clone, Copy)]
 pub struct CodeEffect {
     pub flag: u8,
     pub count: u8,

@@ -5,7 +5,7 @@ ghost use Rattle.engine.specs.Steps.{unit_effect, byte_effect, stopped_by, full_
 use crate::policies::CodeEffect;
 
 // The answer so far (0: going on), the units of the codes taken, what was written, and the flags set.
-#[derive(Drop)]
+#[derive(Clone, Copy)]
 pub struct Progress {
     pub answer: u8,
     pub used: usize,

@@ -1,5 +1,4 @@
 pub mod RunLaws
 pub mod PlainLaws
 pub mod MixedLaws
-pub mod UnitLaws
 pub mod MetLaws

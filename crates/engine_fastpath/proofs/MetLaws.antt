@@ -1,28 +1,23 @@
 -- Laws of counting by runs: each code met is one step of the engine, in room that never ends.
-use mathlib.Core.Bool.{Bool, true, false}
-use mathlib.Core.List.{List, [], ◌∷◌, ◌++◌}
+use mathlib.Core.Bool.{true, false}
+use mathlib.Core.List.{List, [], ◌++◌}
 use mathlib.Core.Option.{none}
 use mathlib.Core.Path.{◌≡◌, refl, sym, ap, ap₂, ◌∙◌, subst}
 use Prim.Native.Nat.{ℕ, zero, suc, ◌+◌, ◌-◌, ◌<◌, ◌≤◌}
 use native.Mathlib.Omega.{arith}
-use lib.Dec.{leb}
 use lib.ListN.{length, get_or, drop, length-append}
-use lib.Bits.{bit_or, or_zero_l}
-use borrow.Author.Count.{below_more}
-use borrow.Author.Tests.{leb-true, leb-false}
-use Rattle.codepage.specs.CodePage.{entry_at, is_single, is_lead}
+use lib.Bits.{or_zero_l}
+use Rattle.codepage.specs.CodePage.{entry_at, is_lead}
 use Rattle.codepage.specs.Reading.{Reader, byte_alone, byte_pair, unit_alone, bytes_of, decoder, encoder}
 use Rattle.codepage.specs.declared.Lookup.TheVariants.{Found}
 use Rattle.codepage.proofs.ReadingLaws.{pair_joins, found_no_wait}
 use Rattle.engine.specs.declared.Policy.{Policy}
-use Rattle.engine.specs.Engine.{converter, endless, fits, room_left, Fed, after, take_code, feed_from}
+use Rattle.engine.specs.Engine.{converter, endless, fits, room_left, after, take_code, feed_from}
 use Rattle.engine.proofs.EngineLaws.{after_none, after_after, take_fits}
-use Rattle.codepage_lookup.proofs.ProfileLaws.{single_no_lead}
-use Rattle.engine_fastpath.specs.Counts.{Met, UnitsUpTo, EachMapped}
-use Rattle.engine_fastpath.specs.Runs.{unit_at}
+use Rattle.engine_fastpath.specs.Counts.{Met}
 use Rattle.engine_fastpath.specs.Words.{PlainPage}
-use Rattle.engine_fastpath.proofs.RunLaws.{written, one_found, two_found, one_byte, two_bytes, single_found}
-use Rattle.engine_fastpath.proofs.PlainLaws.{or_over, Same, plain_same}
+use Rattle.engine_fastpath.proofs.RunLaws.{written, one_found, two_found, one_byte, two_bytes}
+use Rattle.engine_fastpath.proofs.PlainLaws.{Same, plain_same}
 
 module _ {R : Reader} {text : List ℕ} {i : ℕ} where
   -- no code is met yet
@@ -118,37 +113,6 @@ module _ (classes singles pairs : List ℕ) {text : List ℕ} {i n i₁ : ℕ} (
       → Met (decoder classes singles pairs) text i (i₁ + 2) (n + 1)
   unfolding decoder
   met_pair h e q = met_join m (met_two unit h e (pair_joins classes pairs _ _ unit q) q (omega arith))
-
--- ---- bytes of a page that has only singles, several at a time
--- n of them that each have a character
-pub met_mapped : (classes singles pairs : List ℕ) → ((byte : ℕ) → byte < 256 → is_single (entry_at classes byte) ≡ true) → {text : List ℕ} {i : ℕ} → ((k : ℕ) → entry_at text k < 256) → (n : ℕ) → i + n ≤ length text
-    → EachMapped singles text i n → Met (decoder classes singles pairs) text i (i + n) n
-met_mapped classes singles pairs all bytes zero h each = met_at (met_start (omega (arith, h))) (omega arith) refl
-met_mapped classes singles pairs all {text} {i} bytes (suc n) h each =
-    let byte = entry_at text (i + n) in
-    let single = all byte (bytes (i + n)) in
-    met_at
-    (met_single classes singles pairs (met_mapped classes singles pairs all bytes n (omega (arith, h)) (λ k b. each k (omega (arith, b)))) (entry_at singles byte) (omega (arith, h)) (single_no_lead _ single)
-    (single_found _ _ byte single (each n (omega arith))))
-    (omega arith) (omega arith)
-
-module _ (singles text : List ℕ) (i : ℕ) where
-  -- two entries
-  pub two_up_to : (most : ℕ) → unit_at singles text i ≤ most → unit_at singles text (i + 1) ≤ most → UnitsUpTo singles text i 2 most
-  two_up_to most a b =
-      let e : i + 0 ≡ i = omega arith in
-      below_more (λ (k : ℕ). unit_at singles text (i + k) ≤ most) 1 (below_more (λ (k : ℕ). unit_at singles text (i + k) ≤ most) 0 (λ k f. absurd (omega arith)) (rw e a)) b
-
-  -- n entries and m behind them, their bounds laid over each other
-  pub join_up_to : (n a j m b : ℕ) → j ≡ i + n → UnitsUpTo singles text i n a → UnitsUpTo singles text j m b → UnitsUpTo singles text i (n + m) (bit_or a b)
-  join_up_to n a j m b e front back k h = by_place (leb n k) refl
-    where
-      by_place : (t : Bool) → leb n k ≡ t → unit_at singles text (i + k) ≤ bit_or a b
-      by_place true q =
-          let f = leb-true n k q in
-          let at : j + (k - n) ≡ i + k = omega (arith, e) in
-          omega (arith, ap (unit_at singles text) at, back (k - n) (omega arith), (or_over a b).1)
-      by_place false q = omega (arith, front k (omega (arith, leb-false n k q)), (or_over a b).0)
 
 -- plain bytes
 pub met_plain : (classes singles pairs : List ℕ) → PlainPage classes singles → {text : List ℕ} {i : ℕ} (n : ℕ) → i + n ≤ length text → ((k : ℕ) → k < n → entry_at text (i + k) < 0x80)

@@ -1,16 +1,15 @@
 -- Laws of mixed text: what a word says of its bytes, and plain bytes that are copied several at a time.
 use mathlib.Core.Bool.{Bool, true, false}
-use mathlib.Core.List.{List, [], ◌∷◌}
+use mathlib.Core.List.{List}
 use mathlib.Core.Path.{◌≡◌, refl, sym, ap, ap₂, ◌∙◌, subst}
-use Prim.Native.Nat.{ℕ, zero, suc, ◌+◌, ◌-◌, ◌*◌, ◌/◌, ◌%◌, ◌^◌, ◌<◌, ◌≤◌, max}
+use Prim.Native.Nat.{ℕ, zero, suc, ◌+◌, ◌-◌, ◌*◌, ◌/◌, ◌%◌, ◌^◌, ◌<◌, ◌≤◌}
 use native.Mathlib.Numerals.{add-one}
 use native.Mathlib.Omega.{arith}
 use lib.Dec.{leb}
-use lib.ListN.{length, get_or, set, length-set}
+use lib.ListN.{length, set, length-set}
 use lib.Seq.{ext_get_or, get_or-set_same, get_or-set_other}
-use lib.Arith.{bin_ind}
-use lib.Bits.{bit_and, bit_or, and_step, or_step, or_comm, and_comm, and_zero_l, and_zero_r, and_self, and_shifted, and_block}
-use lib.Count.{count_trailing_zeros, under, trailing_le, trailing_of_zero}
+use lib.Bits.{bit_and, and_comm, and_zero_r, and_shifted, and_block}
+use lib.Count.{count_trailing_zeros, trailing_le}
 use borrow.Author.Tests.{leb-true, leb-false}
 use Rattle.codepage.specs.CodePage.{entry_at, is_lead, is_single}
 use Rattle.codepage.specs.Reading.{byte_alone, decoder}
@@ -118,41 +117,6 @@ plain_bytes (suc n) piece i all k b =
 pub plain_before : {piece : List ℕ} {i word : ℕ} → WordAt piece i word → (k : ℕ) → k < count_trailing_zeros 64 (bit_and word 0x8080808080808080) / 8 → entry_at piece (i + k) < 0x80
 unfolding marks_of width_of
 plain_before {piece} {i} a k b = plain_bytes 8 piece i a.bytes k (subst (λ (x : ℕ). k < count_trailing_zeros 64 (bit_and x 0x8080808080808080) / 8) a.value b)
-
--- ---- words laid over each other
--- a mark of a number stays where another is laid over it
-mark_kept : (a b m : ℕ) → bit_and a m ≤ bit_and (bit_or a b) m
-mark_kept a =
-    bin_ind (λ (n : ℕ). (b m : ℕ) → bit_and n m ≤ bit_and (bit_or n b) m) (λ b m. omega (arith, and_zero_l m))
-    (λ n more b m.
-    let high : bit_or n b / 2 ≡ bit_or (n / 2) (b / 2) = omega (arith, or_step n b) in
-    let low : bit_or n b % 2 ≡ max (n % 2) (b % 2) = omega (arith, or_step n b) in
-    let rest : bit_and (bit_or n b / 2) (m / 2) ≡ bit_and (bit_or (n / 2) (b / 2)) (m / 2) = ap (λ (x : ℕ). bit_and x (m / 2)) high in
-    omega (arith, and_step n m, and_step (bit_or n b) m, low, rest, more (b / 2) (m / 2))) a
-
--- where two numbers laid over each other have no mark, neither has one
-unmarked : (a b m : ℕ) → bit_and (bit_or a b) m ≡ 0 → (bit_and a m ≡ 0) × (bit_and b m ≡ 0)
-unmarked a b m e =
-    (omega (arith, mark_kept a b m, e), omega (arith, mark_kept b a m, ap (λ (x : ℕ). bit_and x m) (or_comm a b), e))
-
--- the eight bytes of a word that has no mark are below 80
-word_plain : {piece : List ℕ} {i word : ℕ} → WordAt piece i word → bit_and word 0x8080808080808080 ≡ 0 → (k : ℕ) → k < 8 → entry_at piece (i + k) < 0x80
-word_plain a e k b = plain_before a k (omega (arith, b, ap (count_trailing_zeros 64) e ∙ trailing_of_zero 64))
-
--- eight bytes more, where those before and the next word have no mark
-pub words_more : {piece : List ℕ} (i all : ℕ) {word : ℕ} → (bit_and all 0x8080808080808080 ≡ 0 → (k : ℕ) → k < 8 * i → entry_at piece k < 0x80) → WordAt piece (8 * i) word
-    → bit_and (bit_or all word) 0x8080808080808080 ≡ 0 → (k : ℕ) → k < 8 * (i + 1) → entry_at piece k < 0x80
-words_more {piece} i all {word} before a e k b = by_place (leb (8 * i) k) refl
-  where
-    none : (bit_and all 0x8080808080808080 ≡ 0) × (bit_and word 0x8080808080808080 ≡ 0)
-    none = unmarked all word 0x8080808080808080 e
-
-    by_place : (t : Bool) → leb (8 * i) k ≡ t → entry_at piece k < 0x80
-    by_place true q =
-        let f = leb-true (8 * i) k q in
-        let here : 8 * i + (k - 8 * i) ≡ k = omega (arith, f) in
-        subst (λ (x : ℕ). entry_at piece x < 0x80) here (word_plain a none.1 (k - 8 * i) (omega (arith, f, b)))
-    by_place false q = before none.0 k (omega (arith, leb-false (8 * i) k q))
 
 -- ---- copying
 pub laid_none : (piece : List ℕ) (i : ℕ) (out : List ℕ) (w : ℕ) → Laid piece i out w out 0

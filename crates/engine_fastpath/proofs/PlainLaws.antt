@@ -1,16 +1,15 @@
 -- Laws of plain text: every unit of a piece is written as it is.
 use mathlib.Core.Bool.{Bool, true, false, true≢false, false≢true}
 use mathlib.Core.List.{List, [], ◌∷◌, ◌++◌}
-use mathlib.Core.Option.{Option, none, some}
+use mathlib.Core.Option.{none}
 use mathlib.Core.Path.{◌≡◌, refl, sym, ap, ◌∙◌, subst}
-use Prim.Native.Nat.{ℕ, zero, suc, ◌+◌, ◌-◌, ◌*◌, ◌/◌, ◌%◌, ◌<◌, ◌≤◌}
+use Prim.Native.Nat.{ℕ, suc, ◌+◌, ◌-◌, ◌<◌, ◌≤◌}
 use native.Mathlib.Numerals.{add-one}
 use native.Mathlib.Omega.{arith}
 use lib.Dec.{leb}
-use lib.ListN.{length, get_or, take, drop, set, length-set, take-append-drop, get_or-eq_default}
-use lib.Seq.{take-suc, take-suc-set, drop-set-lt, drop-drop, take-length}
+use lib.ListN.{length, drop, set, length-set, take-append-drop, get_or-eq_default}
+use lib.Seq.{take-suc, take-suc-set, drop-set-lt, take-length}
 use lib.Bits.{bit_or, or_zero_l, or_add_and, and_le_l, and_le_r}
-use borrow.Author.Count.{below_more}
 use borrow.Author.Tests.{le-leb, leb-true, leb-false}
 use Rattle.codepage.specs.CodePage.{entry_at, is_lead}
 use Rattle.codepage.specs.Reading.{Reader, byte_alone, bytes_of, unit_alone, decoder, encoder}
@@ -18,8 +17,7 @@ use Rattle.codepage.specs.declared.Lookup.TheVariants.{Found}
 use Rattle.codepage.proofs.ReadingLaws.{found_no_wait}
 use Rattle.engine.specs.declared.Policy.{Policy}
 use Rattle.codepage.specs.Lent.{over}
-use Rattle.engine.specs.Engine.{Effect, effect_of, Converter, converter, Room, limit, fits, room_left, Fed, halt, after, take_code, feed_from}
-use Rattle.engine.specs.declared.progress.Progress.{Progress}
+use Rattle.engine.specs.Engine.{Effect, effect_of, converter, limit, fits, room_left, Fed, halt, after, take_code, feed_from}
 use Rattle.engine.specs.Steps.{summary, Ends}
 use Rattle.engine_fastpath.specs.Runs.{EachBelow, Copied, all_taken, Plain}
 use Rattle.engine.proofs.EngineLaws.{take_fits, feed_one, feed_end}
@@ -30,10 +28,15 @@ pub or_over : (a b : ℕ) → (a ≤ bit_or a b) × (b ≤ bit_or a b)
 or_over a b = (omega (arith, or_add_and a b, and_le_r a b), omega (arith, or_add_and a b, and_le_l a b))
 
 -- one more entry is not over the largest
-pub bounded_more : (xs : List ℕ) (from i m : ℕ) → ((k : ℕ) → from ≤ k → k < i → entry_at xs k ≤ m) → (k : ℕ) → from ≤ k → k < i + 1 → entry_at xs k ≤ bit_or m (entry_at xs i)
-bounded_more xs from i m all k f b =
-    let over = or_over m (entry_at xs i) in
-    below_more (λ (k : ℕ). from ≤ k → entry_at xs k ≤ bit_or m (entry_at xs i)) i (λ k b f. omega (arith, all k f b, over.0)) (λ f. over.1) k b f
+pub bounded_more : (xs : List ℕ) (i m m' : ℕ) → ((k : ℕ) → k < i → entry_at xs k ≤ m) → m ≤ m' → entry_at xs i ≤ m' → (k : ℕ) → k < i + 1 → entry_at xs k ≤ m'
+bounded_more xs i m m' all h e k b = by_place (leb (suc k) i) refl
+  where
+    by_place : (t : Bool) → leb (suc k) i ≡ t → entry_at xs k ≤ m'
+    by_place true q = let f = leb-true (suc k) i q in omega (arith, all k (omega (arith, f)), h)
+    by_place false q =
+        let f = leb-false (suc k) i q in
+        let at : k ≡ i = omega (arith, f, b) in
+        rw at e
 
 -- behind the end there is nothing larger
 pub bound_all : (xs : List ℕ) (m : ℕ) → ((k : ℕ) → k < length xs → entry_at xs k ≤ m) → (k : ℕ) → entry_at xs k ≤ m
@@ -43,13 +46,9 @@ bound_all xs m all k = by_place (leb (suc k) (length xs)) refl
     by_place true q = all k (omega (arith, leb-true (suc k) (length xs) q))
     by_place false q = omega (arith, get_or-eq_default xs 0 {n = k} (omega (arith, leb-false (suc k) (length xs) q)))
 
--- each number is below a bound, where those before a place are and those from it on
-pub each_below : (bound : ℕ) (xs : List ℕ) (n : ℕ) → ((k : ℕ) → k < n → entry_at xs k < bound) → ((k : ℕ) → n ≤ k → k < length xs → entry_at xs k < bound) → EachBelow bound xs
-each_below bound xs n front rest k b = by_place (leb n k) refl
-  where
-    by_place : (t : Bool) → leb n k ≡ t → entry_at xs k < bound
-    by_place true q = rest k (leb-true n k q) b
-    by_place false q = front k (omega (arith, leb-false n k q))
+-- where a bound is over the largest, each number is below it
+pub bounded_below : (bound m : ℕ) (xs : List ℕ) → ((k : ℕ) → k < length xs → entry_at xs k ≤ m) → m < bound → EachBelow bound xs
+bounded_below bound m xs all h k b = omega (arith, all k b)
 
 -- ---- copying
 pub copied_start : (piece before : List ℕ) → Copied piece before before 0

@@ -1,25 +1,22 @@
 -- Laws of the quick loops: each turn is one step of the engine.
-use mathlib.Core.Bool.{Bool, true, false, true≢false, false≢true}
-use mathlib.Core.List.{List, [], ◌∷◌, ◌++◌, append_assoc, append-nil}
-use mathlib.Core.Option.{Option, none, some}
+use mathlib.Core.Bool.{Bool, true, false}
+use mathlib.Core.List.{List, [], ◌∷◌, ◌++◌}
+use mathlib.Core.Option.{none}
 use mathlib.Core.Path.{◌≡◌, refl, sym, ap, ◌∙◌, subst}
-use Prim.Native.Nat.{ℕ, zero, suc, ◌+◌, ◌-◌, ◌*◌, ◌/◌, ◌%◌, ◌<◌, ◌≤◌}
-use native.Mathlib.Numerals.{add-one}
+use Prim.Native.Nat.{ℕ, suc, ◌+◌, ◌-◌, ◌/◌, ◌%◌, ◌<◌, ◌≤◌}
 use native.Mathlib.Omega.{arith}
-use lib.Dec.{leb, eqb}
-use lib.ListN.{length, get_or, take, drop, set, length-set, length-append, length-drop, take-append-drop, drop_of_length-le}
-use lib.Seq.{sets, length-sets, set-set, length-take-le, take-length, take-append-add, drop-append-add}
+use lib.Dec.{leb}
+use lib.ListN.{length, get_or, take, drop, set, length-set, length-append}
+use lib.Seq.{sets, length-sets, set-set}
 use lib.Bits.{bit_or, or_zero_r}
-use borrow.Rule.Slice.PartMut.{mid_of, put_mid}
-use borrow.Author.Tests.{le-leb, lt-leb, leb-true, leb-false, eqb-true, eqb-false, eq-eqb, ne_eqb}
+use borrow.Author.Tests.{le-leb, leb-true, ne_eqb}
 use Rattle.codepage.specs.CodePage.{pick, entry_at, is_single, is_lead}
 use Rattle.codepage.specs.Reading.{Reader, Code, together, settled, lookup, byte_alone, byte_pair, unit_alone, bytes_of, decoder, encoder}
 use Rattle.codepage.specs.declared.Lookup.TheVariants.{Found}
 use Rattle.engine.specs.declared.Policy.{Policy}
 use Rattle.engine.specs.declared.progress.Progress.{Progress}
-use Rattle.codepage.specs.Lent.{over}
-use Rattle.engine.specs.Engine.{Effect, effect_of, Converter, converter, Room, limit, fits, room_left, Fed, halt, after, take_code, feed_from}
-use Rattle.engine.specs.Steps.{sofar, taken_by, Took, moved_to, optional}
+use Rattle.engine.specs.Engine.{Effect, effect_of, converter, Room, limit, room_left, Fed, after, take_code, feed_from}
+use Rattle.engine.specs.Steps.{sofar, moved_to}
 use Rattle.codepage_lookup.specs.Profile.{ClearPage}
 use Rattle.engine_fastpath.specs.Runs.{Ran, SinglesTaken}
 use Rattle.codepage_lookup.proofs.ProfileLaws.{single_no_lead}
@@ -247,87 +244,6 @@ singles_join r t =
       same = t.same ∙ r.same;
       ran = λ classes pairs clear. ran_at (ran_join (r.ran classes pairs clear) (t.ran classes pairs clear)) (omega arith) (omega arith);
     }
-
--- `SinglesTaken` holds at an equal place of the output too
-singles_to : {singles piece out : List ℕ} {from at at₁ : ℕ} {out₁ : List ℕ} {k : ℕ} → SinglesTaken singles piece out from at out₁ k → at ≡ at₁ → SinglesTaken singles piece out from at₁ out₁ k
-singles_to {singles} {piece} {out} {from} {at} {at₁} {out₁} {k} r e = subst (λ (w : ℕ). SinglesTaken singles piece out from w out₁ k) e r
-
--- two runs of singles from the front of an output on
-pub singles_join_front : {singles piece out : List ℕ} {from : ℕ} {out₁ : List ℕ} {k : ℕ} {out₂ : List ℕ} {j : ℕ} → SinglesTaken singles piece out from 0 out₁ k → SinglesTaken singles piece out₁ (from + k) k out₂ j
-    → SinglesTaken singles piece out from 0 out₂ (k + j)
-singles_join_front r t = singles_join r (singles_to t (omega arith))
-
--- no byte was taken, and the output is the same at an equal list
-pub singles_none : {singles piece out : List ℕ} {from at : ℕ} {out₁ out₂ : List ℕ} {k : ℕ} → SinglesTaken singles piece out from at out₁ k → k ≤ 0 → out₂ ≡ out₁ → SinglesTaken singles piece out from at out₂ 0
-singles_none {singles} {piece} {out} {from} {at} r z e = subst (λ (l : List ℕ). SinglesTaken singles piece out from at l 0) (sym e) (singles_at_lem r (omega (arith, z)))
-
--- a run of singles where none was taken before
-pub singles_after_none : {singles piece out : List ℕ} {from at : ℕ} {out₁ out₂ : List ℕ} {j : ℕ} → SinglesTaken singles piece out from at out₁ 0 → SinglesTaken singles piece out₁ from at out₂ j
-    → SinglesTaken singles piece out from at out₂ j
-singles_after_none r t =
-    record {
-      same = t.same ∙ r.same;
-      ran = λ classes pairs clear. ran_join (ran_at (r.ran classes pairs clear) (omega arith) (omega arith)) (t.ran classes pairs clear);
-    }
-
--- ---- a run to the rest of an output, behind a front that stays
-
--- a feeding with a front before its output
-abbrev behind : List ℕ → Fed → Fed
-behind front F = record { answer = F.answer; used = F.used; output = front ++ F.output; flags = F.flags }
-
--- what a call has given so far, where a front is before the output
-sofar_behind : (s : Progress) (front rest : List ℕ) (w : ℕ) (F : Fed) → s.written ≡ length front + w
-    → sofar s (front ++ rest) F ≡ behind front (sofar (record { answer = s.answer; used = s.used; written = w; flags = s.flags }) rest F)
-unfolding sofar after
-sofar_behind s front rest w F e =
-    let fed : List ℕ → Fed = λ ys. record { answer = F.answer; used = s.used + F.used; output = ys; flags = bit_or s.flags F.flags } in
-    ap (λ (n : ℕ). fed (take n (front ++ rest) ++ F.output)) e ∙ ap (λ (ys : List ℕ). fed (ys ++ F.output)) (take-append-add front rest w) ∙ ap fed (append_assoc front (take w rest) F.output)
-
--- a run behind a front
-ran_behind : {R : Reader} {piece rest : List ℕ} {i w : ℕ} {rest₁ : List ℕ} {i₁ w₁ : ℕ} (front : List ℕ) → Ran R piece rest i w rest₁ i₁ w₁
-    → Ran R piece (front ++ rest) i (length front + w) (front ++ rest₁) i₁ (length front + w₁)
-ran_behind {R} {piece} {rest} {i} {w} {rest₁} {i₁} {w₁} front r =
-    record {
-      same = omega (arith, length-append front rest, length-append front rest₁, r.same);
-      within = omega (arith, length-append front rest₁, r.within);
-      grows = omega (arith, r.grows);
-      ahead = r.ahead;
-      inside = r.inside;
-      kept = drop-append-add front rest₁ w₁ ∙ r.kept ∙ sym (drop-append-add front rest w₁);
-      goes = λ policy default last s e.
-          let s₀ : Progress = record { answer = s.answer; used = s.used; written = w; flags = s.flags } in
-          let s₁ : Progress = moved_to s (i₁ - i) (length front + w₁) in
-          let fed : ℕ → ℕ → Fed = λ room j. feed_from (converter R policy default) last (limit room) none (drop j piece) in
-          let room : length (front ++ rest) - (length front + w) ≡ length rest - w = omega (arith, length-append front rest) in
-          let room₁ : length rest₁ - w₁ ≡ length (front ++ rest₁) - (length front + w₁) = omega (arith, length-append front rest₁) in
-          ap (λ (m : ℕ). sofar s (front ++ rest) (fed m i)) room
-          ∙ sofar_behind s front rest w (fed (length rest - w) i) e
-          ∙ ap (behind front) (r.goes policy default last s₀ refl)
-          ∙ sym (sofar_behind s₁ front rest₁ w₁ (fed (length rest₁ - w₁) i₁) refl)
-          ∙ ap (λ (m : ℕ). sofar s₁ (front ++ rest₁) (fed m i₁)) room₁;
-    }
-
--- a run of singles behind a front
-singles_behind : {singles piece rest : List ℕ} {from at : ℕ} {rest₁ : List ℕ} {k : ℕ} (front : List ℕ) → SinglesTaken singles piece rest from at rest₁ k
-    → SinglesTaken singles piece (front ++ rest) from (length front + at) (front ++ rest₁) k
-singles_behind {singles} {piece} {rest} {from} {at} {rest₁} front r =
-    record {
-      same = omega (arith, length-append front rest, length-append front rest₁, r.same);
-      ran = λ classes pairs clear. ran_at (ran_behind front (r.ran classes pairs clear)) refl (omega arith);
-    }
-
--- a run of singles to the part of an output from a place on, which is put back
-pub singles_part : {singles piece : List ℕ} (out : List ℕ) {from : ℕ} (at : ℕ) {rest : List ℕ} {k : ℕ} → at ≤ length out → SinglesTaken singles piece (mid_of at (length out - at) out) from 0 rest k
-    → SinglesTaken singles piece out from at (put_mid at (length out - at) out rest) k
-singles_part {singles} {piece} out {from} at {rest} {k} h r =
-    let many : length (drop at out) ≡ length out - at = length-drop at out in
-    let part : take (length out - at) (drop at out) ≡ drop at out = ap (λ (n : ℕ). take n (drop at out)) (sym many) ∙ take-length (drop at out) in
-    let none_left : drop (length out - at) (drop at out) ≡ [] = drop_of_length-le (drop at out) {i = length out - at} (omega (arith, many)) in
-    let before : take at out ++ take (length out - at) (drop at out) ≡ out = ap (λ (l : List ℕ). take at out ++ l) part ∙ take-append-drop at out in
-    let after_it : take at out ++ rest ≡ put_mid at (length out - at) out rest = ap (λ (l : List ℕ). take at out ++ l) (sym (ap (λ (l : List ℕ). rest ++ l) none_left ∙ append-nil rest)) in
-    let behind_front : SinglesTaken singles piece (take at out ++ mid_of at (length out - at) out) from at (take at out ++ rest) k = singles_to (singles_behind (take at out) r) (omega (arith, length-take-le at out h)) in
-    subst (λ (l : List ℕ). SinglesTaken singles piece out from at l k) after_it (subst (λ (l : List ℕ). SinglesTaken singles piece l from at (take at out ++ rest) k) before behind_front)
 
 -- ---- units of encoding, several in a turn
 

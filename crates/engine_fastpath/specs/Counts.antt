@@ -1,10 +1,9 @@
 -- Definitions that the contracts of counting by runs cite, and that no promise does.
-use Rattle.std.specs.Prelude.{true, List, ◌≡◌, ℕ, ◌+◌, ◌-◌, ◌<◌, ◌≤◌, length, drop}
+use Rattle.std.specs.Prelude.{true, List, ◌≡◌, ℕ, ◌+◌, ◌-◌, ◌≤◌, length, drop}
 use Rattle.std.proofs.Math.Option.{none}
 use Rattle.codepage.specs.Reading.{Reader}
 use Rattle.engine.specs.declared.Policy.{Policy}
 use Rattle.engine.specs.Engine.{endless, after, converter, feed_from}
-use Rattle.engine_fastpath.specs.Runs.{unit_at}
 
 -- From index i to i' of a text codes were met that have characters and write n units: what counting gives from i on is what it
 -- gives from i' on, with i' - i more read and n more written.
@@ -16,11 +15,3 @@ pub record Met (R : Reader) (text : List ℕ) (i i' n : ℕ) : Type 0 where
   pub count : length ys ≡ n
   pub goes : (policy : Policy) (default : ℕ)
       → feed_from (converter R policy default) true endless none (drop i text) ≡ after (i' - i) ys 0 (feed_from (converter R policy default) true endless none (drop i' text))
-
--- the entries of n bytes from index i of a text on are at most a number
-abbrev pub UnitsUpTo : (singles text : List ℕ) (i n most : ℕ) → Type 0
-UnitsUpTo singles text i n most = (k : ℕ) → k < n → unit_at singles text (i + k) ≤ most
-
--- each of n bytes from index i of a text on has a character
-abbrev pub EachMapped : (singles text : List ℕ) (i n : ℕ) → Type 0
-EachMapped singles text i n = (k : ℕ) → k < n → unit_at singles text (i + k) ≡ 0xFFFF → ⊥

@@ -1,5 +1,5 @@
 -- Definitions that the contracts of the fast paths cite, and that no promise does.
-use Rattle.std.specs.Prelude.{Bool, true, false, List, [], ◌∷◌, ◌≡◌, ℕ, ◌+◌, ◌-◌, ◌*◌, ◌/◌, ◌%◌, ◌<◌, ◌≤◌, length, take, drop, set}
+use Rattle.std.specs.Prelude.{Bool, true, false, List, ◌≡◌, ℕ, ◌+◌, ◌-◌, ◌<◌, ◌≤◌, length, take, drop}
 use Rattle.std.proofs.Math.Option.{none}
 use Rattle.codepage.specs.CodePage.{entry_at}
 use Rattle.codepage.specs.Reading.{Reader, decoder}
@@ -48,18 +48,3 @@ pub record Ran (R : Reader) (piece out : List ℕ) (i w : ℕ) (out' : List ℕ)
 pub record SinglesTaken (singles piece out : List ℕ) (from at : ℕ) (out' : List ℕ) (k : ℕ) : Type 0 where
   pub same : length out' ≡ length out
   pub ran : (classes pairs : List ℕ) → ClearPage classes singles → Ran (decoder classes singles pairs) piece out from at out' (from + k) (at + k)
-
--- the entry of the byte at a place of a piece
-abbrev pub unit_at : (singles piece : List ℕ) → ℕ → ℕ
-unit_at singles piece i = entry_at singles (entry_at piece i)
-
--- a word is the entries of four bytes, the first its lowest
-pub record UnitsAt (singles piece : List ℕ) (i word : ℕ) : Type 0 where
-  pub bytes : (k : ℕ) → entry_at piece k < 256
-  pub units : (k : ℕ) → entry_at singles k < 0x10000
-  pub value : word ≡ unit_at singles piece i + 0x10000 * unit_at singles piece (i + 1) + 0x100000000 * unit_at singles piece (i + 2) + 0x1000000000000 * unit_at singles piece (i + 3)
-
--- an output with the four units of a word written from a place on
-abbrev pub units_laid : List ℕ → (w word : ℕ) → List ℕ
-units_laid out w word =
-    set (set (set (set out w (word % 0x10000)) (w + 1) (word / 0x10000 % 0x10000)) (w + 2) (word / 0x100000000 % 0x10000)) (w + 3) (word / 0x1000000000000)

@@ -5,7 +5,7 @@ ghost use Rattle.codepage.specs.Reading.{decoder, encoder};
 ghost use Rattle.codepage_lookup.specs.Profile.{LeadsAt, NoCodes};
 ghost use Rattle.engine.specs.Steps.{DecodeSizes};
 ghost use Rattle.engine_fastpath.specs.Words.{PlainPage};
-ghost use Rattle.engine_fastpath.specs.Counts.{Met, UnitsUpTo, EachMapped};
+ghost use Rattle.engine_fastpath.specs.Counts.{Met};
 
 use crate::runs::Place;
 use crate::{mixed, plain, runs};
@@ -39,39 +39,7 @@ pub fn all_plain_units(bound: u16, index: &[u8], blocks: &[u16], text: &[u16]) -
     codepage_lookup::profile::plain_units(index, blocks)
 }
 
-// The units of two bytes, laid over each other.
-fn units_of_two(singles: &[u16], text: &[u8], i: usize) -> u16
-    requires { (length singles.now ≡ 256) × (i + 2 ≤ length text.now) }
-    ensures { UnitsUpTo singles.now text.now i 2 result }
-{
-    let a = text[i] as usize;
-    let b = text[i + 1] as usize;
-    singles[a] | singles[b]
-}
-
-// Whether each of eight bytes has a character below 8000.
-fn met_eight(singles: &[u16], text: &[u8], i: usize) -> bool
-    requires { (length singles.now ≡ 256) × (i + 8 ≤ length text.now) }
-    ensures { result ≡ true → EachMapped singles.now text.now i 8 }
-{
-    let front = units_of_two(singles, text, i) | units_of_two(singles, text, i + 2);
-    let back = units_of_two(singles, text, i + 4) | units_of_two(singles, text, i + 6);
-    (front | back) < 0x8000
-}
-
-// Whether there are eight of `n` bytes, and each of the first eight has a character below 8000.
-fn meets_eight(singles: &[u16], text: &[u8], i: usize, n: usize) -> bool
-    requires { (length singles.now ≡ 256) × (i + n ≤ length text.now) }
-    ensures { result ≡ true → (8 ≤ n) × EachMapped singles.now text.now i 8 }
-{
-    if n < 8 {
-        return false;
-    }
-    met_eight(singles, text, i)
-}
-
-// Bytes of a page that has only singles, up to the first without a character: how many. Eight are met at a time where each has a
-// character below 8000.
+// Bytes of a page that has only singles, up to the first without a character: how many.
 pub fn met_singles(singles: &[u16], text: &[u8], from: usize) -> usize
     requires { (length singles.now ≡ 256) × (from ≤ length text.now) }
     ensures { (classes pairs : List ℕ) → ((byte : ℕ) → byte < 256 → is_single (entry_at classes byte) ≡ true) → Met (decoder classes singles.now pairs) text.now from (from + result) result }
@@ -79,15 +47,11 @@ pub fn met_singles(singles: &[u16], text: &[u8], from: usize) -> usize
     let n = text.len() - from;
     let mut k = 0;
     while k < n {
-        if meets_eight(singles, text, from + k, n - k) {
-            k += 8;
-        } else {
-            let at = text[from + k] as usize;
-            if singles[at] == 0xFFFF {
-                return k;
-            }
-            k += 1;
+        let at = text[from + k] as usize;
+        if singles[at] == 0xFFFF {
+            return k;
         }
+        k += 1;
     }
     k
 }
@@ -189,8 +153,7 @@ fn met_mixed(
     }
 }
 
-// The first few codes of a run, one after the other, which costs less where runs are short. The classes of the next two bytes are
-// read ahead, as in `run_of_codes`. Of the last two bytes none is met.
+// The first few codes of a run, one after the other, which costs less where runs are short.
 fn met_few(
     leads: Leads,
     classes: &[u8],
@@ -204,23 +167,13 @@ fn met_few(
     requires from_in_bounds { from ≤ length text.now }
     ensures { Met (decoder classes.now singles.now pairs.now) text.now from result.read result.written }
 {
+    let n = runs::smaller(FEW, (text.len() - from) / 2);
     let mut i = from;
     let mut k = 0;
-    if text.len() - from < 3 {
-        return Place {
-            read: i,
-            written: k,
-        };
-    }
-    let n = runs::smaller(FEW, (text.len() - from - 1) / 2);
-    let mut class = codepage_lookup::class_of(classes, text[i]);
     while k < n {
         let byte = text[i];
-        let second = text[i + 1];
-        let next = codepage_lookup::class_of(classes, second);
-        let after = codepage_lookup::class_of(classes, text[i + 2]);
-        if codepage_lookup::known_lead(class) {
-            let unit = codepage_lookup::known_pair_unit(next, classes, pairs, leads, byte, second);
+        if codepage_lookup::is_lead(classes, byte) {
+            let unit = codepage_lookup::pair_unit(classes, pairs, leads, byte, text[i + 1]);
             if unit == 0xFFFF {
                 return Place {
                     read: i,
@@ -229,9 +182,8 @@ fn met_few(
             }
             i += 2;
             k += 1;
-            class = after;
         } else {
-            let unit = codepage_lookup::known_single_unit(class, singles, byte);
+            let unit = codepage_lookup::single_unit(classes, singles, byte);
             if unit == 0xFFFF {
                 return Place {
                     read: i,
@@ -240,7 +192,6 @@ fn met_few(
             }
             i += 1;
             k += 1;
-            class = next;
         }
     }
     Place {

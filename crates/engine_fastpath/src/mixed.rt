@@ -9,7 +9,6 @@ ghost use Rattle.engine.specs.Steps.{DecodeSizes};
 ghost use Rattle.engine_fastpath.specs.Runs.{Ran};
 ghost use Rattle.engine_fastpath.specs.Words.{PlainPage, MixedPage, Laid};
 
-use crate::plain::MARKS;
 use crate::runs;
 use crate::runs::Place;
 use codepage_lookup::profile::Leads;
@@ -26,7 +25,7 @@ fn first_of(word: u64) -> u8
 pub fn plain_count(word: u64) -> usize
     ensures { (result ≤ 8) × ((piece : List ℕ) (i : ℕ) → WordAt piece i word → (k : ℕ) → k < result → entry_at piece (i + k) < 0x80) }
 {
-    let marks = word & MARKS;
+    let marks = word & 0x8080808080808080;
     (u64::trailing_zeros(marks) / 8) as usize
 }
 

@@ -1,14 +1,31 @@
 // Text that a page maps to itself: found out for a whole piece, and copied many units at a time.
 ghost use Rattle.std.specs.Prelude.{◌≡◌, true, false, List, ℕ, ◌+◌, ◌*◌, ◌≤◌, ◌<◌, length};
-ghost use Rattle.std.specs.Int.Bits.{bit_and};
 ghost use Rattle.codepage.specs.CodePage.{entry_at};
 ghost use Rattle.codepage.specs.Reading.{decoder, encoder};
 ghost use Rattle.engine_fastpath.specs.Runs.{EachBelow, Copied, Plain};
 
-use codepage_lookup::words;
+// The larger of two bytes.
+fn larger(a: u8, b: u8) -> u8
+    ensures { (a ≤ result) × (b ≤ result) }
+{
+    if a < b {
+        return b;
+    }
+    a
+}
 
-// The top bit of each byte of a word.
-pub const MARKS: u64 = 0x8080808080808080;
+// A number that no byte is over.
+fn largest_byte(piece: &[u8]) -> u8
+    ensures { (k : ℕ) → k < length piece.now → entry_at piece.now k ≤ result }
+{
+    let mut most: u8 = 0;
+    let mut i: usize = 0;
+    while i < piece.len() {
+        most = larger(most, piece[i]);
+        i += 1;
+    }
+    most
+}
 
 // A number that no unit is over.
 fn largest_unit(piece: &[u16]) -> u16
@@ -23,49 +40,16 @@ fn largest_unit(piece: &[u16]) -> u16
     most
 }
 
-// The first `n` words of eight bytes, laid over each other.
-fn words_of(piece: &[u8], n: usize) -> u64
-    requires { 8 * n ≤ length piece.now }
-    ensures { bit_and result 0x8080808080808080 ≡ 0 → (k : ℕ) → k < 8 * n → entry_at piece.now k < 0x80 }
-{
-    let mut all: u64 = 0;
-    let mut i: usize = 0;
-    while i < n {
-        all = all | words::word_at(piece, 8 * i);
-        i += 1;
-    }
-    all
-}
-
-// Whether the bytes from a place on are below 80.
-fn rest_below_80(piece: &[u8], from: usize) -> bool
-    requires { from ≤ length piece.now }
-    ensures { result ≡ true → (k : ℕ) → from ≤ k → k < length piece.now → entry_at piece.now k < 0x80 }
-{
-    let mut most: u8 = 0;
-    let mut i = from;
-    while i < piece.len() {
-        most = most | piece[i];
-        i += 1;
-    }
-    most < 0x80
-}
-
-// Whether every byte is below 80, which eight of them show at once. The first of many are looked at first: text that is not plain
-// mostly shows it there.
+// Whether every byte is below 80. The first of them are looked at first: text that is not plain mostly shows it there.
 pub fn bytes_below_80(piece: &[u8]) -> bool
     ensures { result ≡ true → EachBelow 0x80 piece.now }
 {
-    let n = piece.len() / 8;
-    if 8 < n {
-        if words_of(piece, 8) & MARKS != 0 {
+    if 64 < piece.len() {
+        if 0x80 <= largest_byte(&piece[..64]) {
             return false;
         }
     }
-    if words_of(piece, n) & MARKS != 0 {
-        return false;
-    }
-    rest_below_80(piece, 8 * n)
+    largest_byte(piece) < 0x80
 }
 
 // A number that no unit is over; the largest of all where it is not worth finding out. The first of many units are looked at

@@ -5,7 +5,7 @@ ghost use Rattle.codepage.specs.CodePage.{entry_at};
 ghost use Rattle.codepage_lookup.specs.Profile.{LeadsAt, NoCodes};
 ghost use Rattle.codepage.specs.Reading.{bytes_of, decoder, encoder};
 ghost use Rattle.engine.specs.Steps.{DecodeSizes};
-ghost use Rattle.engine_fastpath.specs.Runs.{Ran, SinglesTaken, UnitsAt, units_laid};
+ghost use Rattle.engine_fastpath.specs.Runs.{Ran, SinglesTaken};
 
 use codepage_lookup::profile::Leads;
 
@@ -13,7 +13,7 @@ use codepage_lookup::profile::Leads;
 const FEW: usize = 8;
 
 // How far a run came: in the piece, and in the output.
-#[derive(Drop)]
+#[derive(Clone, Copy)]
 pub struct Place {
     pub read: usize,
     pub written: usize,
@@ -67,6 +67,30 @@ fn take_four(singles: &[u16], piece: &[u8], i: usize, out: &mut [u16], w: usize)
     2 + take_two(singles, piece, i + 2, out, w + 2)
 }
 
+// The next eight bytes: how many were taken.
+fn take_eight(singles: &[u16], piece: &[u8], i: usize, out: &mut [u16], w: usize) -> usize
+    requires { (length singles.now ≡ 256) × (i + 8 ≤ length piece.now) × (w + 8 ≤ length out.old) }
+    ensures { (result ≤ 8) × SinglesTaken singles.now piece.now out.old i w out.new result }
+{
+    let taken = take_four(singles, piece, i, out, w);
+    if taken < 4 {
+        return taken;
+    }
+    4 + take_four(singles, piece, i + 4, out, w + 4)
+}
+
+// The next sixteen bytes: how many were taken.
+fn take_sixteen(singles: &[u16], piece: &[u8], i: usize, out: &mut [u16], w: usize) -> usize
+    requires { (length singles.now ≡ 256) × (i + 16 ≤ length piece.now) × (w + 16 ≤ length out.old) }
+    ensures { (result ≤ 16) × SinglesTaken singles.now piece.now out.old i w out.new result }
+{
+    let taken = take_eight(singles, piece, i, out, w);
+    if taken < 8 {
+        return taken;
+    }
+    8 + take_eight(singles, piece, i + 8, out, w + 8)
+}
+
 // Bytes alone, `n` at most, one after the other: how many were taken.
 fn run_of_few(
     singles: &[u16],
@@ -113,131 +137,8 @@ pub fn run_of_alone(
     k + run_of_few(singles, piece, from + k, at + k, n - k, out)
 }
 
-// The units of four bytes as one word, the first its lowest. `shift` is 16, and no constant: of a word that the compiler sees put
-// together from units it would store each unit by itself.
-fn units_word(shift: u8, singles: &[u16], piece: &[u8], i: usize) -> u64
-    requires { (shift ≡ 16) × (length singles.now ≡ 256) × (i + 4 ≤ length piece.now) }
-    ensures { UnitsAt singles.now piece.now i result }
-{
-    let a = piece[i] as usize;
-    let b = piece[i + 1] as usize;
-    let c = piece[i + 2] as usize;
-    let d = piece[i + 3] as usize;
-    let top = ((singles[d] as u64) << shift) + (singles[c] as u64);
-    (((top << shift) + (singles[b] as u64)) << shift) + (singles[a] as u64)
-}
-
-// Writes the four units of a word: four stores that the compiler makes one.
-fn lay_units(word: u64, out: &mut [u16], w: usize)
-    requires { w + 4 ≤ length out.old }
-    ensures { out.new ≡ units_laid out.old w word }
-{
-    out[w] = (word % 0x10000) as u16;
-    out[w + 1] = (word / 0x10000 % 0x10000) as u16;
-    out[w + 2] = (word / 0x100000000 % 0x10000) as u16;
-    out[w + 3] = (word / 0x1000000000000) as u16;
-}
-
-// The next four bytes, if each has a character below 8000: how many were taken, 0 or 4.
-fn take_word(shift: u8, singles: &[u16], piece: &[u8], i: usize, out: &mut [u16], w: usize) -> usize
-    requires { (shift ≡ 16) × (length singles.now ≡ 256) × (i + 4 ≤ length piece.now) × (w + 4 ≤ length out.old) }
-    ensures { (result ≤ 4) × SinglesTaken singles.now piece.now out.old i w out.new result }
-{
-    let word = units_word(shift, singles, piece, i);
-    if word & 0x8000800080008000 != 0 {
-        return 0;
-    }
-    lay_units(word, out, w);
-    4
-}
-
-// The next eight bytes, four as one word: how many were taken.
-fn two_words(shift: u8, singles: &[u16], piece: &[u8], i: usize, out: &mut [u16], w: usize) -> usize
-    requires { (shift ≡ 16) × (length singles.now ≡ 256) × (i + 8 ≤ length piece.now) × (w + 8 ≤ length out.old) }
-    ensures { (result ≤ 8) × SinglesTaken singles.now piece.now out.old i w out.new result }
-{
-    let taken = take_word(shift, singles, piece, i, out, w);
-    if taken < 4 {
-        return taken;
-    }
-    4 + take_word(shift, singles, piece, i + 4, out, w + 4)
-}
-
-// The next sixteen bytes: how many were taken.
-fn four_words(
-    shift: u8,
-    singles: &[u16],
-    piece: &[u8],
-    i: usize,
-    out: &mut [u16],
-    w: usize,
-) -> usize
-    requires { (shift ≡ 16) × (length singles.now ≡ 256) × (i + 16 ≤ length piece.now) × (w + 16 ≤ length out.old) }
-    ensures { (result ≤ 16) × SinglesTaken singles.now piece.now out.old i w out.new result }
-{
-    let taken = two_words(shift, singles, piece, i, out, w);
-    if taken < 8 {
-        return taken;
-    }
-    8 + two_words(shift, singles, piece, i + 8, out, w + 8)
-}
-
-// 16, as a number that the compiler does not work out: a square divided by 3 leaves 0 or 1. Where it knows the shift, it takes a word
-// of units apart again and stores each by itself.
-fn unit_bits(n: usize) -> u8
-    ensures { result ≡ 16 }
-{
-    let m = n % 256;
-    (16 + m * m % 3 / 2) as u8
-}
-
-// The next bytes: sixteen or less by words where so many are left, else one: how many were taken.
-fn take_some(
-    shift: u8,
-    singles: &[u16],
-    piece: &[u8],
-    i: usize,
-    n: usize,
-    out: &mut [u16],
-    w: usize,
-) -> usize
-    requires { (shift ≡ 16) × (length singles.now ≡ 256) × (1 ≤ n) × (i + n ≤ length piece.now) × (w + n ≤ length out.old) }
-    ensures { (result ≤ n) × SinglesTaken singles.now piece.now out.old i w out.new result }
-{
-    if 16 <= n {
-        let taken = four_words(shift, singles, piece, i, out, w);
-        if 0 < taken {
-            return taken;
-        }
-    }
-    take_one(singles, piece, i, out, w)
-}
-
-// Bytes of a page that has only singles, `n` at most, to the front of an output: how many were taken. One loop takes the words and the
-// bytes between them, so that it needs few registers.
-fn run_to_front(
-    shift: u8,
-    singles: &[u16],
-    piece: &[u8],
-    from: usize,
-    n: usize,
-    out: &mut [u16],
-) -> usize
-    requires { (shift ≡ 16) × (length singles.now ≡ 256) × (from + n ≤ length piece.now) × (n ≤ length out.old) }
-    ensures { SinglesTaken singles.now piece.now out.old from 0 out.new result }
-{
-    let mut k = 0;
-    while k < n {
-        let taken = take_some(shift, singles, piece, from + k, n - k, out, k);
-        if taken == 0 {
-            return k;
-        }
-        k += taken;
-    }
-    k
-}
-
-// The same to a place of an output on. So large a turn, with two callers, stays a function of its own.
+// Bytes of a page that has only singles, sixteen in a turn: how many were taken. So large a turn, with two callers, stays a function
+// of its own, whose loop has what it needs in registers.
 pub fn run_of_singles(
     singles: &[u16],
     piece: &[u8],
@@ -249,8 +150,15 @@ pub fn run_of_singles(
     ensures { SinglesTaken singles.now piece.now out.old from at out.new result }
 {
     let n = smaller(piece.len() - from, out.len() - at);
-    let shift = unit_bits(n);
-    run_to_front(shift, singles, piece, from, n, &mut out[at..])
+    let mut k = 0;
+    while 16 <= n - k {
+        let taken = take_sixteen(singles, piece, from + k, out, at + k);
+        if taken < 16 {
+            return k + taken;
+        }
+        k += 16;
+    }
+    k + run_of_few(singles, piece, from + k, at + k, n - k, out)
 }
 
 // Codes of one or two bytes. The classes of the two bytes behind a code's first are read before it is told what the code is: where
@@ -535,8 +443,9 @@ fn run_of_units(
 }
 
 // Units that have codes. The first few are taken one after the other, which costs less where runs are short; then, in larger turns,
-// those of one byte, which ask less, and those behind them.
+// those of one byte, which ask less, and those behind them. None are taken where codes may not be asked.
 pub fn run_of_coded(
+    asked: bool,
     index: &[u8],
     blocks: &[u16],
     piece: &[u16],
@@ -547,9 +456,15 @@ pub fn run_of_coded(
     requires index_len { length index.now ≡ 256 }
     requires by_index { (high : ℕ) → 256 * entry_at index.now high + 256 ≤ length blocks.now }
     requires from_in_bounds { (from ≤ length piece.now) × (at ≤ length out.old) }
-    requires no_codes { NoCodes index.now blocks.now piece.now }
+    requires no_codes { asked ≡ true → NoCodes index.now blocks.now piece.now }
     ensures { Ran (encoder index.now blocks.now) piece.now out.old from at out.new result.read result.written }
 {
+    if !asked {
+        return Place {
+            read: from,
+            written: at,
+        };
+    }
     let few = run_of_some(FEW, index, blocks, piece, from, at, out);
     let i = few.read;
     let w = few.written;

@@ -9,7 +9,7 @@ use native.Mathlib.Omega.{arith}
 use lib.Dec.{eqb, ltb}
 use borrow.Author.Tests.{ltb-true, ltb-false}
 use lib.ListN.{length, get_or, drop, length-append}
-use lib.Bits.{bit_or, or_zero_r}
+use lib.Bits.{or_zero_r}
 use Rattle.codepage.specs.CodePage.{pick}
 use Rattle.codepage.specs.Reading.{Reader, settled}
 use Rattle.codepage.proofs.ReadingLaws.{more_le}

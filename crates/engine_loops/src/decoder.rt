@@ -362,7 +362,7 @@ fn decode_codes(
 }
 
 // How a call goes on.
-#[derive(Drop)]
+#[derive(Clone, Copy)]
 pub enum Way {
     // Not at all: its piece was plain and is copied.
     Copied,

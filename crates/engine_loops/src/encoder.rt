@@ -5,10 +5,10 @@ ghost use Rattle.codepage.specs.CodePage.{entry_at};
 ghost use Rattle.engine.specs.declared.Direction.TheVariants.{Encoding};
 ghost use Rattle.engine.specs.Policies.{policy_allowed};
 ghost use Rattle.codepage.specs.Lent.{over};
-ghost use Rattle.codepage.specs.Reading.{is_high, is_surrogate, encoder};
+ghost use Rattle.codepage.specs.Reading.{is_high, encoder};
 ghost use Rattle.engine.specs.Engine.{converter};
 ghost use Rattle.engine.specs.Steps.{does_alone, summary, Took, Ends, optional, one_if, encode_fed};
-ghost use Rattle.codepage_lookup.specs.Profile.{NoCodes, unit_entry};
+ghost use Rattle.codepage_lookup.specs.Profile.{NoCodes};
 ghost use Rattle.engine_fastpath.specs.Runs.{Plain};
 ghost use Rattle.engine_loops.specs.Turns.{steps_left, Ready, Turned, Advanced, Closed};
 
@@ -84,20 +84,7 @@ fn next_code(
     turns::past(t, 1, taken)
 }
 
-// Whether a run of units that have codes begins with a unit. None does where codes may not be asked.
-fn run_begins(asked: bool, index: &[u8], blocks: &[u16], unit: u16) -> bool
-    requires index_len { length index.now ≡ 256 }
-    requires by_index { (high : ℕ) → 256 * entry_at index.now high + 256 ≤ length blocks.now }
-    requires unit_value { asked ≡ true → is_surrogate unit ≡ true → unit_entry index.now blocks.now unit ≡ 0xFFFF }
-    ensures { result ≡ true → asked ≡ true }
-{
-    if !asked {
-        return false;
-    }
-    codepage_lookup::code_of(index, blocks, unit) != 0xFFFF
-}
-
-// Units that have codes, and the code behind them. Where a unit has none, no run is begun for it: text that maps badly has many.
+// Units that have codes, and the code behind them.
 fn advance(
     policy: Policy,
     default: u8,
@@ -116,11 +103,8 @@ fn advance(
     ensures { Advanced (converter (encoder index.now blocks.now) policy default) piece.now out.old t out.new result }
 {
     let at = t.at;
-    if !run_begins(asked, index, blocks, piece[at]) {
-        return next_code(policy, default, index, blocks, piece, t, out);
-    }
     let s = t.progress;
-    let place = runs::run_of_coded(index, blocks, piece, at, s.written, out);
+    let place = runs::run_of_coded(asked, index, blocks, piece, at, s.written, out);
     let next = turns::moved(t, place.read, place.written);
     next_code(policy, default, index, blocks, piece, next, out)
 }

@@ -7,7 +7,7 @@ use engine::progress::Progress;
 
 // How far the call is, the place in the piece, and the unit that was read and waits for the next one, if one does: a lead byte or a
 // high surrogate.
-#[derive(Drop)]
+#[derive(Clone, Copy)]
 pub struct Turn {
     pub progress: Progress,
     pub at: usize,
