@@ -4,7 +4,7 @@ use mathlib.Core.List.{List, [], ◌∷◌, ◌++◌, append_assoc}
 use mathlib.Core.Logic.{◌↔◌}
 use mathlib.Core.Option.{Option, none, some}
 use mathlib.Core.Path.{◌≡◌, refl, sym, ap, ◌∙◌, subst}
-use Prim.Native.Nat.{ℕ, ◌+◌, ◌*◌, ◌<◌, ◌≤◌, ◌^◌}
+use Prim.Native.Nat.{ℕ, ◌+◌, ◌<◌, ◌≤◌, ◌^◌}
 use native.Mathlib.Omega.{arith}
 use lib.Dec.{leb, ltb}
 use lib.ListN.{length, take, drop, length-append}
@@ -24,7 +24,7 @@ use Rattle.codepage.specs.Lent.{over}
 use Rattle.codepage.proofs.ShapeLaws.{and_left, and_right}
 use Rattle.convert.proofs.CallLaws.{Valid, valid_facts, most_twice}
 use Rattle.checkpoint.specs.declared.Written.{Written}
-use Rattle.checkpoint.specs.Line.{tab, line_of, field_of, closing_of, decimal, run_of, kept, fields_by, fields, field, letter, number, three_digits, pending_field, closing, one, succeed, ◌>>=◌, Parsed, Parser, Representable, Restores, PendingFits, letter_of, digits_of, pending_of, Saving, unwritten, write_of, written_as, Saved, Loading, loaded, read_of}
+use Rattle.checkpoint.specs.Line.{tab, line_of, field_of, closing_of, decimal, run_of, kept, fields_by, fields, field, letter, number, three_digits, pending_field, closing, succeed, ◌>>=◌, Parsed, Parser, Representable, Restores, PendingFits, letter_of, digits_of, pending_of, Saving, unwritten, write_of, written_as, Saved, Loading, loaded, read_of}
 use Rattle.checkpoint.specs.Sample.{sample_run, sample_line, pending_run, pending_line, longest_run, longest_pending, not_lines, AllAnswered}
 use Rattle.checkpoint.proofs.Computing.{line_rules}
 use Rattle.checkpoint.proofs.DecimalLaws.{decimal_short}

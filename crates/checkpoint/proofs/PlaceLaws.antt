@@ -207,9 +207,9 @@ same_then {A} p q k bytes rest e = by_case (q rest) refl
 
 module _ (limit : ℕ) where
   -- a number within the limit is read
-  pub at_most : (n : ℕ) (bytes : List ℕ) → n ≤ limit → at_most limit n bytes ≡ got n bytes
+  pub at_most_lem : (n : ℕ) (bytes : List ℕ) → n ≤ limit → at_most limit n bytes ≡ got n bytes
   unfolding at_most
-  at_most n bytes h = rw (le-leb n limit h) (return_some n bytes)
+  at_most_lem n bytes h = rw (le-leb n limit h) (return_some n bytes)
 
   -- a number over the limit is not
   pub over_most : (n : ℕ) (bytes : List ℕ) → limit < n → at_most limit n bytes ≡ none
@@ -217,9 +217,9 @@ module _ (limit : ℕ) where
   over_most n bytes h = rw (lt-leb n limit h)
 
   -- the parser's own value, if it is at most the limit
-  up_to : (p : Parser ℕ) (bytes : List ℕ) (n : ℕ) (rest : List ℕ) → p bytes ≡ got n rest → n ≤ limit → up_to limit p bytes ≡ got n rest
+  up_to_lem : (p : Parser ℕ) (bytes : List ℕ) (n : ℕ) (rest : List ℕ) → p bytes ≡ got n rest → n ≤ limit → up_to limit p bytes ≡ got n rest
   unfolding up_to
-  up_to p bytes n rest e h = then_some p (at_most limit) bytes n rest e ∙ at_most n rest h
+  up_to_lem p bytes n rest e h = then_some p (at_most limit) bytes n rest e ∙ at_most_lem n rest h
 
   -- digits behind a number over the limit do not bring it back
   over_limit : (value : ℕ) (bytes : List ℕ) → limit < value → up_to limit (more_digits value) bytes ≡ none
@@ -247,7 +247,7 @@ module _ (limit : ℕ) where
         → found_at value line i ≡ read_at (up_to limit (more_digits value)) line i
     digits_stop value i h k e =
         read_cons line i (succeed value) h ∙ return_some value _
-        ∙ sym (up_to (more_digits value) _ value _ (more_other value (get_or line i 0) (drop (i + 1) line) e) k)
+        ∙ sym (up_to_lem (more_digits value) _ value _ (more_other value (get_or line i 0) (drop (i + 1) line) e) k)
         ∙ sym (read_cons line i (up_to limit (more_digits value)) h)
 
     -- the end of the line ends the number, if it is within the limit
@@ -257,7 +257,7 @@ module _ (limit : ℕ) where
         let e : drop i line ≡ [] = drop_of_length-le line l in
         found_in line i value h
         ∙ ap (got value) e
-        ∙ sym (up_to (more_digits value) [] value [] (more_end value) k)
+        ∙ sym (up_to_lem (more_digits value) [] value [] (more_end value) k)
         ∙ ap (up_to limit (more_digits value)) (sym e)
         ∙ sym (read_in line i (up_to limit (more_digits value)) h)
 
@@ -279,7 +279,7 @@ module _ (limit : ℕ) where
     pub limited_zero : (at : ℕ) → at < length line → digit_value (get_or line at 0) ≡ some 0 → found_at 0 line (at + 1) ≡ read_at (up_to limit number) line at
     limited_zero at h e =
         found_in line (at + 1) 0 (omega arith)
-        ∙ sym (up_to number _ 0 _ (number_zero (drop (at + 1) line)) (omega arith))
+        ∙ sym (up_to_lem number _ 0 _ (number_zero (drop (at + 1) line)) (omega arith))
         ∙ ap (λ (b : ℕ). up_to limit number (b ∷ drop (at + 1) line)) (sym (digit_back (get_or line at 0) 0 e).0)
         ∙ sym (read_cons line at (up_to limit number) h)
 

@@ -14,7 +14,7 @@ use Rattle.checkpoint.specs.Line.{Parsed, Parser, succeed, ◌>>=◌, letter, nu
 use Rattle.checkpoint.specs.Places.{read_at, found_at, at_most, up_to}
 use Rattle.checkpoint.proofs.ParserLaws.{got, then_some, then_none, one_back, is_byte_back, return_some}
 use Rattle.checkpoint.proofs.LineLaws.{bounded, kept_some}
-use Rattle.checkpoint.proofs.PlaceLaws.{read_then, read_in, read_out, found_in, at_most, over_most, same_then}
+use Rattle.checkpoint.proofs.PlaceLaws.{read_then, read_in, read_out, found_in, at_most_lem, over_most, same_then}
 
 -- the fields in their order, with numbers up to the limits
 pub limited : Parser Run
@@ -67,7 +67,7 @@ module _ (limit : ℕ) (bytes : List ℕ) where
 
   limit_in : (f : Parsed ℕ) → number bytes ≡ some f → f.value ≤ limit → field (up_to limit number) bytes ≡ field number bytes
   unfolding field up_to
-  limit_in f e h = same_then (number >>= at_most limit) number _ bytes bytes (then_some number (at_most limit) bytes f.value f.rest e ∙ at_most limit f.value f.rest h ∙ sym e)
+  limit_in f e h = same_then (number >>= at_most limit) number _ bytes bytes (then_some number (at_most limit) bytes f.value f.rest e ∙ at_most_lem limit f.value f.rest h ∙ sym e)
 
   limit_out : (f : Parsed ℕ) → number bytes ≡ some f → limit < f.value → field (up_to limit number) bytes ≡ none
   unfolding field up_to

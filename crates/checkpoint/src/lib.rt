@@ -6,6 +6,9 @@
 //
 //     let saved = checkpoint::write(run, line);        // line: &mut [u8], room for 44
 //     let restored = checkpoint::read(&line[..length]);
+
+#![tactic(auto)]
+
 mod reader;
 mod words;
 mod writer;
@@ -16,7 +19,7 @@ ghost use Rattle.checkpoint.specs.Line.{write_of, Saved, read_of, restored_as};
 use convert::Run;
 
 // What line writing answers.
-#[derive(Drop)]
+#[derive(Clone, Copy)]
 pub enum Written {
     // 0, with the length of the line.
     Line(usize),
@@ -27,7 +30,7 @@ pub enum Written {
 }
 
 // What line reading answers.
-#[derive(Drop)]
+#[derive(Clone, Copy)]
 pub enum Restored {
     // 0, with the run.
     Accepted(Run),

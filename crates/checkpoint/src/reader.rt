@@ -9,37 +9,37 @@ use crate::words;
 use convert::{Direction, Pending, Policy};
 
 // What was found, and the place behind it.
-#[derive(Drop)]
+#[derive(Clone, Copy)]
 pub struct Letter {
     pub value: Direction,
     pub next: usize,
 }
 
-#[derive(Drop)]
+#[derive(Clone, Copy)]
 pub struct Digit {
     pub value: u8,
     pub next: usize,
 }
 
-#[derive(Drop)]
+#[derive(Clone, Copy)]
 pub struct Number {
     pub value: u64,
     pub next: usize,
 }
 
-#[derive(Drop)]
+#[derive(Clone, Copy)]
 pub struct Digits {
     pub value: Policy,
     pub next: usize,
 }
 
-#[derive(Drop)]
+#[derive(Clone, Copy)]
 pub struct FoundPending {
     pub value: Pending,
     pub next: usize,
 }
 
-#[derive(Drop)]
+#[derive(Clone, Copy)]
 pub struct Ending {
     pub value: bool,
     pub next: usize,

@@ -1,14 +1,13 @@
 -- Laws of a run call.
 use mathlib.Core.Bool.{Bool, true, false, not, ◌&&◌, ◌||◌, true≢false, false≢true}
 use mathlib.Core.List.{List, [], ◌∷◌, ◌++◌}
-use mathlib.Core.Option.{Option, none, some}
+use mathlib.Core.Option.{Option, some}
 use mathlib.Core.Path.{◌≡◌, refl, sym, ap, ◌∙◌, subst}
-use Prim.Native.Nat.{ℕ, zero, suc, ◌+◌, ◌-◌, ◌*◌, ◌^◌, ◌<◌, ◌≤◌}
+use Prim.Native.Nat.{ℕ, suc, ◌+◌, ◌-◌, ◌*◌, ◌^◌, ◌<◌, ◌≤◌}
 use native.Mathlib.Numerals.{add-one}
 use native.Mathlib.Omega.{arith}
 use lib.Dec.{leb, ltb, eqb}
-use lib.ListN.{length, get_or, drop, length-append, length-drop, get_or-eq_default}
-use lib.Bits.{bit_or}
+use lib.ListN.{length, get_or, length-append, length-drop, get_or-eq_default}
 use Rattle.codepage.specs.CodePage.{CodePage, pick, entry_at, is_lead, GoodShape, first_fault, is_good}
 use Rattle.codepage.specs.Reading.{is_high, decoder, encoder, as_units}
 use Rattle.codepage.proofs.ShapeLaws.{shape_exact, and_left, and_right}
@@ -20,11 +19,11 @@ use Rattle.convert.specs.declared.Pending.{Pending}
 use Rattle.convert.specs.declared.Pending.TheVariants.{Nothing, Byte, High}
 use Rattle.engine.specs.declared.Policy.{Policy}
 use Rattle.convert.specs.declared.Run.{Run}
-use borrow.Author.Tests.{eqb-true, eqb-false, leb-true, ltb-true, ltb-false, eq-eqb, ne_eqb, le-leb, not-true, not-false}
+use borrow.Author.Tests.{eqb-true, eqb-false, leb-true, ltb-true, ltb-false, eq-eqb, ne_eqb, le-leb, not-true}
 use Rattle.engine.specs.Policies.{policy_allowed}
 use Rattle.convert.specs.Runs.{piece_limit, read_limit, is_decoding, is_encoding, most_written, pending_allowed, valid_run}
-use Rattle.engine.specs.Engine.{Converter, converter, limit, Fed}
-use Rattle.convert.specs.Calls.{same_direction, lead_in, check, refusal, Called, pending_unit, pending_count, pending_as, final_unit, units_read, pending_after, ended_after, run_after, fed_by, accepted_call, refused_call, run_call, Answered}
+use Rattle.engine.specs.Engine.{converter, limit, Fed}
+use Rattle.convert.specs.Calls.{same_direction, lead_in, check, refusal, pending_unit, pending_count, pending_as, final_unit, units_read, pending_after, ended_after, run_after, fed_by, accepted_call, refused_call, run_call, Answered}
 use Rattle.codepage.specs.Lent.{over}
 use Rattle.engine.specs.Engine.{converter_of}
 use Rattle.convert.specs.Steps.{has_pending, pending_byte, pending_high, pending_agrees, most_of_one, run_refusal, rest_refusal, Finished, Refused}

@@ -1,7 +1,7 @@
 -- What `decode` and `encode` need, in the order of their code: the checks, the loop, and the result.
 use mathlib.Core.Bool.{Bool, true, false}
 use mathlib.Core.List.{List}
-use mathlib.Core.Path.{◌≡◌, refl, sym, ap, ◌∙◌}
+use mathlib.Core.Path.{◌≡◌, sym, ◌∙◌}
 use Prim.Native.Nat.{ℕ, ◌+◌, ◌^◌, ◌*◌, ◌<◌, ◌≤◌}
 use native.Mathlib.Omega.{arith}
 use lib.ListN.{length}
@@ -19,7 +19,7 @@ use Rattle.convert.specs.declared.Run.{Run}
 use Rattle.convert.specs.Runs.{read_limit}
 use Rattle.convert.specs.Calls.{refusal, pending_count, pending_after, fed_by, run_call, Answered}
 use Rattle.convert.specs.Steps.{has_pending, pending_byte, pending_high, Finished, Refused}
-use Rattle.convert.proofs.CallLaws.{accepted_facts, Named, refusal_shape, refusal_named, finish_needs, answered_accepted, answered_refused, decode_needs, decode_fed_lem, encode_needs, encode_fed_lem, loop_gives}
+use Rattle.convert.proofs.CallLaws.{accepted_facts, refusal_shape, refusal_named, finish_needs, answered_accepted, answered_refused, decode_needs, decode_fed_lem, encode_needs, encode_fed_lem, loop_gives}
 
 -- a check behind the shape's fails
 pub number_known : (direction : Direction) (run : Run) (p : CodePage) (count number : ℕ) → number ≡ refusal direction run p count → (number ≡ 0 → ⊥) → (10 ≤ number) × (number ≤ 16)

@@ -1,16 +1,16 @@
 -- Each number of a run call exactly in its case, of the call itself.
-use mathlib.Core.Bool.{Bool, true, false, true≢false, false≢true}
+use mathlib.Core.Bool.{Bool, true, false, false≢true}
 use mathlib.Core.List.{List, [], ◌∷◌, ◌++◌}
 use mathlib.Core.Logic.{◌↔◌, ◌⊎◌, inl, inr}
 use mathlib.Core.Option.{Option, none, some}
 use mathlib.Core.Path.{◌≡◌, refl, sym, ap, ◌∙◌, subst}
-use Prim.Native.Nat.{ℕ, zero, suc, ◌+◌, ◌-◌, ◌<◌, ◌≤◌}
+use Prim.Native.Nat.{ℕ, ◌+◌, ◌-◌, ◌<◌, ◌≤◌}
 use native.Mathlib.Omega.{arith}
 use lib.Dec.{eqb}
 use lib.ListN.{length, get_or, length-append}
 use borrow.Author.Tests.{eqb-true, eqb-false, eq-eqb, ne_eqb}
 use Rattle.codepage.specs.CodePage.{CodePage, pick}
-use Rattle.codepage.specs.Reading.{Reader, Code, size_of, codes_at_end, call_codes, left_pending, as_units}
+use Rattle.codepage.specs.Reading.{Reader, Code, codes_at_end, call_codes, left_pending, as_units}
 use Rattle.codepage.proofs.ReadingLaws.{sizes_of, sizes_cover}
 use Rattle.engine.specs.declared.Direction.{Direction}
 use Rattle.engine.specs.declared.Direction.TheVariants.{Decoding, Encoding}
@@ -21,7 +21,7 @@ use Rattle.convert.specs.declared.Pending.{Pending}
 use Rattle.convert.specs.declared.Pending.TheVariants.{Nothing, Byte, High}
 use Rattle.convert.specs.declared.Run.{Run}
 use Rattle.convert.specs.Calls.{refusal, Called, pending_unit, pending_count, pending_as, final_unit, units_read, pending_after, ended_after, run_after, fed_by, accepted_call, refused_call, run_call}
-use Rattle.convert.proofs.CallLaws.{Accepted, accepted_facts, refusal_named, pending_units, count_le_one, valid_in, final_as, feed_shape}
+use Rattle.convert.proofs.CallLaws.{Accepted, accepted_facts, pending_units, count_le_one, valid_in, final_as, feed_shape}
 use Rattle.convert.proofs.RefusalLaws.{Cases, AllPass, accepted_of, refusals_exact}
 use Rattle.convert.proofs.RunLaws.{refused_same}
 

@@ -2,7 +2,7 @@
 use mathlib.Core.Bool.{Bool, true, false, not, ◌&&◌, true≢false, false≢true}
 use mathlib.Core.Logic.{◌↔◌}
 use mathlib.Core.List.{List, [], ◌∷◌}
-use mathlib.Core.Path.{◌≡◌, refl, sym, ap, ◌∙◌, subst}
+use mathlib.Core.Path.{◌≡◌, refl, sym, ◌∙◌, subst}
 use Prim.Native.Nat.{ℕ, zero, suc, ◌+◌, ◌<◌, ◌≤◌}
 use native.Mathlib.Omega.{arith}
 use lib.Dec.{leb, eqb}
@@ -126,8 +126,8 @@ module _ (direction : Direction) (run : Run) (p : CodePage) (count : ℕ) where
   good : is_good (first_fault p) ≡ true → GoodShape p
   good e = (shape_exact p).0 e
 
-  is_good : GoodShape p → is_good (first_fault p) ≡ true
-  is_good g = (shape_exact p).1 g
+  is_good_lem : GoodShape p → is_good (first_fault p) ≡ true
+  is_good_lem g = (shape_exact p).1 g
 
   same : (same_direction direction run.direction && eqb run.page p.page) ≡ true → (direction ≡ run.direction) × (run.page ≡ p.page)
   same e = (same_direction_lem direction run.direction (and_left _ _ e), eqb-true _ _ (and_right (same_direction direction run.direction) _ e))
@@ -163,40 +163,40 @@ module _ (direction : Direction) (run : Run) (p : CodePage) (count : ℕ) where
   pub accepted_of : AllPass direction run p count → refusal direction run p count ≡ 0
   unfolding tests
   accepted_of (((((((g, c), r), s), l), e), t)) =
-      none.1 (is_good g, (le-leb _ _ c, ((rules_exact run).1 r, (is_same s.0 s.1, (l, (rw e, (le-leb _ _ t, tt)))))))
+      none.1 (is_good_lem g, (le-leb _ _ c, ((rules_exact run).1 r, (is_same s.0 s.1, (l, (rw e, (le-leb _ _ t, tt)))))))
 
   -- EACH NUMBER EXACTLY IN ITS CASE.
   pub refusals_exact : Cases direction run p count (refusal direction run p count)
   unfolding tests
   refusals_exact =
       record {
-        bad_shape = (λ e g. not_both _ ((number 0).0 e) (is_good g), λ h. (number 0).1 (is_false _ (λ e. h (good e))));
+        bad_shape = (λ e g. not_both _ ((number 0).0 e) (is_good_lem g), λ h. (number 0).1 (is_false _ (λ e. h (good e))));
         too_long = (
           λ e. let q = (number 1).0 e in (good q.0, leb-false _ _ q.1),
-          λ h. (number 1).1 (is_good h.0, lt-leb _ _ h.1),
+          λ h. (number 1).1 (is_good_lem h.0, lt-leb _ _ h.1),
         );
         invalid_run = (
           λ e. let q = (number 2).0 e in (counted (good q.0) q.1.0, λ r. not_both _ q.1.1 ((rules_exact run).1 r)),
-          λ h. (number 2).1 (is_good h.0.0, (le-leb _ _ h.0.1, is_false _ (λ e. h.1 ((rules_exact run).0 e)))),
+          λ h. (number 2).1 (is_good_lem h.0.0, (le-leb _ _ h.0.1, is_false _ (λ e. h.1 ((rules_exact run).0 e)))),
         );
         other_run = (
           λ e. let q = (number 3).0 e in (ruled (counted (good q.0) q.1.0) q.1.1.0, λ s. not_both _ q.1.1.1 (is_same s.0 s.1)),
-          λ h. (number 3).1 (is_good h.0.0.0, (le-leb _ _ h.0.0.1, ((rules_exact run).1 h.0.1, is_false _ (λ e. h.1 (same e))))),
+          λ h. (number 3).1 (is_good_lem h.0.0.0, (le-leb _ _ h.0.0.1, ((rules_exact run).1 h.0.1, is_false _ (λ e. h.1 (same e))))),
         );
         not_lead = (
           λ e. let q = (number 4).0 e in (alike (ruled (counted (good q.0) q.1.0) q.1.1.0) q.1.1.1.0, q.1.1.1.1),
-          λ h. (number 4).1 (is_good h.0.0.0.0, (le-leb _ _ h.0.0.0.1, ((rules_exact run).1 h.0.0.1, (is_same h.0.1.0 h.0.1.1, h.1)))),
+          λ h. (number 4).1 (is_good_lem h.0.0.0.0, (le-leb _ _ h.0.0.0.1, ((rules_exact run).1 h.0.0.1, (is_same h.0.1.0 h.0.1.1, h.1)))),
         );
         ended = (
           λ e. let q = (number 5).0 e in ((alike (ruled (counted (good q.0) q.1.0) q.1.1.0) q.1.1.1.0, q.1.1.1.1.0), not-false _ q.1.1.1.1.1),
           λ h. let a = h.0.0 in
-              (number 5).1 (is_good a.0.0.0, (le-leb _ _ a.0.0.1, ((rules_exact run).1 a.0.1, (is_same a.1.0 a.1.1, (h.0.1, rw h.1))))),
+              (number 5).1 (is_good_lem a.0.0.0, (le-leb _ _ a.0.0.1, ((rules_exact run).1 a.0.1, (is_same a.1.0 a.1.1, (h.0.1, rw h.1))))),
         );
         read_limit = (
           λ e. let q = (number 6).0 e in
               (going (alike (ruled (counted (good q.0) q.1.0) q.1.1.0) q.1.1.1.0, q.1.1.1.1.0) q.1.1.1.1.1.0, leb-false _ _ q.1.1.1.1.1.1),
           λ h. let a = h.0.0.0 in
-              (number 6).1 (is_good a.0.0.0, (le-leb _ _ a.0.0.1, ((rules_exact run).1 a.0.1, (is_same a.1.0 a.1.1, (h.0.0.1, (rw h.0.1, lt-leb _ _ h.1)))))),
+              (number 6).1 (is_good_lem a.0.0.0, (le-leb _ _ a.0.0.1, ((rules_exact run).1 a.0.1, (is_same a.1.0 a.1.1, (h.0.0.1, (rw h.0.1, lt-leb _ _ h.1)))))),
         );
         accepted = (
           λ e. let q = none.0 (below_ten e) in

@@ -9,7 +9,7 @@ use lib.Dec.{leb, eqb}
 use lib.Bits.{or_zero_l}
 use borrow.Author.Tests.{eqb-true}
 use Rattle.codepage.specs.CodePage.{CodePage, pick, entry_at, is_single, is_lead}
-use Rattle.codepage.specs.Reading.{byte_alone, is_surrogate, bytes_of, Reader, decoder, encoder, Code, units_of, size_of, alone, together, completed, waits_then, codes_at_end, call_codes, codes, as_units}
+use Rattle.codepage.specs.Reading.{byte_alone, is_surrogate, bytes_of, Reader, decoder, encoder, Code, units_of, size_of, alone, together, codes_at_end, call_codes, codes, as_units}
 use Rattle.codepage.proofs.ReadingLaws.{codes_wait, codes_one, codes_two, codes_alone, none_waits, joined, covers, found_no_wait, found_no_surrogate}
 use Rattle.codepage.specs.declared.Kind.TheVariants.{Invalid}
 use Rattle.codepage.specs.declared.Lookup.TheVariants.{Found, Lacking}

@@ -1,16 +1,15 @@
 -- Every start and every accepted call gives a run that keeps the rules, and an accepted call with units and room reads.
-use mathlib.Core.Bool.{Bool, true, false, not, ◌&&◌, ◌||◌, true≢false, false≢true}
+use mathlib.Core.Bool.{Bool, true, false, not, ◌&&◌, ◌||◌, false≢true}
 use mathlib.Core.List.{List, [], ◌∷◌, ◌++◌}
-use mathlib.Core.Logic.{◌⊎◌, inl, inr, ⊎_elim}
-use mathlib.Core.Option.{Option, none, some}
+use mathlib.Core.Logic.{◌⊎◌, inl, inr}
 use mathlib.Core.Path.{◌≡◌, refl, sym, ap, ◌∙◌, subst}
-use Prim.Native.Nat.{ℕ, zero, suc, ◌+◌, ◌-◌, ◌*◌, ◌^◌, ◌<◌, ◌≤◌}
+use Prim.Native.Nat.{ℕ, ◌+◌, ◌-◌, ◌*◌, ◌^◌, ◌<◌, ◌≤◌}
 use native.Mathlib.Nat.{mul-zero}
 use native.Mathlib.Omega.{arith}
 use lib.Dec.{leb, ltb, eqb}
 use lib.ListN.{length, get_or, length-append}
 use lib.Bits.{bit_or, or_lt}
-use borrow.Author.Tests.{eqb-true, eqb-false, ltb-true, ltb-false, leb-true, eq-eqb, ne_eqb, lt-ltb, le-ltb, le-leb, not-true}
+use borrow.Author.Tests.{eqb-true, eqb-false, ltb-true, leb-true, eq-eqb, ne_eqb, lt-ltb, le-leb}
 use Rattle.codepage.specs.Reading.{is_high, as_units}
 use Rattle.codepage.specs.CodePage.{CodePage, pick}
 use Rattle.codepage.proofs.ShapeLaws.{and_left, and_right}
@@ -21,14 +20,14 @@ use Rattle.convert.specs.declared.Pending.{Pending}
 use Rattle.convert.specs.declared.Pending.TheVariants.{Nothing, Byte, High}
 use Rattle.convert.specs.declared.Run.{Run}
 use Rattle.engine.specs.Policies.{policy_allowed}
-use Rattle.engine.specs.Engine.{Fed, limit, feed_from}
+use Rattle.engine.specs.Engine.{Fed, limit}
 use Rattle.convert.specs.Runs.{read_limit, most_written, pending_allowed, valid_run, fresh, start_of, written_limit}
 use Rattle.convert.specs.Calls.{refusal, ReadsOrSettles, pending_unit, pending_count, pending_as, final_unit, units_read, pending_after, ended_after, run_after, fed_by, accepted_call, refused_call, run_call}
 use Rattle.engine.specs.Engine.{converter_of}
 use Rattle.engine.proofs.EngineLaws.{Shape}
 use Rattle.engine.proofs.EncodeLaws.{encoder_high}
 use Rattle.engine.proofs.BoundLaws.{Kept, kept_from, reads, widest, bounded_of}
-use Rattle.convert.proofs.CallLaws.{Valid, valid_facts, valid_of, Accepted, accepted_facts, pending_units, valid_in, final_as, feed_shape, read_le}
+use Rattle.convert.proofs.CallLaws.{valid_facts, valid_of, Accepted, accepted_facts, pending_units, valid_in, final_as, feed_shape, read_le}
 
 -- ---- a start
 -- AN ACCEPTED START gives a run that keeps the rules.

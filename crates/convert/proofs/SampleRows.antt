@@ -1,10 +1,10 @@
 -- The rows of document 01, of CR 2, CR 4 and CR 5 hold of the rules, the sample page has a good shape, and texts on it return or do not.
-use mathlib.Core.List.{List, [], ◌∷◌}
-use mathlib.Core.Path.{◌≡◌, refl, sym, ap, ◌∙◌, subst}
+use mathlib.Core.List.{[], ◌∷◌}
+use mathlib.Core.Path.{◌≡◌, refl, sym, ap, ◌∙◌}
 use Prim.Native.Nat.{ℕ}
 use native.Mathlib.Omega.{arith}
 use Rattle.codepage.specs.CodePage.{GoodShape}
-use Rattle.codepage.specs.Reading.{bytes_of, Code, codes}
+use Rattle.codepage.specs.Reading.{bytes_of, codes}
 use Rattle.codepage.specs.declared.Kind.TheVariants.{UndefinedSingle, Invalid}
 use Rattle.codepage.specs.declared.Lookup.TheVariants.{Found, Lacking}
 use Rattle.codepage.proofs.ShapeLaws.{shape_exact}

@@ -1,12 +1,11 @@
 -- Document 01, "One call of a run", as amended by CR 2 and CR 5. docs/RULES.md, "A call of a run".
-use Rattle.std.specs.Prelude.{Bool, true, false, not, ◌&&◌, List, [], ◌∷◌, ◌++◌, ◌⊎◌, ◌≡◌, ℕ, ◌+◌, ◌-◌, ◌≤◌, leb, eqb, length}
+use Rattle.std.specs.Prelude.{Bool, true, false, not, ◌&&◌, List, [], ◌∷◌, ◌⊎◌, ◌≡◌, ℕ, ◌+◌, ◌-◌, ◌≤◌, leb, eqb, length}
 use Rattle.std.proofs.Math.Option.{Option, none, some}
 use Rattle.std.specs.Int.Bits.{bit_or}
 use Rattle.codepage.specs.CodePage.{CodePage, pick, entry_at, is_lead, first_fault, is_good}
 use Rattle.codepage.specs.Reading.{as_units}
 use Rattle.engine.specs.declared.Direction.{Direction}
 use Rattle.engine.specs.declared.Direction.TheVariants.{Decoding, Encoding}
-use Rattle.engine.specs.declared.Policy.{Policy}
 use Rattle.convert.specs.declared.Pending.{Pending}
 use Rattle.convert.specs.declared.Pending.TheVariants.{Nothing, Byte, High}
 use Rattle.convert.specs.declared.Run.{Run}
@@ -15,7 +14,7 @@ use Rattle.convert.specs.declared.Answer.TheVariants.{AllRead, UnitPending, Outp
 use Rattle.convert.specs.declared.Outcome.{Outcome}
 use Rattle.codepage.specs.Lent.{over}
 use Rattle.engine.specs.Engine.{converter_of, limit, Fed, feed_from}
-use Rattle.convert.specs.Runs.{piece_limit, read_limit, valid_run, is_decoding}
+use Rattle.convert.specs.Runs.{piece_limit, read_limit, valid_run}
 
 -- The number of each answer.
 abbrev pub number_of : Answer → ℕ

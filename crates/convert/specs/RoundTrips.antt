@@ -1,6 +1,6 @@
 -- Document 01, "Reading one unit for bytes": when a unit and a code belong together, so that texts of them return.
 -- docs/RULES.md, "Reading units".
-use Rattle.std.specs.Prelude.{List, [], ◌∷◌, ◌++◌, ◌≡◌, ℕ}
+use Rattle.std.specs.Prelude.{List, [], ◌∷◌, ◌≡◌, ℕ}
 use Rattle.codepage.specs.CodePage.{CodePage}
 use Rattle.codepage.specs.Reading.{bytes_of, Code, units_of, codes}
 use Rattle.codepage.specs.declared.Lookup.TheVariants.{Found}

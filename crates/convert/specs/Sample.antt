@@ -1,7 +1,7 @@
 -- Document 01, "The little page, and sixteen rows to prove": the sample page, and its rows of run calls, row 7 as amended by CR 2
 -- and row 15 by CR 5, each under 555 by name (CR 4) unless it names digits; and rows of CR 2, CR 4 and CR 5.
 -- docs/RULES.md, "The little page", above the first heading, has the page.
-use Rattle.std.specs.Prelude.{Bool, true, false, List, [], ◌∷◌, ◌++◌, ◌≡◌, ℕ, zero, suc, ◌+◌, length, set, replicate}
+use Rattle.std.specs.Prelude.{Bool, true, false, List, [], ◌∷◌, ◌++◌, ◌≡◌, ℕ, zero, suc, length, set, replicate}
 use Rattle.codepage.specs.CodePage.{CodePage}
 use Rattle.codepage.specs.Lent.{over}
 use Rattle.engine.specs.declared.Direction.{Direction}

@@ -10,6 +10,9 @@
 //     run = outcome.run;                       // outcome.answer.number(), outcome.read, outcome.written
 //
 // With one place of room more than the piece has bytes (encoding: one byte more than twice its units) no answer is 2.
+
+#![tactic(auto)]
+
 mod finish;
 mod refusals;
 pub mod rules;
@@ -27,7 +30,7 @@ pub use engine::{Direction, Policy};
 use engine_loops::{decoder, encoder};
 
 // What was read at the end of a piece and waits for what follows (documents 01 and 02: what is pending), or none.
-#[derive(Drop)]
+#[derive(Clone, Copy)]
 pub enum Pending {
     Nothing,
     // A lead byte, in a decoding run.
@@ -37,7 +40,7 @@ pub enum Pending {
 }
 
 // A run.
-#[derive(Drop)]
+#[derive(Clone, Copy)]
 pub struct Run {
     pub direction: Direction,
     pub page: u16,
@@ -50,14 +53,14 @@ pub struct Run {
 }
 
 // What a start answers: a fresh run, or 17.
-#[derive(Drop)]
+#[derive(Clone, Copy)]
 pub enum Started {
     Accepted(Run),
     Refused,
 }
 
 // What a run call answers.
-#[derive(Drop)]
+#[derive(Clone, Copy)]
 pub enum Answer {
     // 0: all read, nothing pending, not stopped.
     AllRead,
@@ -84,7 +87,7 @@ pub enum Answer {
 }
 
 // The result of a run call: the units of the piece read, the units of output written, and the new run.
-#[derive(Drop)]
+#[derive(Clone, Copy)]
 pub struct Outcome {
     pub answer: Answer,
     pub read: usize,

@@ -8,7 +8,7 @@ use Prim.Native.Nat.{ℕ, zero, suc, ◌+◌, ◌-◌, ◌*◌, ◌<◌, ◌≤�
 use native.Mathlib.Omega.{arith}
 use lib.Dec.{leb, ltb, eqb}
 use lib.ListN.{length, length-append, take, drop}
-use denote.Ref.{Bor}
+use denote.Ref.{MutBor}
 use lib.Seq.{take_at}
 use borrow.Author.Tests.{leb-true, le-leb, ltb-true, ltb-false, eq-eqb, ne_eqb}
 use Rattle.codepage.specs.CodePage.{CodePage, pick, entry_at, GoodShape, first_fault, is_good}
@@ -225,7 +225,7 @@ module _ (direction : Direction) (policy : Policy) (p : CodePage) (text : List �
   filled_count = count_is ∙ sym (ap length front_is)
 
   -- The front of that length, with number, flags, read and need of the answer, keeps the promise of the filled part.
-  pub filled_as : (lent part : Bor (List ℕ)) (number : ℕ) → part.ref_ptr ≡ lent.ref_ptr → part.now ≡ take totals.written after → number ≡ converted_number r
+  pub filled_as : (lent part : MutBor (List ℕ)) (number : ℕ) → part.ref_ptr ≡ lent.ref_ptr → part.now ≡ take totals.written after → number ≡ converted_number r
       → FilledAs given lent part number totals.flags totals.read totals.need
   filled_as lent part number place front n =
       record {

@@ -1,14 +1,14 @@
 -- Each number of the call on a whole text exactly in its case.
-use mathlib.Core.Bool.{Bool, true, false, true≢false, false≢true}
-use mathlib.Core.List.{List, [], ◌∷◌}
+use mathlib.Core.Bool.{Bool, true, false, false≢true}
+use mathlib.Core.List.{List}
 use mathlib.Core.Logic.{◌↔◌}
-use mathlib.Core.Option.{Option, none, some}
+use mathlib.Core.Option.{none}
 use mathlib.Core.Path.{◌≡◌, refl, sym, ap, ◌∙◌}
 use Prim.Native.Nat.{ℕ, ◌<◌, ◌≤◌}
 use native.Mathlib.Omega.{arith}
 use lib.Dec.{leb, ltb, eqb}
 use lib.ListN.{length}
-use borrow.Author.Tests.{eqb-true, eqb-false, leb-true, leb-false, le-leb, lt-leb, ltb-true, ltb-false, eq-eqb, ne_eqb}
+use borrow.Author.Tests.{eqb-true, eqb-false, leb-true, leb-false, ltb-true, ltb-false, eq-eqb, ne_eqb}
 use Rattle.codepage.specs.CodePage.{CodePage, pick, GoodShape, first_fault, is_good}
 use Rattle.codepage.specs.Reading.{Code, codes}
 use Rattle.codepage.proofs.ReadingLaws.{none_waits}
@@ -16,7 +16,7 @@ use Rattle.codepage.proofs.ShapeLaws.{shape_exact}
 use Rattle.engine.specs.declared.Direction.{Direction}
 use Rattle.engine.specs.declared.Policy.{Policy}
 use Rattle.engine.specs.Policies.{policy_allowed}
-use Rattle.engine.specs.Engine.{Converter, converter, converter_of, reader_of, limit, endless, Fed, at_end, take_codes, feed_from}
+use Rattle.engine.specs.Engine.{Converter, converter, converter_of, reader_of, limit, endless, Fed, take_codes, feed_from}
 use Rattle.engine.proofs.AnswerLaws.{Goes, StopsAt, NoRoomAt, codes_exact, AnswerCases, answer_cases}
 use Rattle.engine.proofs.EngineLaws.{shape_from}
 use Rattle.convert.specs.Runs.{piece_limit}
@@ -171,19 +171,19 @@ module _ (direction : Direction) (policy : Policy) (p : CodePage) (text : List �
   zero_of : TextPasses direction policy p (length text) → refused_with ≡ 0
   zero_of h = accepted_zero direction policy p (length text) ((text_refusals direction policy p (length text)).accepted.1 h)
 
-  answer_of : (k : ℕ) → k < 10 → given.number ≡ k → (take_codes v (limit room) ks none).answer ≡ k
-  answer_of k h e = sym (accepted_is (zero_of (passes (omega arith)))) ∙ e
+  answer_of_lem : (k : ℕ) → k < 10 → given.number ≡ k → (take_codes v (limit room) ks none).answer ≡ k
+  answer_of_lem k h e = sym (accepted_is (zero_of (passes (omega arith)))) ∙ e
 
   -- EACH NUMBER EXACTLY IN ITS CASE, with any room, also with none (counting).
   pub text_numbers : TextNumbers direction policy p text room given
   text_numbers =
       let r = text_refusals direction policy p (length text) in
       record {
-        all_read = (λ e. (passes (omega arith), (cases.all_read.0 (answer_of 0 (omega arith) e)).0), λ h. accepted_is (zero_of h.0) ∙ cases.all_read.1 (h.1, refl));
-        full = (λ e. (passes (omega arith), cases.full.0 (answer_of 2 (omega arith) e)), λ h. accepted_is (zero_of h.0) ∙ cases.full.1 h.1);
-        stopped = (λ e. (passes (omega arith), cases.stopped.0 (answer_of 3 (omega arith) e)), λ h. accepted_is (zero_of h.0) ∙ cases.stopped.1 h.1);
+        all_read = (λ e. (passes (omega arith), (cases.all_read.0 (answer_of_lem 0 (omega arith) e)).0), λ h. accepted_is (zero_of h.0) ∙ cases.all_read.1 (h.1, refl));
+        full = (λ e. (passes (omega arith), cases.full.0 (answer_of_lem 2 (omega arith) e)), λ h. accepted_is (zero_of h.0) ∙ cases.full.1 h.1);
+        stopped = (λ e. (passes (omega arith), cases.stopped.0 (answer_of_lem 3 (omega arith) e)), λ h. accepted_is (zero_of h.0) ∙ cases.stopped.1 h.1);
         over_room = (λ e. let h = passes (omega arith) in (h, (need_over (zero_of h)).0 e), λ h. (need_over (zero_of h.0)).1 h.1);
-        never_waits = λ e. let (g, (c, w)) = cases.waits.0 (answer_of 1 (omega arith) e) in let z : ◌≡◌ {A = ℕ} 0 1 = cc in omega arith;
+        never_waits = λ e. let (g, (c, w)) = cases.waits.0 (answer_of_lem 1 (omega arith) e) in let z : ◌≡◌ {A = ℕ} 0 1 = cc in omega arith;
         refused =
             record {
               bad_policy = via 17 (omega arith) r.bad_policy;

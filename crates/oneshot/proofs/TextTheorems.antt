@@ -1,24 +1,22 @@
 -- What was written and read is that of one call marked last on a fresh run; need and flags are the whole reading's; with room for
 -- all they agree.
-use mathlib.Core.Bool.{Bool, true, false, true≢false}
-use mathlib.Core.List.{List, [], ◌∷◌}
-use mathlib.Core.Option.{Option, none, some}
-use mathlib.Core.Path.{◌≡◌, refl, sym, ap, ◌∙◌}
+use mathlib.Core.Bool.{true, true≢false}
+use mathlib.Core.List.{List}
+use mathlib.Core.Option.{none}
+use mathlib.Core.Path.{◌≡◌, refl, sym, ap}
 use Prim.Native.Nat.{ℕ, ◌-◌, ◌≤◌}
 use native.Mathlib.Omega.{arith}
-use lib.Dec.{ltb, eqb}
 use lib.ListN.{length}
 use lib.Bits.{or_zero_l}
-use borrow.Author.Tests.{eq-eqb, ne_eqb, le-ltb}
-use Rattle.codepage.specs.CodePage.{CodePage, pick}
+use borrow.Author.Tests.{eq-eqb, ne_eqb}
+use Rattle.codepage.specs.CodePage.{CodePage}
 use Rattle.engine.specs.declared.Direction.{Direction}
 use Rattle.engine.specs.declared.Policy.{Policy}
 use Rattle.engine.specs.Engine.{limit, endless, Fed, feed_from, feed, whole}
 use Rattle.convert.specs.Runs.{fresh, start_of}
 use Rattle.convert.specs.Calls.{refusal, Called, units_read, run_after, fed_by, accepted_call, run_call}
 use Rattle.engine.specs.Engine.{converter_of, reader_of, default_of}
-use Rattle.oneshot.specs.declared.Totals.{Totals}
-use Rattle.oneshot.specs.Texts.{text_refusal, Text, answer_of, accepted_text, text_fed, text_of, totals_or_none}
+use Rattle.oneshot.specs.Texts.{text_refusal, Text, accepted_text, text_fed, text_of, totals_or_none}
 use Rattle.engine.proofs.EngineLaws.{uncut, shape_from}
 use Rattle.engine.proofs.CodeLaws.{whole_is_feed}
 use Rattle.convert.proofs.RuleLaws.{rules_exact}

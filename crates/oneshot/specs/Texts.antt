@@ -1,8 +1,8 @@
 -- Document 02, CR 10 (and document 01, "What the box does" and "One call of a run"): a text as a whole, in one call. With empty
 -- room it only counts. docs/RULES.md, "A whole text in one call".
-use Rattle.std.specs.Prelude.{Bool, true, false, List, [], ◌∷◌, ◌≡◌, ℕ, leb, ltb, eqb, length}
+use Rattle.std.specs.Prelude.{true, List, [], ◌≡◌, ℕ, leb, ltb, eqb, length}
 use Rattle.std.proofs.Math.Option.{Option, none, some}
-use Rattle.std.specs.Borrow.{Bor}
+use Rattle.std.specs.Borrow.{MutBor}
 use Rattle.codepage.specs.CodePage.{CodePage, pick, first_fault, is_good}
 use Rattle.engine.specs.declared.Direction.{Direction}
 use Rattle.engine.specs.declared.Policy.{Policy}
@@ -85,7 +85,7 @@ pub record ConvertedAs (t : Text) (r : Converted) (before after : List ℕ) : Ty
 
 -- The promise of the call that hands back the filled part: t is what the rules give, lent the lent output before the call, part
 -- its front that is handed back, and n, f, u, m the number, flags, units read and need. Of a refusal flags, read and need are 0.
-pub record FilledAs (t : Text) (lent part : Bor (List ℕ)) (n f u m : ℕ) : Type 0 where
+pub record FilledAs (t : Text) (lent part : MutBor (List ℕ)) (n f u m : ℕ) : Type 0 where
   pub front : part.ref_ptr ≡ lent.ref_ptr
   pub output : part.now ≡ t.output
   pub number : n ≡ t.number

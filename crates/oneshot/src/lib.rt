@@ -6,6 +6,9 @@
 //
 //     let counted = oneshot::decode_text(policy, numbers, classes, singles, pairs, index, blocks, text, &mut []);
 //     let need = counted.totals().need;
+
+#![tactic(auto)]
+
 ghost use Rattle.std.specs.Prelude.{◌≡◌, ◌⊎◌, true, ℕ, ◌+◌, ◌*◌, ◌≤◌, length};
 ghost use Rattle.std.proofs.Math.Option.{none, some};
 ghost use Rattle.codepage.specs.CodePage.{code_page, entry_at};
@@ -24,7 +27,7 @@ use engine::{Direction, Policy, policies};
 use engine_loops::{counter, decoder, encoder};
 
 // What a text gave: the flags of its whole reading, the units read, the units of output that it needs, and those written.
-#[derive(Drop)]
+#[derive(Clone, Copy)]
 pub struct Totals {
     pub flags: u8,
     pub read: usize,
@@ -33,7 +36,7 @@ pub struct Totals {
 }
 
 // What the call answers.
-#[derive(Drop)]
+#[derive(Clone, Copy)]
 pub enum Converted {
     // 0: all read.
     All(Totals),

@@ -8,6 +8,9 @@
 //     let here = runrecord::decode_here(&mut run, numbers, classes, singles, pairs, index, blocks, piece, last, out);
 //
 // `decode_through` and `encode_through` are the by-value calls again, made through the record form: for callers that hold no record.
+
+#![tactic(auto)]
+
 ghost use Rattle.std.specs.Prelude.{◌≡◌, ℕ, length};
 ghost use Rattle.codepage.specs.CodePage.{code_page};
 ghost use Rattle.engine.specs.declared.Direction.TheVariants.{Decoding, Encoding};
@@ -19,7 +22,7 @@ use convert::{Answer, Outcome, Run};
 
 // The result of a call on a run record: the answer, the units of the piece read, and the units of output written. The new run is in
 // the record.
-#[derive(Drop)]
+#[derive(Clone, Copy)]
 pub struct Here {
     pub answer: Answer,
     pub read: usize,

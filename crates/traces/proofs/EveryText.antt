@@ -1,33 +1,29 @@
 -- Every text has a list of calls that ends with the whole output, on tables of a good shape and the run's page.
-use mathlib.Core.Bool.{Bool, true, false, ◌&&◌, true≢false, false≢true}
+use mathlib.Core.Bool.{Bool, true, false, true≢false, false≢true}
 use mathlib.Core.List.{List, [], ◌∷◌, ◌++◌, append-nil}
 use mathlib.Core.Logic.{◌⊎◌, inl, inr}
-use mathlib.Core.Option.{Option, none, some}
-use mathlib.Core.Path.{◌≡◌, refl, sym, ap, ◌∙◌, subst}
-use Prim.Native.Nat.{ℕ, zero, suc, ◌+◌, ◌-◌, ◌*◌, ◌<◌, ◌≤◌}
+use mathlib.Core.Option.{some}
+use mathlib.Core.Path.{◌≡◌, refl, sym, ap, ◌∙◌}
+use Prim.Native.Nat.{ℕ, zero, suc, ◌+◌, ◌*◌, ◌<◌, ◌≤◌}
 use native.Mathlib.Omega.{arith}
 use lib.Dec.{leb, eqb}
 use lib.ListN.{length, take, drop, replicate, length-append, length-take, length-drop, length-replicate, take-append-drop}
-use borrow.Author.Tests.{eqb-true, eqb-false, eq-eqb, ne_eqb, leb-true, leb-false, lt-ltb}
+use borrow.Author.Tests.{eqb-false, eq-eqb, ne_eqb, leb-true, leb-false, lt-ltb}
 use Rattle.codepage.specs.Reading.{as_units}
-use Rattle.codepage.specs.CodePage.{CodePage, GoodShape, pick, first_fault, is_good}
-use Rattle.codepage.proofs.ShapeLaws.{shape_exact}
+use Rattle.codepage.specs.CodePage.{GoodShape}
 use Rattle.engine.specs.declared.Direction.{Direction}
 use Rattle.engine.specs.declared.Direction.TheVariants.{Decoding, Encoding}
-use Rattle.engine.specs.declared.Policy.{Policy}
-use Rattle.convert.specs.declared.Pending.{Pending}
 use Rattle.convert.specs.declared.Run.{Run}
-use Rattle.engine.specs.Engine.{Converter, converter, limit, Fed, feed_from}
-use Rattle.convert.specs.Runs.{piece_limit, read_limit, valid_run, fresh}
-use Rattle.convert.specs.Calls.{lead_in, refusal, Called, pending_unit, pending_count, units_read, ended_after, fed_by, accepted_call, run_call}
+use Rattle.engine.specs.Engine.{Fed}
+use Rattle.convert.specs.Runs.{piece_limit}
+use Rattle.convert.specs.Calls.{refusal, pending_unit, units_read, ended_after, fed_by, accepted_call, run_call}
 use Rattle.engine.specs.Engine.{converter_of}
-use Rattle.engine.proofs.EngineLaws.{Waits, Shape}
+use Rattle.engine.proofs.EngineLaws.{Shape}
 use Rattle.engine.proofs.BoundLaws.{roomy, widest, bounded_of}
-use Rattle.engine.proofs.DecodeLaws.{decoder_lead}
-use Rattle.convert.proofs.CallLaws.{Accepted, accepted_facts, count_le_one, feed_shape}
+use Rattle.convert.proofs.CallLaws.{accepted_facts, count_le_one, feed_shape}
 use Rattle.convert.proofs.RuleLaws.{rules_exact}
 use Rattle.convert.proofs.RefusalLaws.{accepted_of}
-use Rattle.traces.specs.Model.{Setting, by_value, Call, feeding, Model, opened, says, is_accepted, in_hand, joined_by, accepted_by, next, play, Allowed, AllAllowed, whole_of}
+use Rattle.traces.specs.Model.{Setting, by_value, Call, feeding, Model, opened, says, is_accepted, joined_by, accepted_by, next, play, Allowed, AllAllowed, whole_of}
 use Rattle.traces.specs.Traces.{Entry, calls_of, Proper, Trace}
 use Rattle.traces.proofs.ModelLaws.{Kept, kept_start, kept_next, fair_whole}
 use Rattle.traces.proofs.ListLaws.{kept_list, traces_exist, lead_pending, left_text}

@@ -1,10 +1,10 @@
 -- DEMAND 3: one claim over every list of calls.
 use mathlib.Core.Bool.{Bool, true, false, not, ◌&&◌}
-use mathlib.Core.List.{List, [], ◌∷◌, ◌++◌}
-use mathlib.Core.Logic.{◌⊎◌, inl, inr}
+use mathlib.Core.List.{List, [], ◌∷◌}
+use mathlib.Core.Logic.{inl, inr}
 use mathlib.Core.Option.{Option, none, some}
 use mathlib.Core.Path.{◌≡◌, refl, sym, ap, ◌∙◌, subst}
-use Prim.Native.Nat.{ℕ, zero, suc, ◌+◌, ◌≤◌, ◌<◌}
+use Prim.Native.Nat.{ℕ, zero, suc, ◌<◌}
 use native.Mathlib.Omega.{arith}
 use lib.Dec.{eqb}
 use lib.ListN.{length, take, drop}
@@ -16,13 +16,11 @@ use Rattle.convert.specs.declared.Started.TheVariants.{Accepted}
 use Rattle.engine.specs.Policies.{policy_allowed}
 use Rattle.convert.specs.declared.Outcome.{Outcome}
 use Rattle.convert.specs.Runs.{fresh, Start, start_of, started_as}
-use Rattle.convert.specs.Calls.{Called, number_of, run_call, Answered}
+use Rattle.convert.specs.Calls.{Called, run_call, Answered}
 use Rattle.codepage.specs.Lent.{over}
-use Rattle.checkpoint.specs.declared.Written.{Written}
-use Rattle.checkpoint.specs.declared.Restored.{Restored}
-use Rattle.checkpoint.specs.Line.{Saving, write_of, Loading, read_of, written_as, Saved, restored_as, loaded, run_of}
+use Rattle.checkpoint.specs.Line.{write_of, read_of, written_as, loaded, run_of}
 use Rattle.runrecord.specs.Records.{outcome_of}
-use Rattle.traces.specs.Model.{Setting, by_value, in_record, Call, feeding, saving, loading, Said, said_of_call, said_of_saving, said_of_loading, says, is_accepted, in_hand, Model, opened, joined_by, noted_by, set_back_to, accepted_by, next, play, noted_beside, Note, Allowed, AllAllowed, whole_of}
+use Rattle.traces.specs.Model.{Setting, by_value, in_record, Call, feeding, saving, loading, Said, said_of_call, said_of_saving, said_of_loading, says, is_accepted, in_hand, Model, opened, joined_by, noted_by, set_back_to, accepted_by, next, play, noted_beside, Note, Allowed, AllAllowed}
 use Rattle.traces.specs.Traces.{Result, fed, fed_here, saved, loaded as restored, Entry, Meets, said_of, observed, hand_after, hand_at_end, AllMeet, calls_of, lent_before, lent_after, AllAgree, Alike, AlikeFor, SameFor, ReadAt, Demand3, Proper, Trace}
 use Rattle.traces.proofs.ModelLaws.{Kept, kept_start, kept_next, fair_begins, fair_whole}
 

@@ -1,16 +1,15 @@
 -- Of every list of allowed calls: it has a trace; some refusals are never met; which writing of a line is meant makes no
 -- difference.
-use mathlib.Core.Bool.{Bool, true, false, not, ◌&&◌, true≢false, false≢true}
+use mathlib.Core.Bool.{Bool, true, false, not, ◌&&◌, false≢true}
 use mathlib.Core.List.{List, [], ◌∷◌, ◌++◌}
-use mathlib.Core.Logic.{◌⊎◌, inl, inr}
 use mathlib.Core.Option.{Option, none, some}
 use mathlib.Core.Path.{◌≡◌, refl, sym, ap, ◌∙◌, subst}
-use Prim.Native.Nat.{ℕ, zero, suc, ◌+◌, ◌-◌, ◌<◌, ◌≤◌}
+use Prim.Native.Nat.{ℕ, zero, suc, ◌+◌, ◌-◌, ◌≤◌}
 use native.Mathlib.Omega.{arith}
 use lib.Dec.{ltb, eqb}
 use lib.ListN.{length, drop, length-append, length-drop}
 use borrow.Author.Tests.{eqb-true, eqb-false, eq-eqb}
-use Rattle.codepage.specs.CodePage.{CodePage, GoodShape, pick, first_fault, is_good}
+use Rattle.codepage.specs.CodePage.{CodePage, GoodShape, first_fault, is_good}
 use Rattle.codepage.specs.Lent.{over}
 use Rattle.codepage.proofs.ShapeLaws.{shape_exact}
 use Rattle.engine.specs.declared.Direction.{Direction}
@@ -25,22 +24,21 @@ use Rattle.convert.specs.declared.Pending.TheVariants.{Nothing, Byte, High}
 use Rattle.convert.specs.declared.Run.{Run}
 use Rattle.convert.specs.declared.Answer.{Answer}
 use Rattle.convert.specs.declared.Answer.TheVariants.{AllRead, UnitPending, OutputFull, Stopped, BadShape, PieceTooLong, InvalidRun, OtherRun, PendingNotLead, RunEnded, ReadLimit}
-use Rattle.convert.specs.declared.Outcome.{Outcome}
 use Rattle.convert.specs.declared.Started.TheVariants.{Accepted}
-use Rattle.convert.specs.Runs.{read_limit, RunRules, valid_run, fresh, start_of, started_as}
-use Rattle.convert.specs.Calls.{number_of, lead_in, refusal, Called, pending_unit, run_call, Answered}
+use Rattle.convert.specs.Runs.{valid_run, fresh, start_of, started_as}
+use Rattle.convert.specs.Calls.{number_of, lead_in, refusal, Called, pending_unit, run_call}
 use Rattle.convert.proofs.CallLaws.{PendingIn, valid_in, valid_facts, refusal_named}
 use Rattle.convert.proofs.RuleLaws.{rules_exact}
-use Rattle.convert.proofs.NumberLaws.{Numbers, numbers_exact, low_number, refused_number}
+use Rattle.convert.proofs.NumberLaws.{numbers_exact, low_number, refused_number}
 use Rattle.checkpoint.specs.declared.Written.{Written}
 use Rattle.checkpoint.specs.declared.Written.TheVariants as written
 use Rattle.checkpoint.specs.declared.Restored.{Restored}
 use Rattle.checkpoint.specs.declared.Restored.TheVariants as restored
-use Rattle.checkpoint.specs.Line.{line_of, run_of, write_of, read_of, loaded, written_as, Saved, restored_as}
+use Rattle.checkpoint.specs.Line.{line_of, run_of, write_of, read_of, loaded, Saved, restored_as}
 use Rattle.traces.specs.Model.{Setting, Form, by_value, in_record, Call, feeding, saving, loading, Note, Model, opened, says, next, play, Allowed, AllAllowed}
 use Rattle.traces.specs.Traces.{Result, fed, fed_here, saved, loaded as restoring, Entry, Meets, hand_after, AllMeet, calls_of, Proper, Trace}
 use Rattle.traces.proofs.StepLaws.{Reads}
-use Rattle.traces.proofs.ModelLaws.{Doing, Fair, Kept, NoteFair, AllFair, kept_start, kept_next, notes_alike}
+use Rattle.traces.proofs.ModelLaws.{Doing, Kept, NoteFair, AllFair, kept_start, kept_next, notes_alike}
 
 -- over a list of calls
 pub kept_play : (s : Setting) → Proper s → (cs : List Call) (m : Model) → Kept s m → AllAllowed s m cs → Kept s (play s m cs)

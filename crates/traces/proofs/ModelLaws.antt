@@ -1,16 +1,16 @@
 -- What the model and the run in hand keep over a list of calls.
-use mathlib.Core.Bool.{Bool, true, false, not, ◌&&◌, ◌||◌, true≢false, false≢true}
+use mathlib.Core.Bool.{Bool, true, false, ◌&&◌, true≢false, false≢true}
 use mathlib.Core.List.{List, [], ◌∷◌, ◌++◌, append-nil}
 use mathlib.Core.Logic.{◌⊎◌, inl, inr}
 use mathlib.Core.Option.{Option, none, some}
 use mathlib.Core.Path.{◌≡◌, refl, sym, ap, ◌∙◌, subst}
-use Prim.Native.Nat.{ℕ, zero, suc, ◌+◌, ◌-◌, ◌*◌, ◌^◌, ◌<◌, ◌≤◌}
+use Prim.Native.Nat.{ℕ, zero, suc, ◌+◌, ◌^◌, ◌≤◌}
 use native.Mathlib.Omega.{arith}
-use lib.Dec.{leb, ltb, eqb}
+use lib.Dec.{ltb, eqb}
 use lib.ListN.{length, take, drop, length-append}
 use lib.Seq.{take_at}
-use borrow.Author.Tests.{eqb-true, leb-true, ltb-true, ltb-false, eq-eqb, ne_eqb, lt-ltb, le-ltb}
-use Rattle.codepage.specs.CodePage.{CodePage, pick, first_fault, is_good}
+use borrow.Author.Tests.{eqb-true, eq-eqb, lt-ltb, le-ltb}
+use Rattle.codepage.specs.CodePage.{pick, first_fault, is_good}
 use Rattle.codepage.proofs.ShapeLaws.{shape_exact, and_left, and_right}
 use Rattle.engine.specs.declared.Direction.{Direction}
 use Rattle.engine.specs.declared.Direction.TheVariants.{Decoding, Encoding}
@@ -18,18 +18,17 @@ use Rattle.engine.specs.declared.Policy.{Policy}
 use Rattle.convert.specs.declared.Pending.{Pending}
 use Rattle.convert.specs.declared.Pending.TheVariants.{Nothing, Byte, High}
 use Rattle.convert.specs.declared.Run.{Run}
-use Rattle.engine.specs.Engine.{Converter, limit, Fed, halt, after, feed_from, feed, whole}
-use Rattle.convert.specs.Runs.{read_limit, most_written, valid_run, fresh, start_of}
-use Rattle.convert.specs.Calls.{refusal, Called, pending_unit, pending_count, final_unit, pending_after, ended_after, run_after, fed_by, accepted_call, refused_call, run_call}
-use Rattle.codepage.specs.Lent.{over}
+use Rattle.engine.specs.Engine.{Converter, limit, Fed, halt, after, feed_from}
+use Rattle.convert.specs.Runs.{valid_run, fresh}
+use Rattle.convert.specs.Calls.{refusal, Called, pending_unit, final_unit, pending_after, ended_after, run_after, fed_by, accepted_call, refused_call, run_call}
 use Rattle.engine.specs.Engine.{converter_of}
-use Rattle.engine.proofs.EngineLaws.{uncut, after_none, Shape}
+use Rattle.engine.proofs.EngineLaws.{uncut, after_none}
 use Rattle.engine.proofs.CodeLaws.{whole_is_feed}
-use Rattle.convert.proofs.CallLaws.{Valid, valid_facts, Accepted, accepted_facts, refusal_named, feed_shape}
+use Rattle.convert.proofs.CallLaws.{Accepted, accepted_facts, refusal_named, feed_shape}
 use Rattle.convert.proofs.RunLaws.{start_kept, call_kept, refused_same}
 use Rattle.checkpoint.specs.Line.{line_of, run_of, same_bytes, PendingFits, write_of, read_of, loaded}
 use Rattle.checkpoint.proofs.LineLaws.{representable, write_read, one_line_one_run}
-use Rattle.traces.specs.Model.{Setting, Form, Call, feeding, saving, loading, Note, Model, opened, Said, said_of_call, says, is_accepted, in_hand, noted_beside, joined_by, noted_by, set_back_to, accepted_by, next, Allowed, whole_of}
+use Rattle.traces.specs.Model.{Setting, Form, Call, feeding, saving, loading, Note, Model, opened, says, is_accepted, noted_beside, joined_by, noted_by, set_back_to, accepted_by, next, Allowed, whole_of}
 use Rattle.traces.specs.Traces.{AllBelow, width_of, Proper}
 use Rattle.traces.proofs.StepLaws.{Reads, call_reads}
 

@@ -1,11 +1,10 @@
 -- Texts that map both ways come back through run calls, under any cutting, with any saves and reloads between.
-use mathlib.Core.Bool.{true, ◌&&◌}
+use mathlib.Core.Bool.{true}
 use mathlib.Core.List.{List}
-use mathlib.Core.Path.{◌≡◌, refl, sym, ap, ◌∙◌}
+use mathlib.Core.Path.{◌≡◌, refl, ap, ◌∙◌}
 use Prim.Native.Nat.{ℕ}
-use lib.Dec.{eqb}
 use borrow.Author.Tests.{eq-eqb}
-use Rattle.codepage.specs.CodePage.{CodePage, GoodShape, first_fault, is_good}
+use Rattle.codepage.specs.CodePage.{CodePage, GoodShape}
 use Rattle.codepage.proofs.ShapeLaws.{shape_exact}
 use Rattle.engine.specs.declared.Direction.{Direction}
 use Rattle.engine.specs.declared.Direction.TheVariants.{Decoding, Encoding}

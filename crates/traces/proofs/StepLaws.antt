@@ -1,23 +1,22 @@
 -- One accepted call, and the whole reading of the text: what holds of the run before it holds of the run after it.
 use mathlib.Core.Bool.{Bool, true, false, true≢false, false≢true}
 use mathlib.Core.List.{List, [], ◌∷◌, ◌++◌, append_assoc, append-nil}
-use mathlib.Core.Option.{Option, none, some}
+use mathlib.Core.Option.{Option, some}
 use mathlib.Core.Path.{◌≡◌, refl, sym, ap, ◌∙◌, subst}
-use Prim.Native.Nat.{ℕ, zero, suc, ◌+◌, ◌-◌, ◌<◌, ◌≤◌}
+use Prim.Native.Nat.{ℕ, suc, ◌+◌, ◌-◌, ◌≤◌}
 use native.Mathlib.Omega.{arith}
 use lib.Dec.{eqb}
-use lib.ListN.{length, get_or, take, drop, length-append, length-drop, drop_of_length-le}
+use lib.ListN.{length, get_or, drop, length-append, length-drop, drop_of_length-le}
 use lib.Seq.{drop-append-le, drop-append-add, drop-drop, drop-cons, drop-append_seam}
 use lib.Bits.{bit_or, or_zero_r}
 use borrow.Author.Tests.{eqb-true, eqb-false, eq-eqb, ne_eqb}
 use Rattle.codepage.specs.Reading.{as_units}
-use Rattle.codepage.specs.CodePage.{pick}
 use Rattle.convert.specs.declared.Pending.{Pending}
 use Rattle.convert.specs.declared.Pending.TheVariants.{Nothing, Byte, High}
 use Rattle.convert.specs.declared.Run.{Run}
 use Rattle.engine.specs.Engine.{Converter, limit, endless, Fed, halt, after, feed_from, feed}
 use Rattle.convert.specs.Calls.{pending_unit, pending_count, final_unit, units_read, pending_after, ended_after, run_after, accepted_call}
-use Rattle.engine.proofs.EngineLaws.{uncut, after_none, after_after, Cut, cut, Shape, shape_from, Waits, feed_wait, feed_end}
+use Rattle.engine.proofs.EngineLaws.{uncut, after_after, Cut, cut, Shape, shape_from, Waits, feed_wait, feed_end}
 use Rattle.convert.proofs.CallLaws.{pending_units, count_le_one, final_unit_lem}
 
 -- What a run on a text has done of the whole reading, with its joined output.

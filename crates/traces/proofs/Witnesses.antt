@@ -2,8 +2,7 @@
 -- sixteen rows.
 use mathlib.Core.Bool.{true, false, false≢true}
 use mathlib.Core.List.{List, [], ◌∷◌, ◌++◌, map, append-nil}
-use mathlib.Core.Logic.{◌⊎◌, inl, inr}
-use mathlib.Core.Option.{some}
+use mathlib.Core.Logic.{inl, inr}
 use mathlib.Core.Path.{◌≡◌, refl, sym, ap, ◌∙◌, subst}
 use Prim.Native.Nat.{ℕ, zero, suc, ◌<◌, ◌≤◌, ◌^◌}
 use native.Mathlib.Omega.{arith}
@@ -25,10 +24,10 @@ use Rattle.checkpoint.specs.Sample.{sample_run, sample_line}
 use Rattle.checkpoint.proofs.Computing.{line_rules}
 use Rattle.checkpoint.proofs.LineLaws.{sample_saved, sample_restored}
 use Rattle.traces.specs.Model.{Setting, by_value, Call, feeding, saving, loading, Model, Said, opened, says, play, next, Allowed, AllAllowed}
-use Rattle.traces.specs.Traces.{Entry, AllBelow, width_of, Meets, observed, AllMeet, hand_after, hand_at_end, calls_of, Proper, Trace}
-use Rattle.traces.specs.Examples.{on_sample, interrupted_text, interrupted_line, interrupted, mixed, encoding_on_sample, cut_pair_text, cut_pair_line, cut_pair, MeetsNumber, Example, calling, line, sixteen_rows, ExamplesHold}
+use Rattle.traces.specs.Traces.{Entry, AllBelow, width_of, Meets, AllMeet, hand_after, hand_at_end, calls_of, Proper}
+use Rattle.traces.specs.Examples.{on_sample, interrupted_text, interrupted, mixed, encoding_on_sample, cut_pair_text, cut_pair, MeetsNumber, Example, calling, line, sixteen_rows, ExamplesHold}
 use Rattle.traces.proofs.ModelLaws.{kept_start}
-use Rattle.traces.proofs.ListLaws.{Played, result_exists, results_exist, fresh_started, TraceOf, traces_exist}
+use Rattle.traces.proofs.ListLaws.{result_exists, results_exist, fresh_started, TraceOf, traces_exist}
 use Rattle.traces.proofs.EveryTrace.{meets_says, over_list}
 use Rattle.traces.proofs.Computing.{list_rules}
 

@@ -1,9 +1,7 @@
 -- Worked lists on the sample page: a run whose line drops inside a two_byte character, one whose line drops inside a pair of
 -- surrogates, a list for each number that a list can meet, and the sixteen rows of document 01. docs/RULES.md, "Lists of calls".
-use Rattle.std.specs.Prelude.{Bool, true, false, List, [], ◌∷◌, ◌++◌, map, ◌≡◌, ℕ, length}
-use Rattle.std.proofs.Math.Option.{Option, none, some}
-use Rattle.codepage.specs.CodePage.{CodePage}
-use Rattle.engine.specs.declared.Direction.{Direction}
+use Rattle.std.specs.Prelude.{true, false, List, [], ◌∷◌, ◌++◌, map, ◌≡◌, ℕ, length}
+use Rattle.std.proofs.Math.Option.{some}
 use Rattle.engine.specs.declared.Direction.TheVariants.{Decoding, Encoding}
 use Rattle.engine.specs.Policies.{replacing}
 use Rattle.convert.specs.declared.Run.{Run}

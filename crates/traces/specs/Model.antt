@@ -1,6 +1,6 @@
 -- Document 01, "The lists of demand 3": the calls of a list, and the reference model (document 01: the plain book), which is
 -- kept from the calls alone. docs/RULES.md, "Lists of calls".
-use Rattle.std.specs.Prelude.{Bool, true, false, ◌&&◌, List, [], ◌∷◌, ◌++◌, ◌⊎◌, ◌≡◌, ℕ, ◌+◌, ◌≤◌, ltb, eqb, length, drop}
+use Rattle.std.specs.Prelude.{Bool, true, false, ◌&&◌, List, [], ◌∷◌, ◌++◌, ◌⊎◌, ◌≡◌, ℕ, ◌+◌, ltb, eqb, length, drop}
 use Rattle.std.proofs.Math.Option.{Option, none, some}
 use Rattle.codepage.specs.CodePage.{CodePage, pick, first_fault, is_good}
 use Rattle.engine.specs.declared.Direction.{Direction}

@@ -1,0 +1,14 @@
+use native.Mathlib.Omega.{arith}
+use mathlib.Core.Path.{refl}
+use Rattle.convert.specs.Calls.{run_after}
+use Rattle.convert.proofs.CallLaws.{read_le}
+use Rattle.convert.proofs.finish.accepted.Goals as goal
+
+pub overflow_add-next : goal.overflow_add-next
+overflow_add-next c =
+    omega (arith, c.requires.used_bound, c.read_of-read.ensures, read_le c.args.run.pending c.args.count c.args.s.answer c.args.s.used c.requires.used_bound.0)
+
+pub returns : goal.returns
+unfolding run_after
+returns c =
+    record { number = c.answer_of-answer.ensures; read = c.read_of-read.ensures; written = refl; run' = rw (← c.read_of-read.ensures, ← c.ended_after-ended.ensures) }

@@ -1,3 +1,0 @@
-pub mod Lent
-pub mod Local
-pub mod Values
