@@ -10,7 +10,7 @@ use lib.Dec.{leb}
 use lib.ListN.{length, take}
 use lib.Seq.{length-take-le}
 use borrow.Author.Tests.{lt-leb, leb-true, leb-false}
-use Rattle.codepage.specs.CodePage.{CodePage, GoodShape, entry_at, first_fault, is_good}
+use Rattle.codepage.specs.CodePage.{CodePage, entry_at}
 use Rattle.codepage.specs.Reading.{size_of}
 use Rattle.codepage.proofs.ShapeLaws.{shape_exact}
 use Rattle.convert.specs.Runs.{piece_limit}

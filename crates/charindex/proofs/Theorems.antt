@@ -197,11 +197,11 @@ module _ (r : Reader) (journal : List ℕ) (former : ℕ) (entries : List ℕ) (
       ∙ ap (λ (n : ℕ). entries_from 0 (placed r (take former journal)) 0 (blocks_of n)) before_size
       ∙ entries_same 0 (placed r (take former journal)) 0 (placed r journal) 0 (blocks_of former) (λ j a b. former_entry j (omega arith))
 
-  new_entries : (first : ℕ) → first ≡ blocks_of former
+  new_entries_lem : (first : ℕ) → first ≡ blocks_of former
       → new_entries r journal (start_after entries first) first ≡ entries_from 0 (placed r journal) first (blocks_of (length journal) - first)
   unfolding new_entries start_after placed
-  new_entries zero e = refl
-  new_entries (suc block) e =
+  new_entries_lem zero e = refl
+  new_entries_lem (suc block) e =
       let last : entry_at entries block ≡ block_entry 0 (placed r journal) (512 * block) =
       right_entry r (take former journal) entries right block (omega (arith, before_size)) ∙ former_entry block (omega arith) in
       let g = goes_on r journal block (entry_at entries block) (omega arith) last in
@@ -218,7 +218,7 @@ module _ (r : Reader) (journal : List ℕ) (former : ℕ) (entries : List ℕ) (
       let front = entries_from 0 ps 0 all in
       let parts : take first entries ++ new_entries r journal (start_after entries first) first ≡ front =
       ap (λ (l : List ℕ). l ++ new_entries r journal (start_after entries first) first) former_front
-      ∙ ap (λ (l : List ℕ). entries_from 0 ps 0 first ++ l) (new_entries first refl)
+      ∙ ap (λ (l : List ℕ). entries_from 0 ps 0 first ++ l) (new_entries_lem first refl)
       ∙ ap (λ (b : ℕ). entries_from 0 ps 0 first ++ entries_from 0 ps b (all - first)) none_before
       ∙ sym (entries_parts 0 ps 0 first (all - first)) ∙ ap (entries_from 0 ps 0) whole in
       ap (take all) (sym (append_assoc (take first entries) (new_entries r journal (start_after entries first) first) (drop all entries))

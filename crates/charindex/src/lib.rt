@@ -9,6 +9,9 @@
 //     // Appended::Entries(count), or Appended::Refused(why): why.number()
 //     let found = charindex::find(numbers, classes, singles, pairs, index, blocks, journal, entries, n);
 //     // Found::Code(place, length), or Found::Refused(why)
+
+#![tactic(auto)]
+
 ghost use Rattle.std.specs.Prelude.{◌≡◌, ◌*◌, ◌≤◌, length};
 ghost use Rattle.codepage.specs.CodePage.{code_page};
 ghost use Rattle.codepage.specs.Reading.{Reader};
@@ -22,7 +25,7 @@ use codepage::Numbers;
 use convert::Run;
 
 // Why a call is refused.
-#[derive(Drop)]
+#[derive(Clone, Copy)]
 pub enum Refusal {
     // 10: the shape of the tables is not good.
     BadShape,
@@ -37,7 +40,7 @@ pub enum Refusal {
 }
 
 // What appending answers.
-#[derive(Drop)]
+#[derive(Clone, Copy)]
 pub enum Appended {
     // The index has so many entries.
     Entries(usize),
@@ -45,7 +48,7 @@ pub enum Appended {
 }
 
 // What finding answers.
-#[derive(Drop)]
+#[derive(Clone, Copy)]
 pub enum Found {
     // The place of the code and its length.
     Code(usize, usize),
@@ -68,7 +71,7 @@ impl Refusal {
 }
 
 // A place where a code begins or the text ends, and how many codes start before it.
-#[derive(Drop)]
+#[derive(Clone, Copy)]
 struct Start {
     place: usize,
     count: usize,

@@ -1,15 +1,14 @@
 -- Each answer of a call exactly in its case.
-use mathlib.Core.Bool.{Bool, true, false, ◌&&◌, true≢false, false≢true}
-use mathlib.Core.List.{List, [], ◌∷◌}
+use mathlib.Core.Bool.{Bool, true, false}
+use mathlib.Core.List.{List}
 use mathlib.Core.Logic.{◌↔◌, ◌⊎◌, inl, inr}
 use mathlib.Core.Option.{Option, none, some}
-use mathlib.Core.Path.{◌≡◌, refl, sym, ap, ◌∙◌, subst}
+use mathlib.Core.Path.{◌≡◌, refl, sym, ◌∙◌, subst}
 use Prim.Native.Nat.{ℕ, ◌+◌, ◌≤◌, ◌<◌}
 use native.Mathlib.Omega.{arith}
-use lib.Dec.{leb, ltb, eqb}
+use lib.Dec.{leb, eqb}
 use lib.ListN.{length}
 use borrow.Author.Tests.{leb-true, leb-false}
-use Rattle.codepage.specs.CodePage.{pick}
 use Rattle.convert.specs.Runs.{piece_limit}
 use Rattle.fields.specs.declared.End.{End}
 use Rattle.fields.specs.declared.Found.{Found}
@@ -18,7 +17,7 @@ use Rattle.fields.specs.declared.Refusal.{Refusal}
 use Rattle.fields.specs.declared.Refusal.TheVariants.{BufferTooShort, BlockTooLong, InvalidState, FieldTooLong}
 use Rattle.fields.specs.declared.Answer.{Answer}
 use Rattle.fields.specs.declared.Answer.TheVariants.{Field as FieldFound, Incomplete, Refused}
-use Rattle.fields.specs.Fields.{field_units, end_in, field_limit, field_refusal, FieldCalled, read_with, found_call, held_call, refused_field_call, accepted_field_call, unless_field_refused, field_call}
+use Rattle.fields.specs.Fields.{field_units, end_in, field_limit, field_refusal, FieldCalled, read_with, found_call, held_call, refused_field_call, field_call}
 use Rattle.fields.proofs.CallLaws.{short, too_long, invalid, over_limit, accepted}
 
 -- What the checks that pass say: 20, 11, 27, 21.

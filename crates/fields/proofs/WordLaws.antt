@@ -9,7 +9,7 @@ use native.Mathlib.Omega.{arith}
 use lib.Dec.{eqb, leb}
 use lib.ListN.{length, get_or, take, drop, length-drop}
 use lib.Seq.{drop-cons, drop-drop, length-take-le}
-use lib.Bits.{bit_and, bit_or, bit_xor, block_half, block_odd, shifted_half, shifted_even, and_le_l, and_le_r, and_lt, or_lt, xor_lt, and_mask, and_shr, or_shr, and_block, or_block, xor_block, xor_self, xor_add_and, or_add_and, or_zero_r}
+use lib.Bits.{bit_and, bit_or, bit_xor, block_half, block_odd, shifted_half, shifted_even, and_le_l, and_le_r, and_lt, or_lt, xor_lt, and_mask, and_high, and_shr, or_shr, and_block, or_block, xor_block, xor_self, xor_add_and}
 use lib.Count.{count_trailing_zeros, under, trailing_le, trailing_of_zero}
 use borrow.Author.Tests.{eqb-true, eqb-false, leb-true, leb-false}
 use Rattle.codepage.specs.CodePage.{pick}
@@ -74,12 +74,12 @@ differs e c d = by (bit_xor e c) refl
     by (suc x) q = omega (arith, q)
 
 -- as the program marks the units of a word that are no separators, for words of any number of units: `low` has the bits of each unit below
--- its top bit, and `c`, `bar` and `feed` have the same number at each
+-- its top bit, and `c`, `bar`, `feed` and `top` have the same number at each
 abbrev others : (low c word : ℕ) → ℕ
 others low c word = nonzero_marked low (bit_xor word c)
 
-abbrev marked : (low bar feed word : ℕ) → ℕ
-marked low bar feed word = bit_or (bit_and (others low bar word) (others low feed word)) low
+abbrev marked : (low bar feed top word : ℕ) → ℕ
+marked low bar feed top word = bit_and (bit_and (others low bar word) (others low feed word)) top
 
 -- the top bit is 1 for a unit that is another than c, else 0
 top_other : (e c : ℕ) → e < 0x10000 → c < 0x10000 → others 0x7FFF c e / 2 ^ 15 ≡ pick (eqb e c) 0 1
@@ -89,28 +89,15 @@ top_other e c h f = by (eqb e c) refl
     by true q = ap (λ (x : ℕ). nonzero_marked 0x7FFF x / 2 ^ 15) (ap (λ (y : ℕ). bit_xor y c) (eqb-true e c q) ∙ xor_self c)
     by false q = top_nonzero (bit_xor e c) (differs e c (eqb-false e c q)) (xor_lt 16 e c h f)
 
-others_lt : (c e : ℕ) → c < 0x10000 → e < 0x10000 → others 0x7FFF c e < 0x10000
-others_lt c e f h = or_lt 16 (bit_and (bit_xor e c) 0x7FFF + 0x7FFF) (bit_xor e c) (omega (arith, and_le_r (bit_xor e c) 0x7FFF)) (xor_lt 16 e c h f)
-
--- all bits below the top one are set
-low_set : (x : ℕ) → x < 0x10000 → bit_or x 0x7FFF ≡ x / 0x8000 * 0x8000 + 0x7FFF
-low_set x h =
-    let split : x ≡ x / 0x8000 * 2 ^ 15 + x % 0x8000 = omega arith in
-    let all : bit_or (x % 0x8000) 0x7FFF ≡ 0x7FFF = omega (arith, or_add_and (x % 0x8000) 0x7FFF, and_mask (x % 0x8000) 15) in
-    ap (λ (y : ℕ). bit_or y 0x7FFF) split
-    ∙ or_block 15 (x / 0x8000) 0 (x % 0x8000) 0x7FFF (omega arith) (omega arith)
-    ∙ ap₂ (λ (t r : ℕ). t * 0x8000 + r) (or_zero_r (x / 0x8000)) all
-
 -- one unit has the mark that it should have
-marked_unit : (e : ℕ) → e < 0x10000 → marked 0x7FFF 0x7C 0x0A e ≡ pick (is_separator e) 0x7FFF 0xFFFF
+marked_unit : (e : ℕ) → e < 0x10000 → marked 0x7FFF 0x7C 0x0A 0x8000 e ≡ pick (is_separator e) 0 0x8000
 marked_unit e h =
-    low_set (bit_and (others 0x7FFF 0x7C e) (others 0x7FFF 0x0A e))
-    (and_lt 16 (others 0x7FFF 0x7C e) (others 0x7FFF 0x0A e) (others_lt 0x7C e (omega arith) h) (others_lt 0x0A e (omega arith) h))
-    ∙ ap (λ (t : ℕ). t * 0x8000 + 0x7FFF)
+    and_high (bit_and (others 0x7FFF 0x7C e) (others 0x7FFF 0x0A e)) 1 15
+    ∙ ap (λ (t : ℕ). (t % 2) * 0x8000)
     (and_shr (others 0x7FFF 0x7C e) (others 0x7FFF 0x0A e) 15 ∙ ap₂ bit_and (top_other e 0x7C h (omega arith)) (top_other e 0x0A h (omega arith)))
     ∙ by (eqb e 0x7C) (eqb e 0x0A)
   where
-    by : (a b : Bool) → bit_and (pick a 0 1) (pick b 0 1) * 0x8000 + 0x7FFF ≡ pick (a || b) 0x7FFF 0xFFFF
+    by : (a b : Bool) → (bit_and (pick a 0 1) (pick b 0 1) % 2) * 0x8000 ≡ pick (a || b) 0 0x8000
     by true true = refl
     by true false = refl
     by false true = refl
@@ -126,15 +113,18 @@ nonzero_step L W e h =
 others_step : (L C W c e : ℕ) → c < 0x10000 → e < 0x10000 → others (L * 0x10000 + 0x7FFF) (C * 0x10000 + c) (W * 0x10000 + e) ≡ others L C W * 0x10000 + others 0x7FFF c e
 others_step L C W c e f h = ap (nonzero_marked (L * 0x10000 + 0x7FFF)) (xor_block 16 W C e c h f) ∙ nonzero_step L (bit_xor W C) (bit_xor e c) (xor_lt 16 e c h f)
 
-marked_step : (L B F W e : ℕ) → e < 0x10000
-    → marked (L * 0x10000 + 0x7FFF) (B * 0x10000 + 0x7C) (F * 0x10000 + 0x0A) (W * 0x10000 + e) ≡ marked L B F W * 0x10000 + marked 0x7FFF 0x7C 0x0A e
-marked_step L B F W e h =
+others_lt : (c e : ℕ) → c < 0x10000 → e < 0x10000 → others 0x7FFF c e < 0x10000
+others_lt c e f h = or_lt 16 (bit_and (bit_xor e c) 0x7FFF + 0x7FFF) (bit_xor e c) (omega (arith, and_le_r (bit_xor e c) 0x7FFF)) (xor_lt 16 e c h f)
+
+marked_step : (L B F T W e : ℕ) → e < 0x10000
+    → marked (L * 0x10000 + 0x7FFF) (B * 0x10000 + 0x7C) (F * 0x10000 + 0x0A) (T * 0x10000 + 0x8000) (W * 0x10000 + e) ≡ marked L B F T W * 0x10000 + marked 0x7FFF 0x7C 0x0A 0x8000 e
+marked_step L B F T W e h =
     let b = others_lt 0x7C e (omega arith) h in
     let f = others_lt 0x0A e (omega arith) h in
-    ap (λ (x : ℕ). bit_or x (L * 0x10000 + 0x7FFF))
+    ap (λ (x : ℕ). bit_and x (T * 0x10000 + 0x8000))
     (ap₂ bit_and (others_step L B W 0x7C e (omega arith) h) (others_step L F W 0x0A e (omega arith) h)
     ∙ and_block 16 (others L B W) (others L F W) (others 0x7FFF 0x7C e) (others 0x7FFF 0x0A e) b f)
-    ∙ or_block 16 (bit_and (others L B W) (others L F W)) L (bit_and (others 0x7FFF 0x7C e) (others 0x7FFF 0x0A e)) 0x7FFF
+    ∙ and_block 16 (bit_and (others L B W) (others L F W)) T (bit_and (others 0x7FFF 0x7C e) (others 0x7FFF 0x0A e)) 0x8000
     (and_lt 16 (others 0x7FFF 0x7C e) (others 0x7FFF 0x0A e) b f) (omega arith)
 
 -- ---- the units of a word
@@ -144,13 +134,13 @@ each zero c = 0
 each (suc n) c = each n c * 0x10000 + c
 
 -- what the program marks are the marks of the units
-marked_units : (n : ℕ) (units : List ℕ) → length units ≡ n → AreUnits units → marked (each n 0x7FFF) (each n 0x7C) (each n 0x0A) (word_of units) ≡ marks_of units
+marked_units : (n : ℕ) (units : List ℕ) → length units ≡ n → AreUnits units → marked (each n 0x7FFF) (each n 0x7C) (each n 0x0A) (each n 0x8000) (word_of units) ≡ marks_of units
 unfolding each word_of AreUnits marks_of
 marked_units zero [] q a = refl
 marked_units zero (u ∷ units) q a = absurd (omega arith)
 marked_units (suc n) [] q a = absurd (omega arith)
 marked_units (suc n) (u ∷ units) q a =
-    marked_step (each n 0x7FFF) (each n 0x7C) (each n 0x0A) (word_of units) u a.0
+    marked_step (each n 0x7FFF) (each n 0x7C) (each n 0x0A) (each n 0x8000) (word_of units) u a.0
     ∙ ap₂ (λ (x y : ℕ). x * 0x10000 + y) (marked_units n units (omega arith) a.1) (marked_unit u a.0)
 
 -- the bits of n units
@@ -160,7 +150,7 @@ width (suc n) = plus 16 (width n)
 
 -- a first unit that is not marked has 15 zeros below its bit, and one that is marked 16 zeros
 first_with : (n X u : ℕ) (units : List ℕ) (t : Bool) → is_separator u ≡ t → count_trailing_zeros (width n) X / 16 ≡ length (field_units units)
-    → count_trailing_zeros (width (suc n)) (X * 0x10000 + bit_xor (pick t 0x7FFF 0xFFFF) 0xFFFF) / 16 ≡ length (units_before (separator u) (u ∷ field_units units))
+    → count_trailing_zeros (width (suc n)) (X * 0x10000 + bit_xor (pick t 0 0x8000) 0x8000) / 16 ≡ length (units_before (separator u) (u ∷ field_units units))
 unfolding width
 first_with n X u units true q e =
     ap (λ (z : ℕ). z / 16) (zeros_below_bit 15 (width n) X) ∙ sym (ap (λ (o : Option End). length (units_before o (u ∷ field_units units))) (is_separator_lem u q))
@@ -171,32 +161,32 @@ first_with n X u units false q e =
     ap (λ (o : Option End). length (units_before o (u ∷ field_units units))) (no_separator u q) in
     omega (arith, z, e, here)
 
-mark_lt : (t : Bool) → pick t 0x7FFF 0xFFFF < 0x10000
+mark_lt : (t : Bool) → pick t 0 0x8000 < 0x10000
 mark_lt true = omega arith
 mark_lt false = omega arith
 
 -- the zeros below the first unit that is not marked count the units before it
-first_unmarked : (n : ℕ) (units : List ℕ) → length units ≡ n → count_trailing_zeros (width n) (bit_xor (marks_of units) (each n 0xFFFF)) / 16 ≡ length (field_units units)
+first_unmarked : (n : ℕ) (units : List ℕ) → length units ≡ n → count_trailing_zeros (width n) (bit_xor (marks_of units) (each n 0x8000)) / 16 ≡ length (field_units units)
 unfolding each width marks_of field_units
 first_unmarked zero [] q = omega (arith, trailing_le 0 0)
 first_unmarked zero (u ∷ units) q = absurd (omega arith)
 first_unmarked (suc n) [] q = absurd (omega arith)
 first_unmarked (suc n) (u ∷ units) q =
-    ap (λ (x : ℕ). count_trailing_zeros (width (suc n)) x / 16) (xor_block 16 (marks_of units) (each n 0xFFFF) (pick (is_separator u) 0x7FFF 0xFFFF) 0xFFFF (mark_lt (is_separator u)) (omega arith))
-    ∙ first_with n (bit_xor (marks_of units) (each n 0xFFFF)) u units (is_separator u) refl (first_unmarked n units (omega arith))
+    ap (λ (x : ℕ). count_trailing_zeros (width (suc n)) x / 16) (xor_block 16 (marks_of units) (each n 0x8000) (pick (is_separator u) 0 0x8000) 0x8000 (mark_lt (is_separator u)) (omega arith))
+    ∙ first_with n (bit_xor (marks_of units) (each n 0x8000)) u units (is_separator u) refl (first_unmarked n units (omega arith))
 
-all_with : (n u : ℕ) (units : List ℕ) (t : Bool) → is_separator u ≡ t → (length (field_units units) ≡ n → marks_of units ≡ each n 0xFFFF)
-    → length (units_before (separator u) (u ∷ field_units units)) ≡ suc n → marks_of units * 0x10000 + pick t 0x7FFF 0xFFFF ≡ each n 0xFFFF * 0x10000 + 0xFFFF
+all_with : (n u : ℕ) (units : List ℕ) (t : Bool) → is_separator u ≡ t → (length (field_units units) ≡ n → marks_of units ≡ each n 0x8000)
+    → length (units_before (separator u) (u ∷ field_units units)) ≡ suc n → marks_of units * 0x10000 + pick t 0 0x8000 ≡ each n 0x8000 * 0x10000 + 0x8000
 all_with n u units true q later e =
     let here : length (units_before (separator u) (u ∷ field_units units)) ≡ 0 = ap (λ (o : Option End). length (units_before o (u ∷ field_units units))) (is_separator_lem u q) in
     absurd (omega arith)
 all_with n u units false q later e =
     let here : length (units_before (separator u) (u ∷ field_units units)) ≡ suc (length (field_units units)) =
     ap (λ (o : Option End). length (units_before o (u ∷ field_units units))) (no_separator u q) in
-    ap (λ (x : ℕ). x * 0x10000 + 0xFFFF) (later (omega arith))
+    ap (λ (x : ℕ). x * 0x10000 + 0x8000) (later (omega arith))
 
 -- units without a separator are all marked
-all_marked : (n : ℕ) (units : List ℕ) → length units ≡ n → length (field_units units) ≡ n → marks_of units ≡ each n 0xFFFF
+all_marked : (n : ℕ) (units : List ℕ) → length units ≡ n → length (field_units units) ≡ n → marks_of units ≡ each n 0x8000
 unfolding each marks_of field_units
 all_marked zero [] q e = refl
 all_marked zero (u ∷ units) q e = absurd (omega arith)
@@ -204,9 +194,9 @@ all_marked (suc n) [] q e = absurd (omega arith)
 all_marked (suc n) (u ∷ units) q e = all_with n u units (is_separator u) refl (all_marked n units (omega arith)) e
 
 -- ---- four units
-pub four_first : (units : List ℕ) {marks : ℕ} → length units ≡ 4 → marks ≡ marks_of units → count_trailing_zeros 64 (bit_xor marks 0xFFFFFFFFFFFFFFFF) / 16 ≡ length (field_units units)
+pub four_first : (units : List ℕ) {marks : ℕ} → length units ≡ 4 → marks ≡ marks_of units → count_trailing_zeros 64 (bit_xor marks 0x8000800080008000) / 16 ≡ length (field_units units)
 unfolding each width plus
-four_first units q e = ap (λ (x : ℕ). count_trailing_zeros 64 (bit_xor x 0xFFFFFFFFFFFFFFFF) / 16) e ∙ first_unmarked 4 units q
+four_first units q e = ap (λ (x : ℕ). count_trailing_zeros 64 (bit_xor x 0x8000800080008000) / 16) e ∙ first_unmarked 4 units q
 
 next_unit : (block : List ℕ) (n i j : ℕ) → i < length block → j ≡ i + 1 → take (suc n) (drop i block) ≡ get_or block i 0 ∷ take n (drop j block)
 next_unit block n i j h e = ap (take (suc n)) (drop-cons block i 0 h) ∙ ap (λ (x : ℕ). get_or block i 0 ∷ take n (drop x block)) (sym (e ∙ add-one i))
@@ -235,11 +225,11 @@ module _ (block : List ℕ) (i : ℕ) (within : i + 4 ≤ length block) where
       }
 
   pub four_marked : {word a b : ℕ} → WordAt block i word → a ≡ nonzero_marked 0x7FFF7FFF7FFF7FFF (bit_xor word 0x007C007C007C007C) → b ≡ nonzero_marked 0x7FFF7FFF7FFF7FFF (bit_xor word 0x000A000A000A000A)
-      → bit_or (bit_and a b) 0x7FFF7FFF7FFF7FFF ≡ marks_of (four_at block i)
+      → bit_and (bit_and a b) 0x8000800080008000 ≡ marks_of (four_at block i)
   unfolding each
   four_marked w e f =
-      ap₂ (λ (x y : ℕ). bit_or (bit_and x y) 0x7FFF7FFF7FFF7FFF) e f
-      ∙ ap (marked 0x7FFF7FFF7FFF7FFF 0x007C007C007C007C 0x000A000A000A000A) w.value
+      ap₂ (λ (x y : ℕ). bit_and (bit_and x y) 0x8000800080008000) e f
+      ∙ ap (marked 0x7FFF7FFF7FFF7FFF 0x007C007C007C007C 0x000A000A000A000A 0x8000800080008000) w.value
       ∙ marked_units 4 (four_at block i) four_length w.small
 
 -- ---- the scan, four units on
@@ -269,11 +259,11 @@ passed_in (suc n) (u ∷ block) e = passed_with u n (take n block) block (drop n
 
 module _ (block : List ℕ) (i marks : ℕ) (so_far : NoSeparator block i) (within : i + 4 ≤ length block) (e : marks ≡ marks_of (four_at block i)) where
   -- not all are marked: the first that is not is the block's first separator
-  pub four_found : (marks ≡ 0xFFFFFFFFFFFFFFFF → ⊥) → i + length (field_units (four_at block i)) ≡ length (field_units block)
+  pub four_found : (marks ≡ 0x8000800080008000 → ⊥) → i + length (field_units (four_at block i)) ≡ length (field_units block)
   unfolding four_at each
   four_found some_not =
       let q = four_length block i within in
-      let most : length (field_units (four_at block i)) ≤ 4 = omega (arith, four_first (four_at block i) q e, trailing_le 64 (bit_xor marks 0xFFFFFFFFFFFFFFFF)) in
+      let most : length (field_units (four_at block i)) ≤ 4 = omega (arith, four_first (four_at block i) q e, trailing_le 64 (bit_xor marks 0x8000800080008000)) in
       let less : length (field_units (four_at block i)) < 4 = by most (leb 4 (length (field_units (four_at block i)))) refl in
       omega (arith, so_far, found_in 4 (drop i block) (omega (arith, less, q)))
     where
@@ -282,10 +272,10 @@ module _ (block : List ℕ) (i marks : ℕ) (so_far : NoSeparator block i) (with
       by most false h = omega (arith, leb-false 4 (length (field_units (four_at block i))) h)
 
   -- all are marked: no separator is among them
-  pub four_passed : marks ≡ 0xFFFFFFFFFFFFFFFF → NoSeparator block (i + 4)
+  pub four_passed : marks ≡ 0x8000800080008000 → NoSeparator block (i + 4)
   unfolding four_at
   four_passed all =
       let q = four_length block i within in
-      let none_set : bit_xor marks 0xFFFFFFFFFFFFFFFF ≡ 0 = ap (λ (x : ℕ). bit_xor x 0xFFFFFFFFFFFFFFFF) all in
+      let none_set : bit_xor marks 0x8000800080008000 ≡ 0 = ap (λ (x : ℕ). bit_xor x 0x8000800080008000) all in
       let four : length (field_units (four_at block i)) ≡ 4 = sym (four_first (four_at block i) q e) ∙ ap (λ (x : ℕ). count_trailing_zeros 64 x / 16) none_set ∙ ap (λ (x : ℕ). x / 16) (trailing_of_zero 64) in
       so_far ∙ ap (λ (x : ℕ). i + x) (passed_in 4 (drop i block) four ∙ ap (λ (l : List ℕ). 4 + length (field_units l)) (drop-drop 4 i block)) ∙ omega arith

@@ -38,10 +38,10 @@ pub record WordAt (block : List ℕ) (place word : ℕ) : Type 0 where
   pub small : AreUnits (four_at block place)
   pub value : word ≡ word_of (four_at block place)
 
--- the marks of units, with all bits below them: FFFF for one that is no separator, 7FFF for a separator
+-- the marks of units: 8000 for one that is no separator, 0 for a separator
 unfoldable pub marks_of : (units : List ℕ) → ℕ
 marks_of [] = 0
-marks_of (unit ∷ units) = marks_of units * 0x10000 + pick (is_separator unit) 0x7FFF 0xFFFF
+marks_of (unit ∷ units) = marks_of units * 0x10000 + pick (is_separator unit) 0 0x8000
 
 -- a word that has the top bit of each unit that is not 0; `low` has the other bits of each
 abbrev pub nonzero_marked : (low word : ℕ) → ℕ

@@ -6,6 +6,9 @@
 //
 //     let outcome = fields::next_field(state, buffer, block, last);    // buffer: &mut [u16], at least 256
 //     state = outcome.state;                                           // then again on the block behind what was read
+
+#![tactic(auto)]
+
 ghost use Rattle.std.specs.Prelude.{◌≡◌, ◌&&◌, List, ℕ, ◌+◌, ◌≤◌, ltb, length, take};
 ghost use Rattle.fields.specs.Fields.{field_units, refusal_number, fresh_held, over_from, read_with, found_call, held_call, field_call, FieldAnswered, front, ShownAs};
 ghost use Rattle.fields.specs.Steps.{is_separator, separator_end, NoSeparator, four_at, WordAt, nonzero_marked, marks_of};
@@ -14,7 +17,7 @@ ghost use Rattle.convert.specs.Runs.{piece_limit};
 use convert::Run;
 
 // What ends a field.
-#[derive(Drop)]
+#[derive(Clone, Copy)]
 pub enum End {
     // 007C
     Bar,
@@ -25,14 +28,14 @@ pub enum End {
 }
 
 // Where the units of a field are: at the front of the buffer or of the block.
-#[derive(Drop)]
+#[derive(Clone, Copy)]
 pub enum Place {
     Buffer,
     Block,
 }
 
 // A field that a call found: what ended it, where it is, how many units it has, and how many units of the block were read.
-#[derive(Drop)]
+#[derive(Clone, Copy)]
 pub struct Found {
     pub end: End,
     pub place: Place,
@@ -41,7 +44,7 @@ pub struct Found {
 }
 
 // Why a call is refused.
-#[derive(Drop)]
+#[derive(Clone, Copy)]
 pub enum Refusal {
     // 20: the buffer is shorter than 256 units.
     BufferTooShort,
@@ -54,7 +57,7 @@ pub enum Refusal {
 }
 
 // What a call answers.
-#[derive(Drop)]
+#[derive(Clone, Copy)]
 pub enum Answer {
     // The next field.
     Field(Found),
@@ -64,13 +67,13 @@ pub enum Answer {
 }
 
 // The state between calls: how many units of a field that was begun are held in the buffer.
-#[derive(Drop)]
+#[derive(Clone, Copy)]
 pub struct Held {
     pub count: usize,
 }
 
 // The result of a call, with the new state.
-#[derive(Drop)]
+#[derive(Clone, Copy)]
 pub struct Outcome {
     pub answer: Answer,
     pub state: Held,
@@ -138,11 +141,8 @@ fn scan_rest(block: &[u16], start: usize) -> usize
     i
 }
 
-// The bits of each unit of a word below its top bit, which is its mark.
-const LOW: u64 = 0x7FFF7FFF7FFF7FFF;
-
-// Every unit of a word marked, with the bits below the marks.
-const ALL: u64 = 0xFFFFFFFFFFFFFFFF;
+// The mark of each unit of a word: its top bit.
+const MARKS: u64 = 0x8000800080008000;
 
 // A bar, and a line feed, at each unit of a word.
 const BARS: u64 = 0x007C007C007C007C;
@@ -163,23 +163,23 @@ fn word_at(block: &[u16], i: usize) -> u64
 fn mark_nonzero(word: u64) -> u64
     ensures { result ≡ nonzero_marked 0x7FFF7FFF7FFF7FFF word }
 {
-    ((word & LOW) + LOW) | word
+    ((word & 0x7FFF7FFF7FFF7FFF) + 0x7FFF7FFF7FFF7FFF) | word
 }
 
-// The marks of those of four units that are no separators. The bits below are set, so that four marks are all ones.
+// The marks of those of four units that are no separators.
 fn marks_of(block: &[u16], i: usize) -> u64
     requires { i + 4 ≤ length block.now }
     ensures { result ≡ marks_of (four_at block.now i) }
 {
     let word = word_at(block, i);
-    (mark_nonzero(word ^ BARS) & mark_nonzero(word ^ LINE_FEEDS)) | LOW
+    mark_nonzero(word ^ BARS) & mark_nonzero(word ^ LINE_FEEDS) & MARKS
 }
 
 // How many of four units stand before the first that is not marked.
 fn first_unmarked(marks: u64) -> usize
     ensures { (result ≤ 4) × ((units : List ℕ) → length units ≡ 4 → marks ≡ marks_of units → result ≡ length (field_units units)) }
 {
-    (u64::trailing_zeros(marks ^ ALL) / 16) as usize
+    (u64::trailing_zeros(marks ^ MARKS) / 16) as usize
 }
 
 // How many units stand before the first separator of a block. Four are looked at in a turn, as one word, since a turn costs as much as a unit.
@@ -189,7 +189,7 @@ fn field_size(block: &[u16]) -> usize
     let mut i = 0;
     while 4 <= block.len() - i {
         let marks = marks_of(block, i);
-        if marks != ALL {
+        if marks != MARKS {
             return i + first_unmarked(marks);
         }
         i += 4;

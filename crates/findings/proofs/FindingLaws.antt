@@ -7,23 +7,23 @@ use mathlib.Core.Path.{◌≡◌, refl, sym, ap, ◌∙◌, subst}
 use Prim.Native.Nat.{ℕ, zero, suc, ◌+◌, ◌≤◌, ◌<◌}
 use native.Mathlib.Numerals.{add-one}
 use native.Mathlib.Omega.{arith}
-use lib.Dec.{leb, ltb, eqb}
+use lib.Dec.{leb, ltb}
 use lib.ListN.{length, take, drop}
 use lib.Seq.{drop-cons}
 use borrow.Author.Tests.{leb-true, leb-false}
 use Rattle.codepage.specs.CodePage.{pick, entry_at, is_lead}
-use Rattle.codepage.specs.Reading.{Reader, decoder, byte_alone, Code, units_of, size_of, alone, together, call_codes, left_pending, codes}
+use Rattle.codepage.specs.Reading.{Reader, decoder, byte_alone, Code, units_of, size_of, alone, together, left_pending, codes}
 use Rattle.codepage.specs.declared.Kind.{Kind}
 use Rattle.codepage.specs.declared.Kind.TheVariants.{UndefinedSingle, UndefinedPair, Invalid}
 use Rattle.codepage.specs.declared.Lookup.{Lookup}
 use Rattle.codepage.specs.declared.Lookup.TheVariants.{Found, Lacking}
 use Rattle.codepage_walk.specs.declared.CodeRead.{CodeRead}
-use Rattle.codepage_walk.specs.Walk.{Placed, placed_from, placed, CodeAt, ReadAs}
+use Rattle.codepage_walk.specs.Walk.{placed_from, placed, CodeAt, ReadAs}
 use Rattle.codepage_walk.proofs.WalkLaws.{codes_end, codes_next, at_one, at_end, at_two, at_alone, placed_next}
 use Rattle.engine.specs.declared.Policy.{Policy}
 use Rattle.engine.specs.declared.progress.Progress.{Progress}
-use Rattle.engine.specs.Policies.{digits, action_of, digit_of, flag_of}
-use Rattle.engine.specs.Engine.{Effect, acted, effect_of, Converter, converter, endless, fits, room_left, Fed, after, stop_at, take_when, take_code, take_codes, feed_from}
+use Rattle.engine.specs.Policies.{digits, action_of}
+use Rattle.engine.specs.Engine.{effect_of, converter, endless, fits, room_left, Fed, after, stop_at, take_when, take_code, take_codes, feed_from}
 use Rattle.engine.specs.Steps.{summary}
 use Rattle.engine_fastpath.specs.Words.{PlainPage}
 use Rattle.findings.specs.declared.Finding.{Finding}

@@ -2,7 +2,6 @@ pub mod FindingLaws
 pub mod TurnLaws
 pub mod CallLaws
 pub mod FillLaws
-pub mod Shared
 pub mod AnswerLaws
 pub mod Theorems
 pub mod Rows

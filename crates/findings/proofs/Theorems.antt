@@ -2,11 +2,11 @@
 -- if the flags 1, 2 and 4 of the whole reading are clear.
 use mathlib.Core.Bool.{Bool, true, false}
 use mathlib.Core.List.{List, [], ◌∷◌, ◌++◌}
-use mathlib.Core.Logic.{◌↔◌, ◌⊎◌, inl, inr}
-use mathlib.Core.Path.{◌≡◌, refl, sym, ap, ◌∙◌, subst}
-use Prim.Native.Nat.{ℕ, zero, suc, ◌+◌, ◌≤◌, ◌<◌, ◌%◌, ◌^◌}
+use mathlib.Core.Logic.{◌↔◌}
+use mathlib.Core.Path.{◌≡◌, refl, sym, ap, ◌∙◌}
+use Prim.Native.Nat.{ℕ, zero, suc, ◌+◌, ◌≤◌, ◌%◌, ◌^◌}
 use native.Mathlib.Omega.{arith}
-use lib.Bits.{bit_or, bit_and, or_zero_l, or_mod, or_add_and, and_le_l, and_le_r}
+use lib.Bits.{bit_or, or_zero_l, or_mod, or_add_and, and_le_l, and_le_r}
 use lib.Dec.{eqb, leb}
 use lib.ListN.{length}
 use mathlib.Core.Option.{none}
@@ -17,12 +17,11 @@ use Rattle.codepage.specs.declared.Kind.{Kind}
 use Rattle.codepage.specs.declared.Kind.TheVariants.{UndefinedSingle, UndefinedPair, Invalid}
 use Rattle.codepage.specs.declared.Lookup.{Lookup}
 use Rattle.codepage.specs.declared.Lookup.TheVariants.{Found, Lacking}
-use Rattle.engine.specs.declared.Direction.TheVariants.{Decoding}
 use Rattle.engine.specs.declared.Policy.{Policy}
 use Rattle.engine.specs.declared.policies.Action.{Action}
 use Rattle.engine.specs.declared.policies.Action.TheVariants.{Stop, Skip, Write}
 use Rattle.engine.specs.Policies.{digit_of, flag_of, action_of, stopped_flag}
-use Rattle.engine.specs.Engine.{Effect, acted, effect_of, converter, endless, fits, room_left, Fed, halt, after, stop_at, take_when, take_code, take_codes, whole, reader_of}
+use Rattle.engine.specs.Engine.{acted, effect_of, converter, endless, fits, room_left, Fed, halt, after, stop_at, take_when, take_code, take_codes, whole}
 use Rattle.codepage_walk.specs.Walk.{Placed, placed_from, placed, CodeAt}
 use Rattle.codepage_walk.specs.Checks.{bytes_reader}
 use Rattle.codepage_walk.proofs.WalkLaws.{codes_at, EachAt, code_there}

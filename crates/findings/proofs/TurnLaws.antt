@@ -3,9 +3,8 @@ use mathlib.Core.Bool.{Bool, true, false, true≢false, false≢true}
 use mathlib.Core.List.{List, [], ◌∷◌}
 use mathlib.Core.Logic.{◌⊎◌, inl, inr}
 use mathlib.Core.Path.{◌≡◌, refl, sym, ap, ◌∙◌, subst}
-use Prim.Native.Nat.{ℕ, zero, suc, ◌+◌, ◌-◌, ◌≤◌, ◌<◌}
+use Prim.Native.Nat.{ℕ, suc, ◌+◌, ◌≤◌, ◌<◌}
 use native.Mathlib.Omega.{arith}
-use lib.Dec.{eqb}
 use lib.ListN.{length, drop, length-drop}
 use lib.Seq.{drop-drop}
 use borrow.Author.Tests.{eq-eqb, ne_eqb}
@@ -21,7 +20,7 @@ use Rattle.findings.specs.declared.Listed.{Listed}
 use Rattle.findings.specs.declared.Listed.TheVariants as listed
 use Rattle.findings.specs.Calls.{FindingsCall}
 use Rattle.findings.specs.Findings.{findings_from}
-use Rattle.findings.specs.Steps.{end_turn, behind, ByteTables, FoundFrom, TurnGoesOn, Storing, Ended, CallTurn, TurnedFrom, NextTurn}
+use Rattle.findings.specs.Steps.{end_turn, behind, ByteTables, FoundFrom, Storing, CallTurn, TurnedFrom, NextTurn}
 
 -- ---- the findings behind one
 module _ (r : Reader) (policy : Policy) (text : List ℕ) (f : Finding) (end : ℕ) where
@@ -118,7 +117,7 @@ module _ (classes singles pairs : List ℕ) (policy : Policy) (text : List ℕ) 
     refl,
     λ c number _ d.
         record {
-          ready = λ _. record { tables = tables; plain_page = page; short = short; room_left_lem = h; few = omega (arith, le, l.ahead e); inside = l.inside e };
+          ready = λ _. record { tables = tables; plain_page = page; short = short; room_left = h; few = omega (arith, le, l.ahead e); inside = l.inside e };
           goes = λ _. record { number = number; next = d ∙ l.one e };
           ends = λ z. absurd (true≢false z);
         },

@@ -1,5 +1,5 @@
 -- Document 02, CR 7: what is claimed of the findings, and the cases of the answers.
-use Rattle.std.specs.Prelude.{List, [], ◌∷◌, ◌⊎◌, ◌≡◌, ℕ, ◌+◌, ◌<◌, ◌≤◌, ◌%◌, length, take, drop, true, false}
+use Rattle.std.specs.Prelude.{List, [], ◌∷◌, ◌≡◌, ℕ, ◌+◌, ◌<◌, ◌≤◌, ◌%◌, length, take, drop, true, false}
 use Rattle.codepage.specs.CodePage.{CodePage, GoodShape}
 use Rattle.codepage.specs.Reading.{Code, units_of}
 use Rattle.codepage.specs.declared.Kind.{Kind}

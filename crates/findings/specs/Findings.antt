@@ -1,7 +1,7 @@
 -- Document 02, CR 7: the findings of a byte text under a policy: the codes that have no character. Places count from 0.
 use Rattle.std.specs.Prelude.{List, [], ◌∷◌, ℕ, eqb, drop}
 use Rattle.codepage.specs.CodePage.{pick}
-use Rattle.codepage.specs.Reading.{Reader, Code, size_of, codes}
+use Rattle.codepage.specs.Reading.{Reader, size_of, codes}
 use Rattle.codepage.specs.declared.Kind.{Kind}
 use Rattle.codepage.specs.declared.Lookup.{Lookup}
 use Rattle.codepage.specs.declared.Lookup.TheVariants.{Found, Lacking}

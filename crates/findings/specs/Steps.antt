@@ -1,5 +1,5 @@
 -- Definitions that the private functions' contracts cite, and that no promise does.
-use Rattle.std.specs.Prelude.{Bool, true, false, List, [], ◌∷◌, ◌⊎◌, ◌≡◌, ℕ, ◌+◌, ◌*◌, ◌≤◌, ◌<◌, eqb, ltb, length, drop}
+use Rattle.std.specs.Prelude.{true, false, List, [], ◌∷◌, ◌⊎◌, ◌≡◌, ℕ, ◌+◌, ◌*◌, ◌≤◌, ◌<◌, eqb, ltb, length, drop}
 use Rattle.codepage.specs.CodePage.{pick, entry_at, is_lead, leads_below}
 use Rattle.codepage.specs.Reading.{Reader, decoder}
 use Rattle.codepage.specs.declared.Kind.{Kind}
@@ -73,7 +73,7 @@ pub record TurnGoesOn (classes singles pairs text : List ℕ) (room : ℕ) (t : 
   pub tables : ByteTables classes singles pairs t.leads
   pub plain_page : t.plain ≡ true → PlainPage classes singles
   pub short : length text ≤ piece_limit
-  pub room_left_lem : t.count < room
+  pub room_left : t.count < room
   pub few : t.count < t.end
   pub inside : t.end ≤ length text
 

@@ -5,6 +5,9 @@
 //     // Listed::Number(count): how many there are, as many of them as fit at the front of `list`; or Listed::Refused(why): why.number()
 //
 // An empty list only counts. Entries beyond those filled, and all of them in a refused call, stay as they were.
+
+#![tactic(auto)]
+
 ghost use Rattle.std.specs.Prelude.{◌≡◌, true, List, [], ℕ, ◌+◌, ◌≤◌, ◌<◌, ltb, length};
 ghost use Rattle.codepage.specs.CodePage.{code_page, pick, entry_at};
 ghost use Rattle.codepage.specs.Reading.{decoder};
@@ -27,7 +30,7 @@ use engine_loops::counter;
 // A code without a character: the place of its first byte, its kind by its flag (1 undefined single, 2 undefined pair, 4 invalid), how
 // many bytes it has, 1 or 2, these (the second is 0 where there is one), and the policy digit that was applied.
 #[repr(C)]
-#[derive(Drop)]
+#[derive(Clone, Copy)]
 pub struct Finding {
     pub place: usize,
     pub kind: u8,
@@ -38,7 +41,7 @@ pub struct Finding {
 }
 
 // Why a call is refused.
-#[derive(Drop)]
+#[derive(Clone, Copy)]
 pub enum Refusal {
     // 17: a policy digit is not allowed.
     BadPolicy,
@@ -49,7 +52,7 @@ pub enum Refusal {
 }
 
 // What the call answers.
-#[derive(Drop)]
+#[derive(Clone, Copy)]
 pub enum Listed {
     // There are so many findings, however many the list has room for.
     Number(usize),
@@ -70,7 +73,7 @@ impl Refusal {
 }
 
 // What the call for the next finding answers.
-#[derive(Drop)]
+#[derive(Clone, Copy)]
 pub enum Next {
     // The first finding from the place on.
     Found(Finding),
@@ -80,7 +83,7 @@ pub enum Next {
 }
 
 // What is found at a place of a text, or from there on: whether it is a code without a character, which, and the place behind it.
-#[derive(Drop)]
+#[derive(Clone, Copy)]
 struct Looked {
     found: bool,
     finding: Finding,
@@ -89,7 +92,7 @@ struct Looked {
 
 // A turn of the call: whether a finding is to be stored, which, at which place of the list, and the place of the text behind it; what
 // is known of the page; and the answer, where the call ends.
-#[derive(Drop)]
+#[derive(Clone, Copy)]
 struct Turn {
     going: bool,
     count: usize,

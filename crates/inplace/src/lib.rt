@@ -6,6 +6,9 @@
 //     let encoded = inplace::encode_in_place(policy, numbers, classes, singles, pairs, index, blocks, buffer);
 //     // Encoded::All { flags, read, written }: the result is buffer[..written]; Encoded::Stopped { .. }: the result so far is there;
 //     // Encoded::Refused(why): why.number(), and the buffer is untouched
+
+#![tactic(auto)]
+
 ghost use Rattle.std.specs.Prelude.{true, List, ◌≡◌, ℕ, ◌+◌, ◌*◌, ◌/◌, ◌<◌, ◌≤◌, ◌^◌, eqb, length};
 ghost use Rattle.codepage.specs.CodePage.{code_page, entry_at, pick};
 ghost use Rattle.codepage.specs.Reading.{encoder};
@@ -28,7 +31,7 @@ use engine_loops::encoder;
 const CHUNK: usize = 384;
 
 // Why a call is refused.
-#[derive(Drop)]
+#[derive(Clone, Copy)]
 pub enum Refusal {
     // 17: a policy digit is not allowed.
     BadPolicy,
@@ -41,7 +44,7 @@ pub enum Refusal {
 }
 
 // What the call answers: the flags, the units read, and the bytes written at the buffer's front.
-#[derive(Drop)]
+#[derive(Clone, Copy)]
 pub enum Encoded {
     // 0: all read.
     All {

@@ -1,15 +1,15 @@
 -- Each answer of the two calls exactly in its case.
-use mathlib.Core.Bool.{Bool, true, false, false≢true}
+use mathlib.Core.Bool.{Bool, true, false}
 use mathlib.Core.List.{List, []}
 use mathlib.Core.Logic.{◌↔◌, ◌⊎◌, inl, inr}
 use mathlib.Core.Option.{Option, none, some}
-use mathlib.Core.Path.{◌≡◌, refl, sym, ap, ◌∙◌, subst}
-use Prim.Native.Nat.{ℕ, ◌<◌}
+use mathlib.Core.Path.{◌≡◌, refl, sym, ap, ◌∙◌}
+use Prim.Native.Nat.{ℕ}
 use native.Mathlib.Omega.{arith}
 use lib.Dec.{leb}
 use lib.ListN.{length}
 use borrow.Author.Tests.{leb-true, leb-false}
-use Rattle.codepage.specs.CodePage.{CodePage, GoodShape, first_fault, is_good}
+use Rattle.codepage.specs.CodePage.{CodePage}
 use Rattle.codepage.proofs.ShapeLaws.{shape_exact}
 use Rattle.convert.specs.Runs.{piece_limit}
 use Rattle.codepage_walk.specs.Checks.{bytes_reader, TextPasses, TextFails}

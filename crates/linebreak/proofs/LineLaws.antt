@@ -88,8 +88,8 @@ Lines r text width start [] = length text ≤ start + width
 Lines r text width start (b ∷ breaks) = Line r text width start b × Lines r text width b breaks
 
 module _ (r : Reader) (text : List ℕ) (width : ℕ) where
-  line_good : (start b : ℕ) → Uncut r text start → Line r text width start b → line_good r text width start b ≡ true
-  line_good start b u l =
+  line_good_lem : (start b : ℕ) → Uncut r text start → Line r text width start b → line_good r text width start b ≡ true
+  line_good_lem start b u l =
       let left = sizes_left r text start (omega arith) in
       line_cut r text width start b l.rises l.inner (omega arith)
       ∙ sym (place_last b start (codes r (drop start text)) (omega arith) (omega arith))
@@ -127,12 +127,12 @@ module _ (r : Reader) (text : List ℕ) (width : ℕ) where
       let l = good_line start b u first in
       (l, good_lines breaks b (good_uncut start b u first) (omega (arith, l.inner)) (and_right (line_good r text width start b) _ e))
 
-  lines_good : (breaks : List ℕ) (start : ℕ) → Uncut r text start → start ≤ length text → Lines r text width start breaks → lines_good r text width start breaks ≡ true
+  lines_good_lem : (breaks : List ℕ) (start : ℕ) → Uncut r text start → start ≤ length text → Lines r text width start breaks → lines_good r text width start breaks ≡ true
   unfolding lines_good Lines
-  lines_good [] start u h l = le-leb (length text - start) width (omega arith)
-  lines_good (b ∷ breaks) start u h l =
-      let first = line_good start b u l.0 in
-      both _ _ first (lines_good breaks b (good_uncut start b u first) (omega (arith, l.0.inner)) l.1)
+  lines_good_lem [] start u h l = le-leb (length text - start) width (omega arith)
+  lines_good_lem (b ∷ breaks) start u h l =
+      let first = line_good_lem start b u l.0 in
+      both _ _ first (lines_good_lem breaks b (good_uncut start b u first) (omega (arith, l.0.inner)) l.1)
 
   -- ---- the four sentences of document 02
   abbrev Sentences : (start : ℕ) → (breaks : List ℕ) → Type 0
@@ -194,4 +194,4 @@ acceptable_lines r (a ∷ text) width breaks = (
 pub lines_acceptable : (r : Reader) (text : List ℕ) (width : ℕ) (breaks : List ℕ) → lines_good r text width 0 breaks ≡ acceptable r text width breaks
 lines_acceptable r text width breaks =
     same_truth _ _ (λ e. (acceptable_lines r text width breaks).1 (good_lines r text width breaks 0 (uncut_start r text) (omega arith) e))
-    (λ e. lines_good r text width breaks 0 (uncut_start r text) (omega arith) ((acceptable_lines r text width breaks).0 e))
+    (λ e. lines_good_lem r text width breaks 0 (uncut_start r text) (omega arith) ((acceptable_lines r text width breaks).0 e))

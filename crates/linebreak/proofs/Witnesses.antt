@@ -7,7 +7,6 @@ use lib.ListN.{length, replicate, length-replicate}
 use Rattle.codepage.specs.CodePage.{CodePage}
 use Rattle.convert.specs.Sample.{sample_page}
 use Rattle.convert.proofs.SampleRows.{sample_good}
-use Rattle.linebreak.specs.declared.Refusal.{Refusal}
 use Rattle.linebreak.specs.declared.Refusal.TheVariants.{BadShape, TooLong, NotAcceptable, NoneExists, ListTooShort}
 use Rattle.linebreak.specs.declared.Checked.TheVariants as checked
 use Rattle.linebreak.specs.declared.Proposed.TheVariants as proposed

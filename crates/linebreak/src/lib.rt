@@ -6,6 +6,9 @@
 //
 //     let proposed = linebreak::propose_breaks(numbers, classes, singles, pairs, index, blocks, text, width, list);
 //     // Proposed::Breaks(count), or Proposed::Refused(why): why.number()
+
+#![tactic(auto)]
+
 ghost use Rattle.std.specs.Prelude.{◌≡◌, true, ◌+◌, ◌≤◌, ◌<◌, length, drop};
 ghost use Rattle.codepage.specs.CodePage.{code_page};
 ghost use Rattle.codepage.specs.Lent.{over};
@@ -20,7 +23,7 @@ use codepage::Numbers;
 use convert::Run;
 
 // Why a call is refused.
-#[derive(Drop)]
+#[derive(Clone, Copy)]
 pub enum Refusal {
     // 10: the shape of the tables is not good.
     BadShape,
@@ -35,14 +38,14 @@ pub enum Refusal {
 }
 
 // What a check answers.
-#[derive(Drop)]
+#[derive(Clone, Copy)]
 pub enum Checked {
     Acceptable,
     Refused(Refusal),
 }
 
 // What a proposal answers.
-#[derive(Drop)]
+#[derive(Clone, Copy)]
 pub enum Proposed {
     // So many breaks were written to the front of the list.
     Breaks(usize),
@@ -132,7 +135,7 @@ fn are_lines(classes: &[u8], text: &[u8], width: u64, breaks: &[u64]) -> bool
 }
 
 // Whether acceptable breaks exist, and then how many ours are.
-#[derive(Drop)]
+#[derive(Clone, Copy)]
 struct Counted {
     exist: bool,
     count: usize,

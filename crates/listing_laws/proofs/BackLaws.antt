@@ -166,37 +166,37 @@ module _ (text : List ℕ) where
       let place : suc (suc (suc i)) ≡ 2 + suc i = omega arith in
       as_digit (suc (suc (suc i))) (2 + suc i) place (ap (λ (s : ℕ). fits_symbol s (entry_at text (suc (suc (suc i))))) (sym (more_digits more i (omega arith))) ∙ here)
 
-  page_text : (more : ℕ) → has_form (page_form more) text ≡ true → page_text (decimal_at (suc more) text 2) ≡ decimal_text (suc more) (decimal_at (suc more) text 2) → page_text (decimal_at (suc more) text 2) ≡ digits_at (suc more) text 2
-  page_text more e size = size ∙ decimal_back (suc more) text 2 (digits_of more e)
+  page_text_lem : (more : ℕ) → has_form (page_form more) text ≡ true → page_text (decimal_at (suc more) text 2) ≡ decimal_text (suc more) (decimal_at (suc more) text 2) → page_text (decimal_at (suc more) text 2) ≡ digits_at (suc more) text 2
+  page_text_lem more e size = size ∙ decimal_back (suc more) text 2 (digits_of more e)
 
   page_back_1 : has_form (page_form 0) text ≡ true → line 0x50 (page_text (decimal_at 1 text 2)) ≡ text
   unfolding decimal_at
   page_back_1 e =
-      ap (line 0x50) (page_text 0 e (page_1 (decimal_at 1 text 2) (omega (arith, (first_of 0 e).0, (first_of 0 e).1))))
+      ap (line 0x50) (page_text_lem 0 e (page_1 (decimal_at 1 text 2) (omega (arith, (first_of 0 e).0, (first_of 0 e).1))))
       ∙ sym (form_back (page_form 0) text e)
 
   page_back_2 : has_form (page_form 1) text ≡ true → line 0x50 (page_text (decimal_at 2 text 2)) ≡ text
   unfolding decimal_at
   page_back_2 e =
-      ap (line 0x50) (page_text 1 e (page_2 (decimal_at 2 text 2) (omega (arith, (first_of 1 e).0)) (omega (arith, (first_of 1 e).1, digits_of 1 e 1 (omega arith)))))
+      ap (line 0x50) (page_text_lem 1 e (page_2 (decimal_at 2 text 2) (omega (arith, (first_of 1 e).0)) (omega (arith, (first_of 1 e).1, digits_of 1 e 1 (omega arith)))))
       ∙ sym (form_back (page_form 1) text e)
 
   page_back_3 : has_form (page_form 2) text ≡ true → line 0x50 (page_text (decimal_at 3 text 2)) ≡ text
   unfolding decimal_at
   page_back_3 e =
-      ap (line 0x50) (page_text 2 e (page_3 (decimal_at 3 text 2) (omega (arith, (first_of 2 e).0)) (omega (arith, (first_of 2 e).1, digits_of 2 e 1 (omega arith), digits_of 2 e 2 (omega arith)))))
+      ap (line 0x50) (page_text_lem 2 e (page_3 (decimal_at 3 text 2) (omega (arith, (first_of 2 e).0)) (omega (arith, (first_of 2 e).1, digits_of 2 e 1 (omega arith), digits_of 2 e 2 (omega arith)))))
       ∙ sym (form_back (page_form 2) text e)
 
   page_back_4 : has_form (page_form 3) text ≡ true → line 0x50 (page_text (decimal_at 4 text 2)) ≡ text
   unfolding decimal_at
   page_back_4 e =
-      ap (line 0x50) (page_text 3 e (page_4 (decimal_at 4 text 2) (omega (arith, (first_of 3 e).0)) (omega (arith, (first_of 3 e).1, digits_of 3 e 1 (omega arith), digits_of 3 e 2 (omega arith), digits_of 3 e 3 (omega arith)))))
+      ap (line 0x50) (page_text_lem 3 e (page_4 (decimal_at 4 text 2) (omega (arith, (first_of 3 e).0)) (omega (arith, (first_of 3 e).1, digits_of 3 e 1 (omega arith), digits_of 3 e 2 (omega arith), digits_of 3 e 3 (omega arith)))))
       ∙ sym (form_back (page_form 3) text e)
 
   page_back_5 : has_form (page_form 4) text ≡ true → line 0x50 (page_text (decimal_at 5 text 2)) ≡ text
   unfolding decimal_at
   page_back_5 e =
-      ap (line 0x50) (page_text 4 e (page_5 (decimal_at 5 text 2) (omega (arith, (first_of 4 e).0))))
+      ap (line 0x50) (page_text_lem 4 e (page_5 (decimal_at 5 text 2) (omega (arith, (first_of 4 e).0))))
       ∙ sym (form_back (page_form 4) text e)
 
 -- ---- every line

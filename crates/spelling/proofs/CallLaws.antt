@@ -1,17 +1,14 @@
 -- Laws of the call: what it gives in each of its cases, and what its functions require.
 use mathlib.Core.Bool.{true, false}
-use mathlib.Core.List.{List, []}
-use mathlib.Core.Logic.{◌⊎◌, inl, inr}
+use mathlib.Core.List.{List}
 use mathlib.Core.Option.{Option, none, some}
 use mathlib.Core.Path.{◌≡◌, refl, sym, ap, ◌∙◌, subst}
-use Prim.Native.Nat.{ℕ, ◌+◌, ◌*◌, ◌≤◌, ◌<◌}
+use Prim.Native.Nat.{ℕ, ◌≤◌, ◌<◌}
 use native.Mathlib.Omega.{arith}
-use lib.Dec.{leb}
 use lib.ListN.{length}
 use borrow.Author.Tests.{le-leb, lt-leb}
-use Rattle.codepage.specs.CodePage.{CodePage, GoodShape, entry_at, is_lead, leads_below, first_fault, is_good}
+use Rattle.codepage.specs.CodePage.{CodePage, GoodShape, first_fault, is_good}
 use Rattle.codepage.specs.Lent.{over}
-use Rattle.codepage.specs.Reading.{Reader}
 use Rattle.codepage.specs.Marks.{NoLowLead}
 use Rattle.codepage.proofs.ShapeLaws.{shape_exact, inside}
 use Rattle.codepage_lookup.specs.declared.profile.Leads.{Leads}
@@ -23,8 +20,7 @@ use Rattle.spelling.specs.declared.Refusal.{Refusal}
 use Rattle.spelling.specs.declared.Refusal.TheVariants.{BadShape, TooLong, AtFault, SpellingTooLong}
 use Rattle.spelling.specs.declared.Spelled.{Spelled}
 use Rattle.spelling.specs.declared.Spelled.TheVariants as spelled
-use Rattle.spelling.specs.Spelling.{fault_of, bytes_for}
-use Rattle.spelling.specs.Calls.{fault_in, spelling_text, refuse_at, spelling_refusal, spelling_unless, spelling_of, SpelledAs}
+use Rattle.spelling.specs.Calls.{fault_in, spelling_text, spelling_refusal, spelling_of, SpelledAs}
 use Rattle.spelling.specs.Steps.{BytesTables, UnitsTables, counted_unless, counted_of}
 
 -- ---- tables of a good shape

@@ -3,20 +3,19 @@ use mathlib.Core.Bool.{Bool, true, false}
 use mathlib.Core.List.{List, [], ◌∷◌, ◌++◌}
 use mathlib.Core.Logic.{◌↔◌}
 use mathlib.Core.Option.{Option, none, some}
-use mathlib.Core.Path.{◌≡◌, refl, sym, ap, ◌∙◌, subst}
+use mathlib.Core.Path.{◌≡◌, refl, sym, ap, ◌∙◌}
 use Prim.Native.Nat.{ℕ}
 use native.Mathlib.Omega.{arith}
-use lib.Dec.{eqb}
 use borrow.Author.Tests.{eqb-true, eq-eqb}
 use Rattle.codepage.specs.CodePage.{CodePage, pick}
-use Rattle.codepage.specs.Reading.{is_surrogate, unit_code, unit_alone, bytes_of, Reader, encoder, Code, codes}
+use Rattle.codepage.specs.Reading.{is_surrogate, unit_code, bytes_of, Reader, encoder, Code, codes}
 use Rattle.codepage.specs.declared.Lookup.{Lookup}
 use Rattle.codepage.specs.declared.Lookup.TheVariants.{Found, Lacking}
-use Rattle.codepage.proofs.ReadingLaws.{alone_looked_up, found_no_surrogate}
+use Rattle.codepage.proofs.ReadingLaws.{alone_looked_up}
 use Rattle.convert.specs.RoundTrips.{RoundTrips}
 use Rattle.codepage_walk.specs.Walk.{Placed}
 use Rattle.codepage_walk.specs.Checks.{bytes_reader}
-use Rattle.spelling.specs.Spelling.{is_character, is_one_code, reads_back, code_reading_back, unit_spelling, code_spelling, fault_or, first_at_fault}
+use Rattle.spelling.specs.Spelling.{is_character, is_one_code, reads_back, code_reading_back, code_spelling, fault_or, first_at_fault}
 use Rattle.spelling.specs.Calls.{fault_in}
 use Rattle.spelling.specs.Claims.{Spellable, AllSpellable, NoFault, FaultAt}
 use Rattle.spelling.proofs.SpellLaws.{asked, surrogate_none, own_back}

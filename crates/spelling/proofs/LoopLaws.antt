@@ -1,23 +1,23 @@
 -- Laws of the loops over the codes of a text: codes passed, counted and written.
-use mathlib.Core.List.{List, [], ◌∷◌, ◌++◌, append_assoc, append-nil}
+use mathlib.Core.List.{List, [], ◌++◌, append_assoc, append-nil}
 use mathlib.Core.Logic.{◌⊎◌, inl, inr}
 use mathlib.Core.Option.{Option, none, some}
 use mathlib.Core.Path.{◌≡◌, refl, sym, ap, ◌∙◌, subst}
-use Prim.Native.Nat.{ℕ, ◌+◌, ◌*◌, ◌≤◌, ◌<◌}
+use Prim.Native.Nat.{ℕ, ◌+◌, ◌≤◌}
 use native.Mathlib.Omega.{arith}
 use lib.ListN.{length, take, drop, length-append, take-append-drop}
 use lib.Seq.{drop-drop, length-take-le, take_at, drop_at, sets, length-sets, sets-eq}
 use Rattle.codepage.specs.Lent.{over}
 use Rattle.codepage.specs.Reading.{bytes_of, Reader, Code, size_of, codes}
 use Rattle.codepage.specs.declared.Lookup.{Lookup}
-use Rattle.codepage_walk.specs.Walk.{Placed, placed_from, placed, CodeAt}
+use Rattle.codepage_walk.specs.Walk.{placed_from, placed, CodeAt}
 use Rattle.codepage_walk.proofs.WalkLaws.{codes_end, codes_next, placed_next}
 use Rattle.spelling.specs.declared.Refusal.TheVariants.{AtFault}
 use Rattle.spelling.specs.declared.Spelled.TheVariants as spelled
 use Rattle.spelling.specs.declared.SpelledCode.{SpelledCode}
 use Rattle.spelling.specs.Spelling.{code_spelling, fault_or, first_at_fault, bytes_if, spelling_bytes, fault_of, bytes_for}
 use Rattle.spelling.specs.Steps.{SpelledRead, counted_unless, counted_of, SpanSpelled, Begun}
-use Rattle.spelling.proofs.SpellLaws.{none_spells, code_spells, bytes_few}
+use Rattle.spelling.proofs.SpellLaws.{none_spells, code_spells}
 
 -- ---- codes passed
 module _ (r : Reader) (spell : Lookup → Option ℕ) (text : List ℕ) where

@@ -1,7 +1,7 @@
 -- Laws of codes that are spelled as they stand, and of copied bytes.
-use mathlib.Core.Bool.{Bool, true, false}
+use mathlib.Core.Bool.{true, false}
 use mathlib.Core.List.{List, [], ◌∷◌, ◌++◌}
-use mathlib.Core.Option.{Option, none, some}
+use mathlib.Core.Option.{Option, some}
 use mathlib.Core.Path.{◌≡◌, refl, sym, ap, ◌∙◌, subst}
 use Prim.Native.Nat.{ℕ, zero, suc, ◌+◌, ◌-◌, ◌*◌, ◌/◌, ◌%◌, ◌≤◌, ◌<◌}
 use native.Mathlib.Numerals.{add-one}
@@ -19,10 +19,10 @@ use Rattle.codepage_lookup.proofs.LeadLaws.{lead_high}
 use Rattle.convert.specs.Runs.{piece_limit}
 use Rattle.codepage_walk.proofs.WalkLaws.{at_one, at_two}
 use Rattle.engine_fastpath.specs.Runs.{EachBelow}
-use Rattle.spelling.specs.Spelling.{is_character, is_one_code, reads_back, unit_spelling, code_spelling}
+use Rattle.spelling.specs.Spelling.{is_character, is_one_code, reads_back, code_spelling}
 use Rattle.spelling.specs.Steps.{SpanSpelled, SpanSame, Begun, SameSingle, SamePair, SameSize}
 use Rattle.spelling.proofs.SpellLaws.{one_byte, two_bytes, read_two, back_single, own_back}
-use Rattle.spelling.proofs.LoopLaws.{passed_none, passed_join, passed_code, Counting, counting_more, Writing, Writable, writing_start, writing_room, writing_more}
+use Rattle.spelling.proofs.LoopLaws.{passed_none, passed_join, passed_code, Counting, Writing, Writable, writing_start, writing_room, writing_more}
 
 -- ---- what is found of two bytes
 module _ (classes singles pairs index blocks : List ℕ) (first second : ℕ) where

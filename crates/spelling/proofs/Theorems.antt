@@ -1,15 +1,15 @@
 -- The claims of CR 8 about spellings: equal exactly for equal units, spelled by themselves, and decoded to the same units.
 use mathlib.Core.List.{List, [], ◌∷◌, ◌++◌}
 use mathlib.Core.Logic.{◌↔◌}
-use mathlib.Core.Option.{Option, some}
+use mathlib.Core.Option.{Option}
 use mathlib.Core.Path.{◌≡◌, refl, sym, ap, ◌∙◌, subst}
 use Prim.Native.Nat.{ℕ, ◌+◌}
 use Rattle.codepage.specs.CodePage.{CodePage}
-use Rattle.codepage.specs.Reading.{bytes_of, Reader, Code, size_of, codes_at_end, call_codes, codes}
+use Rattle.codepage.specs.Reading.{Code, size_of, codes_at_end, call_codes, codes}
 use Rattle.codepage.specs.declared.Lookup.{Lookup}
-use Rattle.codepage.specs.declared.Lookup.TheVariants.{Found, Lacking}
+use Rattle.codepage.specs.declared.Lookup.TheVariants.{Found}
 use Rattle.convert.proofs.RoundTripLaws.{code_first}
-use Rattle.codepage_walk.specs.Walk.{Placed, placed_from, placed}
+use Rattle.codepage_walk.specs.Walk.{placed_from, placed}
 use Rattle.codepage_walk.specs.Checks.{bytes_reader}
 use Rattle.spelling.specs.Spelling.{bytes_if, spelling_bytes}
 use Rattle.spelling.specs.Calls.{spelling_text}

@@ -4,11 +4,11 @@ use mathlib.Core.List.{List, [], ◌∷◌, ◌++◌}
 use mathlib.Core.Logic.{inl}
 use mathlib.Core.Option.{Option, some}
 use mathlib.Core.Path.{◌≡◌, refl, sym, ap, ◌∙◌, subst}
-use Prim.Native.Nat.{ℕ, zero, suc, ◌+◌, ◌*◌, ◌≤◌}
+use Prim.Native.Nat.{ℕ, zero, suc, ◌+◌, ◌*◌}
 use native.Mathlib.Omega.{arith}
 use lib.ListN.{length, replicate, length-replicate, length-append}
 use Rattle.codepage.specs.CodePage.{CodePage, GoodShape}
-use Rattle.codepage.specs.Reading.{bytes_of, Reader, alone, Code, size_of, codes_at_end, call_codes, codes}
+use Rattle.codepage.specs.Reading.{bytes_of, alone, Code, codes_at_end, call_codes, codes}
 use Rattle.codepage.proofs.ReadingLaws.{codes_one}
 use Rattle.codepage.proofs.ShapeLaws.{shape_exact}
 use Rattle.convert.specs.Sample.{sample_page}
@@ -20,7 +20,7 @@ use Rattle.spelling.specs.declared.Refusal.TheVariants.{BadShape, TooLong, Spell
 use Rattle.spelling.specs.declared.Spelled.TheVariants as spelled
 use Rattle.spelling.specs.Spelling.{reads_back, unit_spelling, bytes_if, spelling_bytes}
 use Rattle.spelling.specs.Calls.{spelling_text, spelling_of}
-use Rattle.spelling.specs.Claims.{Spellable, AllSpellable, NoFault, units_meant}
+use Rattle.spelling.specs.Claims.{AllSpellable, NoFault, units_meant}
 use Rattle.spelling.specs.Examples.{twice_page}
 use Rattle.spelling.proofs.FaultLaws.{speller, spelled_by}
 use Rattle.spelling.proofs.AnswerLaws.{spelling_refused_exact, spelling_accepted_exact, spelled_alike}

@@ -1,5 +1,5 @@
 -- Document 02, CR 8: how the codes of a byte text are spelled, and which are at fault. Places count from 0.
-use Rattle.std.specs.Prelude.{Bool, true, false, List, [], ◌∷◌, ◌++◌, ℕ, eqb}
+use Rattle.std.specs.Prelude.{Bool, false, List, [], ◌∷◌, ◌++◌, ℕ, eqb}
 use Rattle.std.proofs.Math.Option.{Option, none, some}
 use Rattle.codepage.specs.CodePage.{pick}
 use Rattle.codepage.specs.Reading.{is_surrogate, unit_code, bytes_of, Reader, Code, codes}

@@ -6,6 +6,9 @@
 //     // Spelled::Bytes(length): the front of `out`; or Spelled::Refused(why): why.number()
 //
 // A refused call leaves `out` as it was.
+
+#![tactic(auto)]
+
 ghost use Rattle.std.specs.Prelude.{◌≡◌, true, ◌+◌, ◌-◌, ◌≤◌, ◌<◌, length, drop};
 ghost use Rattle.std.proofs.Math.Option.{none};
 ghost use Rattle.std.proofs.lemmas.List.Edits.{sets};
@@ -25,7 +28,7 @@ use convert::Run;
 use engine_fastpath::plain;
 
 // Why a call is refused.
-#[derive(Drop)]
+#[derive(Clone, Copy)]
 pub enum Refusal {
     // 10: the shape of the tables is not good.
     BadShape,
@@ -39,7 +42,7 @@ pub enum Refusal {
 }
 
 // What the call answers.
-#[derive(Drop)]
+#[derive(Clone, Copy)]
 pub enum Spelled {
     // The spelling has so many bytes.
     Bytes(usize),
@@ -61,7 +64,7 @@ impl Refusal {
 }
 
 // A code of the text: how many bytes it has, and the code that spells it, or NO_CODE if it is at fault.
-#[derive(Drop)]
+#[derive(Clone, Copy)]
 struct SpelledCode {
     size: usize,
     code: u16,

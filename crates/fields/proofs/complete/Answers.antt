@@ -1,0 +1,11 @@
+use mathlib.Core.Path.{sym, refl}
+use lib.Seq.{length-take-le}
+use Rattle.fields.proofs.CallLaws.{found_here, found_held}
+use Rattle.fields.proofs.complete.Goals as goal
+
+pub returns-then-held-eq0 : goal.returns-then-held-eq0
+returns-then-held-eq0 c = found_here _ _ _ _ _ _ _ _ (sym (length-take-le _ _ c.requires.1)) c.read_with-read.ensures c.fresh-state.ensures c.if-held-eq0.true refl
+
+pub returns : goal.returns
+returns c =
+    found_held _ _ _ _ _ _ _ _ (sym (length-take-le _ _ c.requires.1)) c.read_with-read.ensures c.fresh-state.ensures c.if-held-eq0.false c.lay.ensures
