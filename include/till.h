@@ -1,5 +1,5 @@
-/* The C interface of the till converter (crates capi, capi_text and capi_products). Link the archive that `rt staticlib capi` writes, for
- * the calls on a whole text that of `rt staticlib capi_text`, and for the products on byte texts that of `rt staticlib capi_products`.
+/* The C interface of the till converter (crates capi, capi_text and capi_products). tools/build_c.sh writes the archives: link libcapi.a,
+ * for the calls on a whole text libcapi_text.a, and for the products on byte texts libcapi_products.a.
  *
  * Every call ends and answers on any numbers and any contents of its slices; none keeps anything between calls, takes memory or
  * does input or output. A slice is a pointer and a number of elements: the pointer is not NULL (also for 0 elements), aligned,

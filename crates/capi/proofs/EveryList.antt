@@ -1,13 +1,11 @@
 -- DEMAND 3 for the C calls: every list of them is, in numbers, a trace of demand 3.
 use mathlib.Core.Bool.{Bool, true, false}
 use mathlib.Core.List.{List, [], ◌∷◌}
-use mathlib.Core.Option.{Option, none, some}
 use mathlib.Core.Path.{◌≡◌, refl, sym, ap, ◌∙◌, subst}
 use Prim.Native.Nat.{ℕ}
 use native.Mathlib.Omega.{arith}
 use lib.ListN.{length}
 use Rattle.codepage.specs.CodePage.{pick}
-use Rattle.codepage.specs.Lent.{over}
 use Rattle.engine.specs.declared.Direction.{Direction}
 use Rattle.engine.specs.declared.Direction.TheVariants.{Decoding, Encoding}
 use Rattle.convert.specs.declared.Run.{Run}
@@ -16,12 +14,11 @@ use Rattle.convert.specs.Runs.{fresh, Start, start_of, started_as}
 use Rattle.convert.specs.declared.Started.TheVariants.{Accepted as Accepted'}
 use Rattle.convert.specs.Calls.{number_of, run_call, Answered}
 use Rattle.checkpoint.specs.declared.Written.{Written}
-use Rattle.checkpoint.specs.declared.Restored.{Restored}
 use Rattle.checkpoint.specs.declared.Restored.TheVariants.{Accepted, Refused}
-use Rattle.checkpoint.specs.Line.{Representable, write_of, read_of, written_as, Saved, restored_as}
+use Rattle.checkpoint.specs.Line.{Representable, write_of, written_as, Saved}
 use Rattle.checkpoint.proofs.LineLaws.{representable}
 use Rattle.runrecord.specs.Records.{outcome_of}
-use Rattle.traces.specs.Model.{Setting, by_value, in_record, Call, feeding, saving, loading, is_accepted, in_hand, Model, opened, next, Allowed, AllAllowed}
+use Rattle.traces.specs.Model.{Setting, by_value, in_record, Call, feeding, saving, loading, is_accepted, Model, opened, next, AllAllowed}
 use Rattle.traces.specs.Traces.{Result, fed as answered, fed_here as answered_here, saved as written, loaded as restored, Entry, Meets, observed, hand_after, AllMeet, calls_of, Demand3, Proper, Trace}
 use Rattle.traces.proofs.ModelLaws.{Kept, kept_start, kept_next}
 use Rattle.traces.proofs.ListLaws.{result_exists, fresh_started}

@@ -3,7 +3,6 @@ use Rattle.std.specs.Prelude.{Bool, true, false, not, ◌&&◌, ◌||◌, List, 
 use Rattle.std.proofs.Math.Option.{Option, none, some}
 use Rattle.codepage.specs.CodePage.{CodePage, code_page, pick, first_fault, is_good}
 use Rattle.codepage.specs.Reading.{is_high}
-use Rattle.codepage.specs.declared.Numbers.{Numbers}
 use Rattle.codepage.specs.declared.Fault.{Fault}
 use Rattle.codepage.specs.declared.Fault.TheVariants.{Good, Page, ClassesSize, SinglesSize, PairsSize, IndexSize, BlocksSize, Class, Lead, Number}
 use Rattle.engine.specs.declared.Direction.{Direction}
@@ -16,7 +15,7 @@ use Rattle.convert.specs.declared.Run.{Run}
 use Rattle.convert.specs.declared.Outcome.{Outcome}
 use Rattle.convert.specs.Runs.{piece_limit, Start, start_of}
 use Rattle.convert.specs.Calls.{Called, check, refusal, run_call, number_of}
-use Rattle.checkpoint.specs.Line.{Saving, unwritten, write_of, Loading, read_of}
+use Rattle.checkpoint.specs.Line.{Saving, unwritten, write_of, Loading}
 use Rattle.capi.specs.declared.TillRun.{TillRun}
 use Rattle.capi.specs.declared.TillOutcome.{TillOutcome}
 use Rattle.capi.specs.declared.TillHanded.{TillHanded}

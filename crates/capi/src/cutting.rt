@@ -1,4 +1,4 @@
-// The exported call that cuts a text into fields.
+// The call that cuts a text into fields.
 ghost use Rattle.std.specs.Prelude.{◌≡◌};
 ghost use Rattle.capi.specs.Cutting.{end_out, place_out, field_out, refused_field, TillCut};
 
@@ -7,7 +7,7 @@ use fields::{Answer, End, Held, Place};
 // What a call answers. number: 0 a field, 1 no field is complete and the block is held, or that of the refusal. held: for the next
 // call. Of a field: its units, where they are (0 the buffer, 1 the block) and what ended it (1 bar, 2 line feed, 3 the text's end).
 #[repr(C)]
-#[derive(Drop)]
+#[derive(Clone, Copy)]
 pub struct TillField {
     pub read: usize,
     pub count: usize,
@@ -84,13 +84,7 @@ fn field_out(answer: Answer, held: usize) -> TillField
 }
 
 // The next field of a text, or the block held. Any mark `last` but 0 is last.
-#[unsafe(no_mangle)]
-pub extern "C" fn till_next_field(
-    held: usize,
-    buffer: &mut [u16],
-    block: &[u16],
-    last: u8,
-) -> TillField
+pub fn till_next_field(held: usize, buffer: &mut [u16], block: &[u16], last: u8) -> TillField
     ensures { TillCut held buffer.old block.now last result buffer.new }
 {
     let state = Held { count: held };

@@ -1,5 +1,8 @@
-// The C interface: exported calls over numbers, slices and structs of numbers. include/till.h is its header and examples/example.c a
-// program that uses it; `rt staticlib capi` writes the archive.
+// The C interface: calls over numbers, slices and structs of numbers, which `capi_c` exports. include/till.h is its header and
+// examples/example.c a program that uses it; tools/build_c.sh writes the archive.
+
+#![tactic(auto)]
+
 ghost use Rattle.std.specs.Prelude.{◌≡◌, Bool, ℕ, length};
 ghost use Rattle.codepage.specs.CodePage.{first_fault};
 ghost use Rattle.engine.specs.declared.Direction.TheVariants.{Decoding, Encoding};
@@ -17,7 +20,7 @@ use engine::{Direction, Policy};
 // A run as C sees it. direction: 0 decoding, 1 encoding; pending: the pending byte, the
 // pending high surrogate, or 256 for none; ended: 0 or 1.
 #[repr(C)]
-#[derive(Drop)]
+#[derive(Clone, Copy)]
 pub struct TillRun {
     pub read: u64,
     pub written: u64,
@@ -33,7 +36,7 @@ pub struct TillRun {
 
 // What a run call answers.
 #[repr(C)]
-#[derive(Drop)]
+#[derive(Clone, Copy)]
 pub struct TillOutcome {
     pub run: TillRun,
     pub read: usize,
@@ -43,7 +46,7 @@ pub struct TillOutcome {
 
 // What a start and line reading answer: 0 and the run, or the number of the refusal.
 #[repr(C)]
-#[derive(Drop)]
+#[derive(Clone, Copy)]
 pub struct TillHanded {
     pub run: TillRun,
     pub number: u8,
@@ -51,7 +54,7 @@ pub struct TillHanded {
 
 // What line writing answers: 0 and the line's length, or the number of the refusal.
 #[repr(C)]
-#[derive(Drop)]
+#[derive(Clone, Copy)]
 pub struct TillSaved {
     pub size: usize,
     pub number: u8,
@@ -59,7 +62,7 @@ pub struct TillSaved {
 
 // What the shape report answers: the number of the fault, and its place in a table.
 #[repr(C)]
-#[derive(Drop)]
+#[derive(Clone, Copy)]
 pub struct TillFault {
     pub place: usize,
     pub number: u8,
@@ -231,8 +234,7 @@ fn answer_out(run: TillRun, o: Outcome) -> TillOutcome
 }
 
 // One call of a decoding run.
-#[unsafe(no_mangle)]
-pub extern "C" fn till_decode(
+pub fn till_decode(
     run: TillRun,
     page: u16,
     default_byte: u8,
@@ -270,8 +272,7 @@ pub extern "C" fn till_decode(
 }
 
 // One call of an encoding run.
-#[unsafe(no_mangle)]
-pub extern "C" fn till_encode(
+pub fn till_encode(
     run: TillRun,
     page: u16,
     default_byte: u8,
@@ -343,14 +344,7 @@ fn started_out(started: Started) -> TillHanded
 }
 
 // A fresh run, if the numbers are allowed: 0, or 17.
-#[unsafe(no_mangle)]
-pub extern "C" fn till_start(
-    direction: u8,
-    page: u16,
-    single: u8,
-    pair: u8,
-    invalid: u8,
-) -> TillHanded
+pub fn till_start(direction: u8, page: u16, single: u8, pair: u8, invalid: u8) -> TillHanded
     ensures { result ≡ till_start direction page single pair invalid }
 {
     if 1 < direction {
@@ -384,8 +378,7 @@ fn restored_out(restored: Restored) -> TillHanded
 }
 
 // Reads the run of a saved line: 0, or 18.
-#[unsafe(no_mangle)]
-pub extern "C" fn till_load(line: &[u8]) -> TillHanded
+pub fn till_load(line: &[u8]) -> TillHanded
     ensures { result ≡ load_out (read_of line.now) }
 {
     let restored = checkpoint::read(line);
@@ -410,8 +403,7 @@ fn written_out(written: Written) -> TillSaved
 }
 
 // Writes a run's line at the front of the output: 0 and its length, or 12, or 19.
-#[unsafe(no_mangle)]
-pub extern "C" fn till_save(run: TillRun, out: &mut [u8]) -> TillSaved
+pub fn till_save(run: TillRun, out: &mut [u8]) -> TillSaved
     ensures { TillSavedAs (till_save run (length out.old)) result out.old out.new }
 {
     if !is_run(run) {
@@ -465,8 +457,7 @@ fn fault_out(fault: Fault) -> TillFault
 }
 
 // The shape report: 0 if the shape is good, else the number and place of its first fault.
-#[unsafe(no_mangle)]
-pub extern "C" fn till_shape(
+pub fn till_shape(
     page: u16,
     default_byte: u8,
     default_unit: u16,

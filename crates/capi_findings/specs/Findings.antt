@@ -1,5 +1,5 @@
 -- The C interface: the findings of a byte text (document 02, CR 7; docs/RULES.md, "Findings").
-use Rattle.std.specs.Prelude.{List, ◌≡◌, ℕ}
+use Rattle.std.specs.Prelude.{List, ◌≡◌}
 use Rattle.findings.specs.declared.Finding.{Finding}
 use Rattle.findings.specs.declared.Listed.{Listed}
 use Rattle.findings.specs.declared.Listed.TheVariants as listed

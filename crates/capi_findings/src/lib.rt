@@ -1,4 +1,8 @@
-// The C interface of findings (CR 7). include/till.h is its header; `rt staticlib capi_findings` writes the archive.
+// The C interface of findings (CR 7): the call that `capi_findings_c` exports. include/till.h is its header; tools/build_c.sh writes
+// the archive.
+
+#![tactic(auto)]
+
 ghost use Rattle.std.specs.Prelude.{◌≡◌};
 ghost use Rattle.engine.specs.Policies.{digits};
 ghost use Rattle.findings.specs.Calls.{findings_call};
@@ -11,7 +15,7 @@ use findings::{Finding, Listed};
 
 // What the call answers. number: 0, or that of the refusal. count: how many findings there are, whatever the list's length.
 #[repr(C)]
-#[derive(Drop)]
+#[derive(Clone, Copy)]
 pub struct TillFindings {
     pub count: usize,
     pub number: u8,
@@ -31,8 +35,7 @@ fn findings_out(answer: Listed) -> TillFindings
 }
 
 // Lists the findings of a text, as many as fit at the front of the list.
-#[unsafe(no_mangle)]
-pub extern "C" fn till_findings(
+pub fn till_findings(
     single: u8,
     pair: u8,
     invalid: u8,

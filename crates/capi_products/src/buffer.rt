@@ -1,4 +1,4 @@
-// The exported call that encodes inside the one buffer that holds the units (CR 9).
+// The call that encodes inside the one buffer that holds the units (CR 9).
 ghost use Rattle.std.specs.Prelude.{◌≡◌};
 ghost use Rattle.engine.specs.Policies.{digits};
 ghost use Rattle.inplace.specs.InPlace.{in_place_of};
@@ -11,7 +11,7 @@ use inplace::Encoded;
 
 // What the call answers. number: 0 all read, 3 stopped, or that of the refusal. read: units; written: bytes at the buffer's front.
 #[repr(C)]
-#[derive(Drop)]
+#[derive(Clone, Copy)]
 pub struct TillInPlace {
     pub read: usize,
     pub written: usize,
@@ -54,8 +54,7 @@ fn encoded_out(encoded: Encoded) -> TillInPlace
 }
 
 // Encodes the units that the buffer holds, two bytes each, low byte first; the result stands at its front.
-#[unsafe(no_mangle)]
-pub extern "C" fn till_encode_in_place(
+pub fn till_encode_in_place(
     single: u8,
     pair: u8,
     invalid: u8,

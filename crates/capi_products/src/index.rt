@@ -1,4 +1,4 @@
-// The exported calls on the index of a journal (CR 11).
+// The calls on the index of a journal (CR 11).
 ghost use Rattle.std.specs.Prelude.{◌≡◌};
 ghost use Rattle.charindex.specs.Calls.{appending_of, finding_of};
 ghost use Rattle.capi.specs.Interface.{till_page};
@@ -9,7 +9,7 @@ use codepage::Numbers;
 
 // What appending answers. number: 0, or that of the refusal. count: the entries that the index then has for the journal.
 #[repr(C)]
-#[derive(Drop)]
+#[derive(Clone, Copy)]
 pub struct TillAppended {
     pub count: usize,
     pub number: u8,
@@ -17,7 +17,7 @@ pub struct TillAppended {
 
 // What finding answers. number: 0, or that of the refusal. The place of the code, and its length: 1 or 2.
 #[repr(C)]
-#[derive(Drop)]
+#[derive(Clone, Copy)]
 pub struct TillFound {
     pub place: usize,
     pub length: usize,
@@ -56,8 +56,7 @@ fn found_out(found: Found) -> TillFound
 }
 
 // Extends the index of a journal that had `former` bytes.
-#[unsafe(no_mangle)]
-pub extern "C" fn till_append_index(
+pub fn till_append_index(
     page: u16,
     default_byte: u8,
     default_unit: u16,
@@ -84,8 +83,7 @@ pub extern "C" fn till_append_index(
 }
 
 // Finds code n of a journal, from 0, by its index.
-#[unsafe(no_mangle)]
-pub extern "C" fn till_find_code(
+pub fn till_find_code(
     page: u16,
     default_byte: u8,
     default_unit: u16,

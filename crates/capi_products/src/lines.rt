@@ -1,4 +1,4 @@
-// The exported calls on breaks of a byte text into lines (CR 12).
+// The calls on breaks of a byte text into lines (CR 12).
 ghost use Rattle.std.specs.Prelude.{◌≡◌, length};
 ghost use Rattle.linebreak.specs.Calls.{check_of, proposal_of};
 ghost use Rattle.capi.specs.Interface.{till_page};
@@ -9,7 +9,7 @@ use linebreak::{Checked, Proposed};
 
 // What a proposal answers. number: 0, or that of the refusal. count: the breaks that were written to the front of the list.
 #[repr(C)]
-#[derive(Drop)]
+#[derive(Clone, Copy)]
 pub struct TillBreaks {
     pub count: usize,
     pub number: u8,
@@ -39,8 +39,7 @@ fn proposed_out(proposed: Proposed) -> TillBreaks
 }
 
 // Checks breaks of a text into lines of at most `width` bytes: 0, 10, 11 or 30.
-#[unsafe(no_mangle)]
-pub extern "C" fn till_check_breaks(
+pub fn till_check_breaks(
     page: u16,
     default_byte: u8,
     default_unit: u16,
@@ -67,8 +66,7 @@ pub extern "C" fn till_check_breaks(
 }
 
 // Proposes breaks of a text into lines of at most `width` bytes.
-#[unsafe(no_mangle)]
-pub extern "C" fn till_propose_breaks(
+pub fn till_propose_breaks(
     page: u16,
     default_byte: u8,
     default_unit: u16,

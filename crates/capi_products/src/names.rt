@@ -1,4 +1,4 @@
-// The exported call for the standard spelling of a byte text (CR 8).
+// The call for the standard spelling of a byte text (CR 8).
 ghost use Rattle.std.specs.Prelude.{◌≡◌, length};
 ghost use Rattle.spelling.specs.Calls.{spelling_of};
 ghost use Rattle.capi.specs.Interface.{till_page};
@@ -10,7 +10,7 @@ use spelling::{Refusal, Spelled};
 // What the call answers. number: 0, or that of the refusal. written: the bytes of the spelling. place: of 24, that of the first code at
 // fault.
 #[repr(C)]
-#[derive(Drop)]
+#[derive(Clone, Copy)]
 pub struct TillSpelled {
     pub written: usize,
     pub place: usize,
@@ -60,8 +60,7 @@ fn spelled_out(spelled: Spelled) -> TillSpelled
 }
 
 // The standard spelling of a text, at the front of the output.
-#[unsafe(no_mangle)]
-pub extern "C" fn till_spell(
+pub fn till_spell(
     page: u16,
     default_byte: u8,
     default_unit: u16,

@@ -1,5 +1,8 @@
-// The C interface of the run call over one run record, updated where it stands (CR 13). include/till.h is its header; `rt staticlib
-// capi_record` writes the archive.
+// The C interface of the run call over one run record, updated where it stands (CR 13): calls that `capi_record_c` exports.
+// include/till.h is its header; tools/build_c.sh writes the archive.
+
+#![tactic(auto)]
+
 ghost use Rattle.std.specs.Prelude.{◌≡◌, ℕ, length};
 ghost use Rattle.engine.specs.declared.Direction.TheVariants.{Decoding, Encoding};
 ghost use Rattle.capi.specs.Interface.{till_page, till_call, TillAnswered};
@@ -9,7 +12,7 @@ use capi::TillRun;
 
 // What a call on a record answers; the new run is in the record.
 #[repr(C)]
-#[derive(Drop)]
+#[derive(Clone, Copy)]
 pub struct TillHere {
     pub read: usize,
     pub written: usize,
@@ -17,8 +20,7 @@ pub struct TillHere {
 }
 
 // One call of the decoding run in a record. A refused call leaves in the record what it held.
-#[unsafe(no_mangle)]
-pub extern "C" fn till_decode_here(
+pub fn till_decode_here(
     run: &mut TillRun,
     page: u16,
     default_byte: u8,
@@ -57,8 +59,7 @@ pub extern "C" fn till_decode_here(
 }
 
 // One call of the encoding run in a record. A refused call leaves in the record what it held.
-#[unsafe(no_mangle)]
-pub extern "C" fn till_encode_here(
+pub fn till_encode_here(
     run: &mut TillRun,
     page: u16,
     default_byte: u8,

@@ -1,5 +1,8 @@
-// The C interface: the exported calls on a whole text. include/till.h is its header. They are an archive of their own: with them in
-// that of `capi` the loops would have two callers, and the stack of a run call would be half as large again.
+// The C interface: the calls on a whole text, which `capi_text_c` exports. include/till.h is its header. They are an archive of their
+// own: with them in that of `capi_c` the loops would have two callers, and the stack of a run call would be half as large again.
+
+#![tactic(auto)]
+
 ghost use Rattle.std.specs.Prelude.{◌≡◌, length};
 ghost use Rattle.engine.specs.declared.Direction.TheVariants.{Decoding, Encoding};
 ghost use Rattle.oneshot.specs.Texts.{text_of};
@@ -14,7 +17,7 @@ use oneshot::Converted;
 // What a call answers. number: 0 all read, 2 the need is over the room, 3 stopped, or that of the refusal. need: the units of output
 // that all of the text needs; flags: those of all of it. read and written: what was converted into the room.
 #[repr(C)]
-#[derive(Drop)]
+#[derive(Clone, Copy)]
 pub struct TillText {
     pub need: usize,
     pub read: usize,
@@ -49,8 +52,7 @@ fn converted_out(answer: Converted) -> TillText
 }
 
 // Decodes a whole text; with no room it only counts.
-#[unsafe(no_mangle)]
-pub extern "C" fn till_decode_text(
+pub fn till_decode_text(
     single: u8,
     pair: u8,
     invalid: u8,
@@ -80,8 +82,7 @@ pub extern "C" fn till_decode_text(
 }
 
 // Encodes a whole text; with no room it only counts.
-#[unsafe(no_mangle)]
-pub extern "C" fn till_encode_text(
+pub fn till_encode_text(
     single: u8,
     pair: u8,
     invalid: u8,

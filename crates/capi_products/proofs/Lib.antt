@@ -1,4 +1,0 @@
-pub mod BufferLaws
-pub mod IndexLaws
-pub mod LineLaws
-pub mod SpellingLaws
