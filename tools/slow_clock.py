@@ -1,11 +1,18 @@
 """A clock that shows another second at each look, put before the system's: to tillbox every journal comes slowly then, and a line is saved
-after every 128 blocks. Needs a C compiler (cc, or $CC), as tools/build.sh does."""
+after every 128 blocks. Needs a C compiler (cc, or $CC)."""
 
 import os
 import subprocess
 
 SOURCE = """#include <time.h>
-time_t time(time_t *t) { static time_t shown; shown++; if (t) *t = shown; return shown; }
+int clock_gettime(clockid_t clock, struct timespec *shown)
+{
+    static time_t seconds;
+    (void)clock;
+    shown->tv_sec = ++seconds;
+    shown->tv_nsec = 0;
+    return 0;
+}
 """
 
 

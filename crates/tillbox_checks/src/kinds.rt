@@ -4,7 +4,7 @@ use codepage::Numbers;
 use convert::{Policy, Run};
 use tillbox_layout::sum;
 
-#[derive(Drop)]
+#[derive(Clone, Copy)]
 pub struct Kinds {
     pub single: u64,
     pub pair: u64,
@@ -37,7 +37,7 @@ impl Kinds {
 }
 
 // What a call wrote, and the flags that it set.
-#[derive(Drop)]
+#[derive(Clone, Copy)]
 struct Met {
     written: usize,
     flags: u8,

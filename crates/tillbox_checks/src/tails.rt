@@ -2,6 +2,7 @@
 // before the place where it goes on, and the end of the output is what the end of the input gives.
 use codepage::Numbers;
 use convert::{Direction, Pending, Run, Started};
+use std::fs::File;
 use tillbox_layout::{BLOCK, block_len, front_bytes, front_units, place_of, size_of, units_in};
 use tillbox_storage::{files, messages};
 
@@ -9,7 +10,7 @@ use tillbox_storage::{files, messages};
 const LONGEST: u64 = 512;
 
 // What was found.
-#[derive(Drop)]
+#[derive(Clone, Copy)]
 enum Tail {
     Same,
     Other,
@@ -26,17 +27,17 @@ fn before(total: u64, count: usize) -> u64 {
 }
 
 // Whether some bytes stand at a place of a file.
-fn stand_at(fd: i32, place: i64, bytes: &[u8], path: &[u8]) -> Tail {
+fn stand_at(file: &File, place: i64, bytes: &[u8], path: &[u8]) -> Tail {
     let mut buffer = [0u8; 2048];
-    if !files::seek(fd, place, path) {
+    if !files::seek(file, place, path) {
         return Tail::Failed;
     }
-    let got = files::read_some(fd, bytes.len(), &mut buffer, path);
+    let got = files::read_some(file, bytes.len(), &mut buffer, path);
     if got.failed {
         return Tail::Failed;
     }
     let count = got.count;
-    if check::same(&buffer[..count], bytes) {
+    if &buffer[..count] == bytes {
         return Tail::Same;
     }
     Tail::Other
@@ -44,7 +45,7 @@ fn stand_at(fd: i32, place: i64, bytes: &[u8], path: &[u8]) -> Tail {
 
 // Whether some bytes, `count` units, are the last of so many units of an output.
 fn end_output(
-    target: i32,
+    target: &File,
     wide: bool,
     total: u64,
     count: usize,
@@ -100,7 +101,7 @@ fn bytes_give_end(
     index: &[u8],
     blocks: &[u16],
     bytes: &[u8],
-    target: i32,
+    target: &File,
     output: &[u8],
 ) -> Tail {
     let policy = run.policy;
@@ -131,7 +132,7 @@ fn units_give_end(
     index: &[u8],
     blocks: &[u16],
     units: &[u16],
-    target: i32,
+    target: &File,
     output: &[u8],
 ) -> Tail {
     let policy = run.policy;
@@ -181,8 +182,8 @@ fn decoded_end(
     pairs: &[u16],
     index: &[u8],
     blocks: &[u16],
-    source: i32,
-    target: i32,
+    source: &File,
+    target: &File,
     input: &[u8],
     output: &[u8],
 ) -> Tail {
@@ -221,8 +222,8 @@ fn encoded_end(
     pairs: &[u16],
     index: &[u8],
     blocks: &[u16],
-    source: i32,
-    target: i32,
+    source: &File,
+    target: &File,
     input: &[u8],
     output: &[u8],
 ) -> Tail {
@@ -255,7 +256,7 @@ fn encoded_end(
 }
 
 // Whether what a run has pending stands before the place where it goes on.
-fn pending_stands(run: Run, source: i32, input: &[u8]) -> Tail {
+fn pending_stands(run: Run, source: &File, input: &[u8]) -> Tail {
     let pending = run.pending;
     match pending {
         Pending::Nothing => Tail::Same,
@@ -283,8 +284,8 @@ fn end_stands(
     pairs: &[u16],
     index: &[u8],
     blocks: &[u16],
-    source: i32,
-    target: i32,
+    source: &File,
+    target: &File,
     input: &[u8],
     output: &[u8],
 ) -> Tail {
@@ -328,8 +329,8 @@ pub fn are_of(
     pairs: &[u16],
     index: &[u8],
     blocks: &[u16],
-    source: i32,
-    target: i32,
+    source: &File,
+    target: &File,
     input: &[u8],
     output: &[u8],
 ) -> bool {

@@ -1,25 +1,32 @@
 // The descriptors that a program begins with.
-use libc::{EBADF, SEEK_CUR};
+use std::fs::{File, OpenOptions};
+use std::io;
+use std::os::fd::{AsRawFd, IntoRawFd};
 
-// Whether a descriptor is closed.
-fn is_closed(fd: i32) -> bool {
-    if libc::lseek(fd, 0, SEEK_CUR) < 0 {
-        return os::errno() == EBADF;
-    }
-    false
+// How many descriptors a program is given: standard input, output and error.
+const GIVEN: i32 = 3;
+
+// Opens what takes everything and gives nothing.
+fn open_null(rt: &HostRuntime) -> io::Result<File> {
+    OpenOptions::new()
+        .read(true)
+        .write(true)
+        .open(rt, "/dev/null")
 }
 
-// Opens a descriptor that is closed on nothing: the system gives the lowest one that is free.
-fn open_if_closed(fd: i32) {
-    if is_closed(fd) {
-        os::open_update(b"/dev/null");
+// Opens a descriptor on nothing, and keeps it open where it is one of the three: the system gives the lowest one that is free.
+fn open_if_closed(rt: &HostRuntime) {
+    if let Ok(file) = open_null(rt) {
+        if file.as_raw_fd() < GIVEN {
+            file.into_raw_fd();
+        }
     }
 }
 
 // Opens what is closed of standard input, output and error, in that order, so that no file of a job gets their numbers and no
 // message is written into it.
-pub fn open_closed() {
-    open_if_closed(0);
-    open_if_closed(1);
-    open_if_closed(2);
+pub fn open_closed(rt: &HostRuntime) {
+    open_if_closed(rt);
+    open_if_closed(rt);
+    open_if_closed(rt);
 }

@@ -1,20 +1,20 @@
 // The names of the files, one buffer a function. The memory for the tables is handed on.
 ghost use Rattle.io.specs.Counts.{IsPrefixLen};
 
-use crate::options::later;
+use crate::options::{later, word_at};
 use crate::words::{Call, Kind};
 use crate::work;
-use libc::STDERR_FILENO;
 use tillbox_jobs::job::Ending;
+use tillbox_storage::messages::STDERR;
 
 // Puts an argument at the front of a buffer and answers its length. Where it is 0 the reason was said.
-fn name_at(at: usize, buffer: &mut [u8]) -> usize
+fn name_at(rt: &HostRuntime, at: usize, buffer: &mut [u8]) -> usize
     ensures { IsPrefixLen result buffer.new }
 {
-    let count = os::arg(at, buffer);
+    let count = word_at(rt, at, buffer);
     if count == 0 {
         io::write_all(
-            STDERR_FILENO,
+            STDERR,
             b"tillbox: error: the name of a file is empty or too long\n",
         );
     }
@@ -23,6 +23,7 @@ fn name_at(at: usize, buffer: &mut [u8]) -> usize
 
 // The fourth name, of a job that saves, and the work itself.
 fn with_checkpoint(
+    rt: &HostRuntime,
     call: Call,
     table: &[u8],
     input: &[u8],
@@ -36,22 +37,23 @@ fn with_checkpoint(
 ) -> Ending {
     let job = call.job;
     if !job.saves {
-        if !work::are_good(call, table, input, output, b"") {
+        if !work::are_good(rt, call, table, input, output, b"") {
             return Ending::Failed;
         }
         return work::run(
-            call, table, input, output, b"", image, classes, singles, pairs, index, blocks,
+            rt, call, table, input, output, b"", image, classes, singles, pairs, index, blocks,
         );
     }
     let mut name = io::buffer();
-    let count = name_at(later(call.first, 3), &mut name);
+    let count = name_at(rt, later(call.first, 3), &mut name);
     if count == 0 {
         return Ending::Failed;
     }
-    if !work::are_good(call, table, input, output, &name[..count]) {
+    if !work::are_good(rt, call, table, input, output, &name[..count]) {
         return Ending::Failed;
     }
     work::run(
+        rt,
         call,
         table,
         input,
@@ -68,6 +70,7 @@ fn with_checkpoint(
 
 // The third name, the output's, and the rest.
 fn with_output(
+    rt: &HostRuntime,
     call: Call,
     table: &[u8],
     input: &[u8],
@@ -79,11 +82,12 @@ fn with_output(
     blocks: &mut [u16],
 ) -> Ending {
     let mut name = io::buffer();
-    let count = name_at(later(call.first, 2), &mut name);
+    let count = name_at(rt, later(call.first, 2), &mut name);
     if count == 0 {
         return Ending::Failed;
     }
     with_checkpoint(
+        rt,
         call,
         table,
         input,
@@ -99,6 +103,7 @@ fn with_output(
 
 // The work of a call that has two names: those of a table and an input or a listing, or of a listing and a table.
 fn without_output(
+    rt: &HostRuntime,
     call: Call,
     table: &[u8],
     input: &[u8],
@@ -109,11 +114,11 @@ fn without_output(
     index: &mut [u8],
     blocks: &mut [u16],
 ) -> Ending {
-    if !work::are_good(call, table, input, b"", b"") {
+    if !work::are_good(rt, call, table, input, b"", b"") {
         return Ending::Failed;
     }
     work::run(
-        call, table, input, b"", b"", image, classes, singles, pairs, index, blocks,
+        rt, call, table, input, b"", b"", image, classes, singles, pairs, index, blocks,
     )
 }
 
@@ -130,6 +135,7 @@ fn has_two(call: Call) -> bool {
 
 // The second name, the input's, and the rest.
 fn with_input(
+    rt: &HostRuntime,
     call: Call,
     table: &[u8],
     image: &mut [u8],
@@ -140,12 +146,13 @@ fn with_input(
     blocks: &mut [u16],
 ) -> Ending {
     let mut name = io::buffer();
-    let count = name_at(later(call.first, 1), &mut name);
+    let count = name_at(rt, later(call.first, 1), &mut name);
     if count == 0 {
         return Ending::Failed;
     }
     if has_two(call) {
         return without_output(
+            rt,
             call,
             table,
             &name[..count],
@@ -158,6 +165,7 @@ fn with_input(
         );
     }
     with_output(
+        rt,
         call,
         table,
         &name[..count],
@@ -172,6 +180,7 @@ fn with_input(
 
 // Does what a call asks for on the files that its arguments name. A shape has one name.
 pub fn with_table(
+    rt: &HostRuntime,
     call: Call,
     image: &mut [u8],
     classes: &mut [u8],
@@ -181,16 +190,17 @@ pub fn with_table(
     blocks: &mut [u16],
 ) -> Ending {
     let mut name = io::buffer();
-    let count = name_at(call.first, &mut name);
+    let count = name_at(rt, call.first, &mut name);
     if count == 0 {
         return Ending::Failed;
     }
     let kind = call.kind;
     if let Kind::Shape = kind {
-        if !work::are_good(call, &name[..count], b"", b"", b"") {
+        if !work::are_good(rt, call, &name[..count], b"", b"", b"") {
             return Ending::Failed;
         }
         return work::run(
+            rt,
             call,
             &name[..count],
             b"",
@@ -205,6 +215,7 @@ pub fn with_table(
         );
     }
     with_input(
+        rt,
         call,
         &name[..count],
         image,

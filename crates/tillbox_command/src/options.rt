@@ -1,8 +1,12 @@
 // The words before the names of the files: `last`, `policy DDD` and `context`.
+ghost use Rattle.io.specs.Counts.{IsPrefixLen};
+
 use convert::Policy;
+use std::env::{Env, FillError};
+use tillbox_layout::front_bytes;
 
 // What was chosen, and which argument is the first name. The policy is the standard one if none was asked for.
-#[derive(Drop)]
+#[derive(Clone, Copy)]
 pub struct Options {
     pub last: bool,
     pub policy: Policy,
@@ -15,7 +19,7 @@ pub struct Options {
 }
 
 // A policy that was read, or words that are none.
-#[derive(Drop)]
+#[derive(Clone, Copy)]
 pub enum Parsed {
     Digits(Policy),
     Nothing,
@@ -32,16 +36,45 @@ pub fn later(at: usize, by: usize) -> usize {
     at + by
 }
 
+// Puts an argument at the front of a buffer and answers its length; 0 where it is not there or does not fit.
+pub fn word_at(rt: &HostRuntime, at: usize, buffer: &mut [u8]) -> usize
+    ensures { IsPrefixLen result buffer.new }
+{
+    match rt.arg(at, buffer) {
+        Ok(count) => front_bytes(count, buffer),
+        Err(_) => front_bytes(0, buffer),
+    }
+}
+
+// Whether there is such an argument.
+fn is_there(rt: &HostRuntime, at: usize) -> bool {
+    let mut buffer = [0u8; 1];
+    match rt.arg(at, &mut buffer) {
+        Err(FillError::NotPresent) => false,
+        _ => true,
+    }
+}
+
+// How many arguments there are, the program's name among them.
+pub fn count(rt: &HostRuntime) -> usize {
+    for at in 0..usize::MAX {
+        if !is_there(rt, at) {
+            return at;
+        }
+    }
+    usize::MAX
+}
+
 // Whether an argument is this word of at most 16 bytes.
-pub fn is_word(at: usize, word: &[u8]) -> bool {
+pub fn is_word(rt: &HostRuntime, at: usize, word: &[u8]) -> bool {
     let mut buffer = [0u8; 16];
-    let count = os::arg(at, &mut buffer);
-    check::same(&buffer[..count], word)
+    let count = word_at(rt, at, &mut buffer);
+    &buffer[..count] == word
 }
 
 // How many arguments there are from a place on.
-pub fn names_from(at: usize) -> usize {
-    let count = os::arg_count();
+pub fn names_from(rt: &HostRuntime, at: usize) -> usize {
+    let count = count(rt);
     if count < at {
         return 0;
     }
@@ -81,9 +114,9 @@ fn digits_of(a: u8, b: u8, c: u8) -> Parsed {
 }
 
 // The policy that an argument spells.
-fn policy_at(at: usize) -> Parsed {
+fn policy_at(rt: &HostRuntime, at: usize) -> Parsed {
     let mut word = [0u8; 4];
-    let count = os::arg(at, &mut word);
+    let count = word_at(rt, at, &mut word);
     if count != 3 {
         return Parsed::Nothing;
     }
@@ -124,16 +157,16 @@ fn next_value(value: u64, digit: u64) -> u64 {
 }
 
 // The width that an argument spells, or 0.
-pub fn width_at(at: usize) -> u64 {
+pub fn width_at(rt: &HostRuntime, at: usize) -> u64 {
     let mut word = [0u8; 6];
-    let count = os::arg(at, &mut word);
+    let count = word_at(rt, at, &mut word);
     width_of(&word[..count])
 }
 
 // Takes the word `last`, if it is next.
-fn with_last(options: Options) -> Options {
+fn with_last(rt: &HostRuntime, options: Options) -> Options {
     let next = options.next;
-    if !is_word(next, b"last") {
+    if !is_word(rt, next, b"last") {
         return options;
     }
     let policy = options.policy;
@@ -148,9 +181,9 @@ fn with_last(options: Options) -> Options {
 }
 
 // Takes the word `context`, if it is next.
-fn with_context(options: Options) -> Options {
+fn with_context(rt: &HostRuntime, options: Options) -> Options {
     let next = options.next;
-    if !is_word(next, b"context") {
+    if !is_word(rt, next, b"context") {
         return options;
     }
     let policy = options.policy;
@@ -165,12 +198,12 @@ fn with_context(options: Options) -> Options {
 }
 
 // Takes the words `policy DDD`, if they are next.
-fn with_policy(options: Options) -> Options {
+fn with_policy(rt: &HostRuntime, options: Options) -> Options {
     let next = options.next;
-    if !is_word(next, b"policy") {
+    if !is_word(rt, next, b"policy") {
         return options;
     }
-    let parsed = policy_at(later(next, 1));
+    let parsed = policy_at(rt, later(next, 1));
     match parsed {
         Parsed::Digits(policy) => Options {
             last: options.last,
@@ -208,16 +241,16 @@ fn nothing_from(next: usize) -> Options {
 }
 
 // The words from an argument on, in either order.
-pub fn chosen_from(next: usize) -> Options {
-    with_last(with_policy(with_last(nothing_from(next))))
+pub fn chosen_from(rt: &HostRuntime, next: usize) -> Options {
+    with_last(rt, with_policy(rt, with_last(rt, nothing_from(next))))
 }
 
 // The words behind the command `why`, in either order.
-pub fn chosen_for_why() -> Options {
-    with_context(with_policy(with_context(nothing_from(2))))
+pub fn chosen_for_why(rt: &HostRuntime) -> Options {
+    with_context(rt, with_policy(rt, with_context(rt, nothing_from(2))))
 }
 
 // The words behind the command.
-pub fn chosen() -> Options {
-    chosen_from(2)
+pub fn chosen(rt: &HostRuntime) -> Options {
+    chosen_from(rt, 2)
 }

@@ -14,26 +14,34 @@ const LINE: usize = 65536;
 
 // Whether the names of a call are of files that it can use; names that it has not are empty. It is asked before `run`, whose stack
 // then has no names of its own.
-pub fn are_good(call: Call, table: &[u8], input: &[u8], output: &[u8], checkpoint: &[u8]) -> bool {
+pub fn are_good(
+    rt: &HostRuntime,
+    call: Call,
+    table: &[u8],
+    input: &[u8],
+    output: &[u8],
+    checkpoint: &[u8],
+) -> bool {
     let kind = call.kind;
     let job = call.job;
     if let Kind::Shape = kind {
-        return is_plain(table);
+        return is_plain(rt, table);
     }
     if let Kind::Why = kind {
-        return is_plain(table) && is_plain(input);
+        return is_plain(rt, table) && is_plain(rt, input);
     }
     if let Kind::Listing = kind {
-        return can_list(table, input);
+        return can_list(rt, table, input);
     }
     if let Kind::Table = kind {
-        return can_replace(table, input);
+        return can_replace(rt, table, input);
     }
-    names::are_apart(job, table, input, output, checkpoint)
+    names::are_apart(rt, job, table, input, output, checkpoint)
 }
 
 // Converts: the memory of the image has room for a line that is broken.
 fn convert(
+    rt: &HostRuntime,
     job: Job,
     numbers: Numbers,
     classes: &[u8],
@@ -49,6 +57,7 @@ fn convert(
 ) -> Ending {
     let room = front_bytes(LINE, image);
     job::with_tables(
+        rt,
         job,
         numbers,
         classes,
@@ -66,6 +75,7 @@ fn convert(
 
 // Spells a list: the memory of the image has room for a line.
 fn spell(
+    rt: &HostRuntime,
     numbers: Numbers,
     classes: &[u8],
     singles: &[u16],
@@ -79,6 +89,7 @@ fn spell(
 ) -> Ending {
     let room = front_bytes(LINE, image);
     tillbox_spelling::job::with_tables(
+        rt,
         numbers,
         classes,
         singles,
@@ -94,6 +105,7 @@ fn spell(
 
 // Tells why a flag is up: the memory of the image has room for a part of the journal.
 fn tell_why(
+    rt: &HostRuntime,
     call: Call,
     numbers: Numbers,
     classes: &[u8],
@@ -109,6 +121,7 @@ fn tell_why(
     let job = call.job;
     let policy = job.policy;
     tillbox_why::job::with_tables(
+        rt,
         policy,
         call.context,
         numbers,
@@ -125,6 +138,7 @@ fn tell_why(
 
 // Writes a listing: the memory of the image has room for some lines.
 fn list(
+    rt: &HostRuntime,
     numbers: Numbers,
     classes: &[u8],
     singles: &[u16],
@@ -137,6 +151,7 @@ fn list(
 ) -> Ending {
     let room = front_bytes(LINE, image);
     tillbox_listing::writing::with_tables(
+        rt,
         numbers,
         classes,
         singles,
@@ -151,6 +166,7 @@ fn list(
 
 // From a table set on.
 fn with_tables(
+    rt: &HostRuntime,
     call: Call,
     numbers: Numbers,
     classes: &[u8],
@@ -171,20 +187,20 @@ fn with_tables(
         Kind::Import => {
             let policy = job.policy;
             tillbox_import::job::with_tables(
-                policy, numbers, classes, singles, pairs, index, blocks, table, input, output,
+                rt, policy, numbers, classes, singles, pairs, index, blocks, table, input, output,
             )
         }
         Kind::Why => tell_why(
-            call, numbers, classes, singles, pairs, index, blocks, image, table, input,
+            rt, call, numbers, classes, singles, pairs, index, blocks, image, table, input,
         ),
         Kind::Listing => list(
-            numbers, classes, singles, pairs, index, blocks, image, table, input,
+            rt, numbers, classes, singles, pairs, index, blocks, image, table, input,
         ),
         Kind::Spell => spell(
-            numbers, classes, singles, pairs, index, blocks, image, table, input, output,
+            rt, numbers, classes, singles, pairs, index, blocks, image, table, input, output,
         ),
         _ => convert(
-            job, numbers, classes, singles, pairs, index, blocks, image, table, input, output,
+            rt, job, numbers, classes, singles, pairs, index, blocks, image, table, input, output,
             checkpoint,
         ),
     }
@@ -192,6 +208,7 @@ fn with_tables(
 
 // From what was loaded on: the tables stand at the fronts of their memory.
 fn with_loaded(
+    rt: &HostRuntime,
     call: Call,
     loaded: Loaded,
     table: &[u8],
@@ -214,6 +231,7 @@ fn with_loaded(
             let d = front_bytes(sizes.index, index);
             let e = front_units(sizes.blocks, blocks);
             with_tables(
+                rt,
                 call,
                 numbers,
                 &classes[..a],
@@ -233,6 +251,7 @@ fn with_loaded(
 
 // Loads the tables and does what a call asks for.
 fn load_and_run(
+    rt: &HostRuntime,
     call: Call,
     table: &[u8],
     input: &[u8],
@@ -245,15 +264,16 @@ fn load_and_run(
     index: &mut [u8],
     blocks: &mut [u16],
 ) -> Ending {
-    let loaded = tables::load(table, image, classes, singles, pairs, index, blocks);
+    let loaded = tables::load(rt, table, image, classes, singles, pairs, index, blocks);
     with_loaded(
-        call, loaded, table, input, output, checkpoint, image, classes, singles, pairs, index,
+        rt, call, loaded, table, input, output, checkpoint, image, classes, singles, pairs, index,
         blocks,
     )
 }
 
 // Does what a call asks for: a table is made from a listing, whose names come in that order; else a table is loaded.
 pub fn run(
+    rt: &HostRuntime,
     call: Call,
     table: &[u8],
     input: &[u8],
@@ -268,9 +288,9 @@ pub fn run(
 ) -> Ending {
     let kind = call.kind;
     if let Kind::Table = kind {
-        return read_listing(table, input, classes, singles, pairs, index, blocks);
+        return read_listing(rt, table, input, classes, singles, pairs, index, blocks);
     }
     load_and_run(
-        call, table, input, output, checkpoint, image, classes, singles, pairs, index, blocks,
+        rt, call, table, input, output, checkpoint, image, classes, singles, pairs, index, blocks,
     )
 }

@@ -1,100 +1,88 @@
-// Inner: which file a descriptor is open on or a name stands for, by its device and its number there, and of what kind it is.
-// The system's record is a struct behind a reference: `told` and `told_at` alone lend one.
+// Inner: which file is open or a name stands for, by its device and its number there, and of what kind it is.
+
+#![tactic(auto)]
+
 mod path;
 
-ghost use Rattle.libc.specs.Io.{Ended, Status};
+ghost use Rattle.tillbox_identity.specs.Answers.{Status};
 
-use crate::path::ended;
-use libc::types::{stat, timespec};
-use libc::{PATH_MAX, S_IFMT, S_IFREG};
+pub use crate::path::text_of;
+use std::fs::{File, Metadata};
+use std::io::ErrorKind;
+use std::os::unix::fs::MetadataExt;
+use std::{fs, io};
 
-// What the system tells of a file: whether it did (0), the device, the file's number there, and its mode.
-#[derive(Drop)]
+// The bits of a mode that tell the kind of a file, and those of a plain one.
+const S_IFMT: u32 = 0o170000;
+
+const S_IFREG: u32 = 0o100000;
+
+// What the system tells of a file: whether it did (0), the device, the file's number there, and its mode; and where it did not, whether
+// that is since there is no such file.
+#[derive(Clone, Copy)]
 pub struct Identity {
     pub status: i32,
     pub device: u64,
     pub number: u64,
     pub mode: u32,
+    pub missing: bool,
 }
 
-// No time.
-fn never() -> timespec {
-    timespec {
-        tv_sec: 0,
-        tv_nsec: 0,
-    }
-}
-
-// A record with nothing in it.
-fn empty() -> stat {
-    stat {
-        st_dev: 0,
-        st_ino: 0,
-        st_nlink: 0,
-        st_mode: 0,
-        st_uid: 0,
-        st_gid: 0,
-        __pad: 0,
-        st_rdev: 0,
-        st_size: 0,
-        st_blksize: 0,
-        st_blocks: 0,
-        st_atim: never(),
-        st_mtim: never(),
-        st_ctim: never(),
-        __unused: [0; 3],
-    }
-}
-
-// Lends a record to the system, and takes out of it what tells files apart.
-fn told(fd: i32, record: stat) -> Identity
+// Takes out of the system's record what tells files apart.
+fn told(answer: io::Result<Metadata>) -> Identity
     ensures { Status result.status }
 {
-    let mut r = record;
-    let status = libc::fstat(fd, &mut r);
+    match answer {
+        Ok(record) => Identity {
+            status: 0,
+            device: record.dev(),
+            number: record.ino(),
+            mode: record.mode(),
+            missing: false,
+        },
+        Err(error) => untold(error),
+    }
+}
+
+// Nothing was told.
+fn untold(error: io::Error) -> Identity
+    ensures { Status result.status }
+{
     Identity {
-        status,
-        device: r.st_dev,
-        number: r.st_ino,
-        mode: r.st_mode,
+        status: -1,
+        device: 0,
+        number: 0,
+        mode: 0,
+        missing: error.kind() == ErrorKind::NotFound,
     }
 }
 
-// The same of a path.
-fn told_at(path: &[u8; PATH_MAX], record: stat) -> Identity
-    requires { Ended path.now }
+// Which file is open.
+pub fn of(file: &File) -> Identity
     ensures { Status result.status }
 {
-    let mut r = record;
-    let status = libc::stat(path, &mut r);
-    Identity {
-        status,
-        device: r.st_dev,
-        number: r.st_ino,
-        mode: r.st_mode,
-    }
-}
-
-// Which file a descriptor is open on.
-pub fn of(fd: i32) -> Identity
-    ensures { Status result.status }
-{
-    told(fd, empty())
+    told(file.metadata())
 }
 
 // Which file a path names, links followed.
-pub fn at(path: &[u8]) -> Identity
+pub fn at(rt: &HostRuntime, path: &[u8]) -> Identity
     ensures { Status result.status }
 {
-    let path = ended(path);
-    told_at(&path, empty())
+    match text_of(path) {
+        Ok(name) => told(fs::metadata(rt, name)),
+        Err(error) => untold(error),
+    }
 }
 
 // Whether a path names a link.
-pub fn is_link(path: &[u8]) -> bool {
-    let path = ended(path);
-    let mut byte = [0u8; 1];
-    libc::readlink(&path, &mut byte) >= 0
+pub fn is_link(rt: &HostRuntime, path: &[u8]) -> bool {
+    let Ok(name) = text_of(path) else {
+        return false;
+    };
+    match fs::symlink_metadata(rt, name) {
+        Ok(record) => record.is_symlink(),
+        Err(_) => false,
+    }
 }
 
 impl Identity {

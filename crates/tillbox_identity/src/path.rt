@@ -1,26 +1,31 @@
-// A path as the system takes it: 4,096 bytes, the last of them 0.
-ghost use Rattle.libc.specs.Io.{Ended};
+// A path as the system takes it: text of fewer than 4,096 bytes, so that a 0 can stand behind it.
+ghost use Rattle.std.specs.Prelude.{◌≡◌, ◌<◌, ◌↔◌, IfOk, IsTrue, length};
 
-use libc::PATH_MAX;
+use std::io::{Error, ErrorKind};
+use std::{io, str};
 
-const LAST: usize = PATH_MAX - 1;
+// The bytes of the longest path, with its 0.
+const PATH_MAX: usize = 4096;
 
-// The bytes with a 0 in the last place.
-fn closed(bytes: [u8; PATH_MAX]) -> [u8; PATH_MAX]
-    ensures { Ended result }
+// The system's number of a name that is too long.
+const ENAMETOOLONG: i32 = 36;
+
+// Whether a path is short enough for a 0 to stand behind it.
+fn is_short(path: &[u8]) -> bool
+    ensures { IsTrue result ↔ (length path.now < 4096) }
 {
-    let mut path = bytes;
-    path[LAST] = 0;
-    path
+    path.len() < PATH_MAX
 }
 
-// A path, and zeros; nothing of one that is too long.
-pub fn ended(path: &[u8]) -> [u8; PATH_MAX]
-    ensures { Ended result }
+// A path as text. One that is too long is refused as the system would, and one that is no text with words of our own.
+pub fn text_of(path: &[u8]) -> io::Result<&str>
+    ensures { IfOk result (λ text. (text.now ≡ path.now) × (length text.now < 4096)) }
 {
-    let mut ended = [0u8; PATH_MAX];
-    if path.len() < PATH_MAX {
-        bytes::copy(path, &mut ended);
+    if !is_short(path) {
+        return Err(Error::from_raw_os_error(ENAMETOOLONG));
     }
-    closed(ended)
+    match str::from_utf8(path) {
+        Ok(text) => Ok(text),
+        Err(_) => Err(Error::new(ErrorKind::InvalidInput, "the name is no text in UTF-8")),
+    }
 }

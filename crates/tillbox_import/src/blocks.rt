@@ -5,6 +5,7 @@ use crate::records::Progress;
 use codepage::Numbers;
 use convert::{Outcome, Pending, Run};
 use fields::Held;
+use std::fs::File;
 use tillbox_checks::kinds;
 use tillbox_checks::kinds::Kinds;
 use tillbox_jobs::blocks::{kinds_of_decoding, stop_of_decoding};
@@ -15,7 +16,7 @@ use tillbox_storage::{files, messages};
 // After some blocks: the run, the code that it was stopped at, the codes without a character that it met before, what is held of a field, and how far the file is; whether a field
 // has too many units, and then the byte that its first unit over the limit is read from; and whether something failed, whose reason
 // was said.
-#[derive(Drop)]
+#[derive(Clone, Copy)]
 pub struct Turn {
     pub run: Run,
     pub stop: Stop,
@@ -173,7 +174,7 @@ fn cut_block(
     last: bool,
     buffer: &mut [u16],
     out: &mut [u16],
-    target: i32,
+    target: &File,
     input: &[u8],
     output: &[u8],
 ) -> Turn {
@@ -218,8 +219,8 @@ fn next_block(
     blocks: &[u16],
     buffer: &mut [u16],
     out: &mut [u16],
-    source: i32,
-    target: i32,
+    source: &File,
+    target: &File,
     total: u64,
     input: &[u8],
     output: &[u8],
@@ -300,8 +301,8 @@ pub fn all_blocks(
     blocks: &[u16],
     buffer: &mut [u16],
     out: &mut [u16],
-    source: i32,
-    target: i32,
+    source: &File,
+    target: &File,
     total: u64,
     input: &[u8],
     output: &[u8],

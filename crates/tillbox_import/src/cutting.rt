@@ -4,9 +4,10 @@ ghost use Rattle.std.specs.Prelude.{◌≡◌, false, ◌<◌};
 use crate::records;
 use crate::records::Progress;
 use fields::{Answer, Found, Held};
+use std::fs::File;
 
 // After a call: how far the file is, what is held, how many units it read, and whether the next field has more units than the limit.
-#[derive(Drop)]
+#[derive(Clone, Copy)]
 pub struct Cut {
     pub progress: Progress,
     pub state: Held,
@@ -22,12 +23,12 @@ fn put_found<'a>(
     buffer: &'a [u16],
     rest: &'a [u16],
     out: &mut [u16],
-    target: i32,
+    target: &File,
     path: &[u8],
 ) -> Cut {
     let end = found.end;
     let field = fields::field(buffer, rest, found);
-    let closed = csv::closes_record(end);
+    let closed = rfc4180::closes_record(end);
     let after = records::put(progress, field, closed, out, target, path);
     Cut {
         progress: after,
@@ -45,7 +46,7 @@ fn next(
     last: bool,
     buffer: &mut [u16],
     out: &mut [u16],
-    target: i32,
+    target: &File,
     path: &[u8],
 ) -> Cut {
     let outcome = fields::next_field(state, buffer, rest, last);
@@ -93,7 +94,7 @@ pub fn cut_units(
     last: bool,
     buffer: &mut [u16],
     out: &mut [u16],
-    target: i32,
+    target: &File,
     path: &[u8],
 ) -> Cut {
     let mut p = progress;

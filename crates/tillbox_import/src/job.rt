@@ -3,13 +3,14 @@ use crate::blocks::Turn;
 use crate::{blocks, records, report};
 use codepage::Numbers;
 use convert::{Direction, Policy, Run, Started};
+use std::fs::File;
 use tillbox_jobs::job::{Ending, closed};
 use tillbox_jobs::stops::is_stopped;
 use tillbox_jobs::tables;
 use tillbox_storage::{files, messages};
 
 // The end of an import that was not read to its end: whole records stay, and what happened is said.
-fn broken_off(turn: Turn, out: &[u16], target: i32, input: &[u8], output: &[u8]) -> Ending {
+fn broken_off(turn: Turn, out: &[u16], target: &File, input: &[u8], output: &[u8]) -> Ending {
     let run = turn.run;
     let met = turn.kinds;
     let reached = turn.progress;
@@ -28,7 +29,7 @@ fn broken_off(turn: Turn, out: &[u16], target: i32, input: &[u8], output: &[u8])
 }
 
 // The end of an import.
-fn finished(turn: Turn, out: &mut [u16], target: i32, input: &[u8], output: &[u8]) -> Ending {
+fn finished(turn: Turn, out: &mut [u16], target: &File, input: &[u8], output: &[u8]) -> Ending {
     let run = turn.run;
     let met = turn.kinds;
     let reached = turn.progress;
@@ -58,8 +59,8 @@ fn with_target(
     pairs: &[u16],
     index: &[u8],
     blocks: &[u16],
-    source: i32,
-    target: i32,
+    source: &File,
+    target: &File,
     total: u64,
     input: &[u8],
     output: &[u8],
@@ -89,6 +90,7 @@ fn with_target(
 
 // From a run on.
 fn with_run(
+    rt: &HostRuntime,
     run: Run,
     numbers: Numbers,
     classes: &[u8],
@@ -96,7 +98,7 @@ fn with_run(
     pairs: &[u16],
     index: &[u8],
     blocks: &[u16],
-    source: i32,
+    source: &File,
     total: u64,
     input: &[u8],
     output: &[u8],
@@ -104,18 +106,18 @@ fn with_run(
     if !files::seek(source, 0, input) {
         return Ending::Failed;
     }
-    let target = files::make(output);
-    if target < 0 {
+    let Some(target) = files::make(rt, output) else {
         return Ending::Failed;
-    }
+    };
     let ending = with_target(
-        run, numbers, classes, singles, pairs, index, blocks, source, target, total, input, output,
+        run, numbers, classes, singles, pairs, index, blocks, source, &target, total, input, output,
     );
     closed(ending, target, output)
 }
 
 // From an open journal on.
 fn with_input(
+    rt: &HostRuntime,
     policy: Policy,
     numbers: Numbers,
     classes: &[u8],
@@ -123,7 +125,7 @@ fn with_input(
     pairs: &[u16],
     index: &[u8],
     blocks: &[u16],
-    source: i32,
+    source: &File,
     input: &[u8],
     output: &[u8],
 ) -> Ending {
@@ -144,13 +146,14 @@ fn with_input(
             Ending::Failed
         }
         Started::Accepted(run) => with_run(
-            run, numbers, classes, singles, pairs, index, blocks, source, total, input, output,
+            rt, run, numbers, classes, singles, pairs, index, blocks, source, total, input, output,
         ),
     }
 }
 
 // Imports a journal with a table set. What happened is said on standard error.
 pub fn with_tables(
+    rt: &HostRuntime,
     policy: Policy,
     numbers: Numbers,
     classes: &[u8],
@@ -165,13 +168,10 @@ pub fn with_tables(
     if !tables::good_shape(table, numbers, classes, singles, pairs, index, blocks) {
         return Ending::Failed;
     }
-    let source = files::open_input(input);
-    if source < 0 {
+    let Some(source) = files::open_input(rt, input) else {
         return Ending::Failed;
-    }
-    let ending = with_input(
-        policy, numbers, classes, singles, pairs, index, blocks, source, input, output,
-    );
-    libc::close(source);
-    ending
+    };
+    with_input(
+        rt, policy, numbers, classes, singles, pairs, index, blocks, &source, input, output,
+    )
 }

@@ -1,4 +1,7 @@
 // Inner: a journal imported, decoded block by block, cut into fields, and written as records in a CSV file.
+
+#![tactic(auto)]
+
 pub mod blocks;
 pub mod cutting;
 pub mod job;

@@ -1,6 +1,7 @@
 // The records file: fields put into an output block as CSV, and the block written when it is nearly full. The file is UTF-16LE
 // with its mark first.
-use csv::Put;
+use rfc4180::Put;
+use std::fs::File;
 use tillbox_layout::sum;
 use tillbox_storage::{files, messages};
 
@@ -8,7 +9,7 @@ use tillbox_storage::{files, messages};
 const FIELD_ROOM: usize = 517;
 
 // How far the file is.
-#[derive(Drop)]
+#[derive(Clone, Copy)]
 pub struct Progress {
     // Whether a record is begun, and how many fields it has so far.
     pub begun: bool,
@@ -55,7 +56,7 @@ pub fn begin(out: &mut [u16]) -> Progress {
 }
 
 // Writes what waits in the output block.
-fn flush(progress: Progress, out: &[u16], target: i32, path: &[u8]) -> Progress {
+fn flush(progress: Progress, out: &[u16], target: &File, path: &[u8]) -> Progress {
     let mut p = progress;
     let unwritten = tillbox_layout::front_units(p.unwritten, out);
     let mut bytes = [0u8; 2048];
@@ -69,7 +70,7 @@ fn flush(progress: Progress, out: &[u16], target: i32, path: &[u8]) -> Progress 
 }
 
 // The output block with room for one field more.
-fn with_room(progress: Progress, out: &[u16], target: i32, path: &[u8]) -> Progress {
+fn with_room(progress: Progress, out: &[u16], target: &File, path: &[u8]) -> Progress {
     let unwritten = tillbox_layout::front_units(progress.unwritten, out);
     if out.len() - unwritten < FIELD_ROOM {
         return flush(progress, out, target, path);
@@ -110,7 +111,7 @@ pub fn put(
     field: &[u16],
     closed: bool,
     out: &mut [u16],
-    target: i32,
+    target: &File,
     path: &[u8],
 ) -> Progress {
     let mut p = with_room(progress, out, target, path);
@@ -118,13 +119,13 @@ pub fn put(
         return p;
     }
     let unwritten = tillbox_layout::front_units(p.unwritten, out);
-    let part = csv::put_field(p.begun, field, closed, &mut out[unwritten..]);
+    let part = rfc4180::put_field(p.begun, field, closed, &mut out[unwritten..]);
     p.inside = sum(p.inside, 1);
     settled(p, part, closed, path)
 }
 
 // Ends the file of a text that was read to its end: a record that is begun is closed.
-pub fn finish(progress: Progress, out: &mut [u16], target: i32, path: &[u8]) -> Progress {
+pub fn finish(progress: Progress, out: &mut [u16], target: &File, path: &[u8]) -> Progress {
     let p = with_room(progress, out, target, path);
     if p.failed {
         return p;
@@ -133,7 +134,7 @@ pub fn finish(progress: Progress, out: &mut [u16], target: i32, path: &[u8]) -> 
         return flush(p, out, target, path);
     }
     let unwritten = tillbox_layout::front_units(p.unwritten, out);
-    let part = csv::put_close(p.begun, &mut out[unwritten..]);
+    let part = rfc4180::put_close(p.begun, &mut out[unwritten..]);
     let closed = settled(p, part, true, path);
     if closed.failed {
         return closed;
@@ -142,13 +143,12 @@ pub fn finish(progress: Progress, out: &mut [u16], target: i32, path: &[u8]) -> 
 }
 
 // Ends the file of a text that was not: its whole records stay, and nothing of the record that is begun.
-pub fn cut(progress: Progress, out: &[u16], target: i32, path: &[u8]) -> Progress {
+pub fn cut(progress: Progress, out: &[u16], target: &File, path: &[u8]) -> Progress {
     let p = flush(progress, out, target, path);
     if p.failed {
         return p;
     }
-    if libc::ftruncate(target, tillbox_layout::place_of(true, p.whole)) < 0 {
-        messages::cannot(b"cut", path);
+    if !files::set_length(target, tillbox_layout::place_of(true, p.whole), path) {
         return failed(p);
     }
     p

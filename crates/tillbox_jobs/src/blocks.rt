@@ -7,6 +7,7 @@ use crate::stops::Stop;
 use crate::{clock, report, stops};
 use codepage::Numbers;
 use convert::{Direction, Outcome, Run};
+use std::fs::File;
 use tillbox_checks::kinds;
 use tillbox_checks::kinds::Kinds;
 use tillbox_printing::mark::note_mark;
@@ -14,7 +15,7 @@ use tillbox_storage::{checkpoints, files, messages};
 
 // The run after some parts, the code that it was stopped at, the codes without a character that it met before, and whether something
 // failed; then the reason was said.
-#[derive(Drop)]
+#[derive(Clone, Copy)]
 pub struct Turn {
     pub run: Run,
     pub stop: Stop,
@@ -198,7 +199,7 @@ fn decode_bytes(
     pairs: &[u16],
     index: &[u8],
     blocks: &[u16],
-    target: i32,
+    target: &File,
     part: &[u8],
     last: bool,
     input: &[u8],
@@ -232,8 +233,8 @@ fn decode_part(
     pairs: &[u16],
     index: &[u8],
     blocks: &[u16],
-    source: i32,
-    target: i32,
+    source: &File,
+    target: &File,
     size: usize,
     last: bool,
     input: &[u8],
@@ -270,7 +271,7 @@ fn encode_units(
     pairs: &[u16],
     index: &[u8],
     blocks: &[u16],
-    target: i32,
+    target: &File,
     units: &[u16],
     last: bool,
     input: &[u8],
@@ -303,8 +304,8 @@ fn encode_part(
     pairs: &[u16],
     index: &[u8],
     blocks: &[u16],
-    source: i32,
-    target: i32,
+    source: &File,
+    target: &File,
     size: usize,
     last: bool,
     input: &[u8],
@@ -346,8 +347,8 @@ fn next_part(
     pairs: &[u16],
     index: &[u8],
     blocks: &[u16],
-    source: i32,
-    target: i32,
+    source: &File,
+    target: &File,
     total: u64,
     input: &[u8],
     output: &[u8],
@@ -369,14 +370,14 @@ fn next_part(
 
 // What the clock showed when a run was saved last, or when its job began; and whether a line could not be saved: then the reason was
 // said.
-#[derive(Drop)]
+#[derive(Clone, Copy)]
 struct Saving {
-    clock: i64,
+    clock: u64,
     failed: bool,
 }
 
 // Nothing is saved now.
-fn unsaved(clock: i64) -> Saving {
+fn unsaved(clock: u64) -> Saving {
     Saving {
         clock,
         failed: false,
@@ -386,11 +387,12 @@ fn unsaved(clock: i64) -> Saving {
 // Progress and checkpoints on the way, after `done` parts. A line is saved after every 32 parts (128 blocks), unless the clock still
 // shows the second of the last save: a journal that comes fast is not held up by syncs.
 fn on_the_way(
+    rt: &HostRuntime,
     job: Job,
     run: Run,
     done: u64,
-    clock: i64,
-    target: i32,
+    clock: u64,
+    target: &File,
     total: u64,
     output: &[u8],
     checkpoint: &[u8],
@@ -404,12 +406,12 @@ fn on_the_way(
     if !job.saves {
         return unsaved(clock);
     }
-    if clock::seconds() == clock {
+    if clock::seconds(rt) == clock {
         return unsaved(clock);
     }
-    let saved = checkpoints::save(run, target, output, checkpoint);
+    let saved = checkpoints::save(rt, run, target, output, checkpoint);
     Saving {
-        clock: clock::seconds(),
+        clock: clock::seconds(rt),
         failed: !saved,
     }
 }
@@ -429,6 +431,7 @@ fn with_totals(turn: Turn, kinds: Kinds) -> Turn {
 // All parts that are left, to the end of the input or of the run. There are at most as many as blocks; a last text of which nothing is left
 // has one empty part.
 pub fn all_parts(
+    rt: &HostRuntime,
     job: Job,
     run: Run,
     numbers: Numbers,
@@ -437,8 +440,8 @@ pub fn all_parts(
     pairs: &[u16],
     index: &[u8],
     blocks: &[u16],
-    source: i32,
-    target: i32,
+    source: &File,
+    target: &File,
     total: u64,
     input: &[u8],
     output: &[u8],
@@ -447,7 +450,7 @@ pub fn all_parts(
     let count = tillbox_layout::block_count(run.read, total, job.last);
     let mut run = run;
     let mut met = kinds::none();
-    let mut clock = clock::seconds();
+    let mut clock = clock::seconds(rt);
     let mut done = 0;
     while done < count {
         let turn = next_part(
@@ -463,7 +466,7 @@ pub fn all_parts(
             return with_totals(turn, met);
         }
         done += 1;
-        let saving = on_the_way(job, run, done, clock, target, total, output, checkpoint);
+        let saving = on_the_way(rt, job, run, done, clock, target, total, output, checkpoint);
         if saving.failed {
             return broken(run);
         }

@@ -5,6 +5,7 @@ use crate::stops::Stop;
 use crate::{blocks, report, resume, stops, tables};
 use codepage::Numbers;
 use convert::{Direction, Policy, Run};
+use std::fs::File;
 use tillbox_checks::kinds::Kinds;
 use tillbox_checks::{kinds, tails};
 use tillbox_lock::Lock;
@@ -12,7 +13,7 @@ use tillbox_printing::Page;
 use tillbox_storage::{checkpoints, files, messages};
 
 // What is to be done.
-#[derive(Drop)]
+#[derive(Clone, Copy)]
 pub struct Job {
     pub direction: Direction,
     // The policy of a fresh run, and whether it was asked for.
@@ -29,7 +30,7 @@ pub struct Job {
 }
 
 // How a job ended.
-#[derive(Drop)]
+#[derive(Clone, Copy)]
 pub enum Ending {
     // All is read.
     Done,
@@ -49,17 +50,24 @@ fn told(run: Run, stop: Stop, kinds: Kinds, checkpoint: &[u8]) -> Ending {
 }
 
 // The end of a job whose parts are done: the last line is saved and the run summed up.
-fn finished(job: Job, turn: Turn, target: i32, output: &[u8], checkpoint: &[u8]) -> Ending {
+fn finished(
+    rt: &HostRuntime,
+    job: Job,
+    turn: Turn,
+    target: &File,
+    output: &[u8],
+    checkpoint: &[u8],
+) -> Ending {
     let run = turn.run;
     let met = turn.kinds;
     if turn.failed {
         return Ending::Failed;
     }
     if job.saves {
-        if !checkpoints::save(run, target, output, checkpoint) {
+        if !checkpoints::save(rt, run, target, output, checkpoint) {
             return Ending::Failed;
         }
-        files::sync_folder(checkpoint);
+        files::sync_folder(rt, checkpoint);
     }
     if job.counts {
         report::preview(run, met);
@@ -87,24 +95,25 @@ fn reads_wide(direction: Direction) -> bool {
 }
 
 // Goes to the place in the input where a run stands.
-fn go_to(run: Run, source: i32, input: &[u8]) -> bool {
+fn go_to(run: Run, source: &File, input: &[u8]) -> bool {
     let direction = run.direction;
     let place = tillbox_layout::place_of(reads_wide(direction), run.read);
     files::seek(source, place, input)
 }
 
 // The output of a run: taken up where the run stands, or made anew.
-fn open_target(run: Run, resumed: bool, output: &[u8]) -> i32 {
+fn open_target(rt: &HostRuntime, run: Run, resumed: bool, output: &[u8]) -> Option<File> {
     if !resumed {
-        return files::make(output);
+        return files::make(rt, output);
     }
     let direction = run.direction;
     let place = tillbox_layout::place_of(!reads_wide(direction), run.written);
-    files::take_up(output, place)
+    files::take_up(rt, output, place)
 }
 
 // Whether the files of a run that goes on are its own, as far as it can be told. Where they are not, that was said.
 fn are_own(
+    rt: &HostRuntime,
     run: Run,
     numbers: Numbers,
     classes: &[u8],
@@ -112,23 +121,21 @@ fn are_own(
     pairs: &[u16],
     index: &[u8],
     blocks: &[u16],
-    source: i32,
+    source: &File,
     input: &[u8],
     output: &[u8],
 ) -> bool {
-    let reader = files::open_input(output);
-    if reader < 0 {
+    let Some(reader) = files::open_input(rt, output) else {
         return false;
-    }
-    let own = tails::are_of(
-        run, numbers, classes, singles, pairs, index, blocks, source, reader, input, output,
-    );
-    libc::close(reader);
-    own
+    };
+    tails::are_of(
+        run, numbers, classes, singles, pairs, index, blocks, source, &reader, input, output,
+    )
 }
 
 // Whether a job's files are those of the run that it begins with.
 fn can_begin(
+    rt: &HostRuntime,
     beginning: Beginning,
     numbers: Numbers,
     classes: &[u8],
@@ -136,7 +143,7 @@ fn can_begin(
     pairs: &[u16],
     index: &[u8],
     blocks: &[u16],
-    source: i32,
+    source: &File,
     input: &[u8],
     output: &[u8],
 ) -> bool {
@@ -145,20 +152,21 @@ fn can_begin(
         return true;
     }
     are_own(
-        run, numbers, classes, singles, pairs, index, blocks, source, input, output,
+        rt, run, numbers, classes, singles, pairs, index, blocks, source, input, output,
     )
 }
 
 // Whether the line of a job that saves could be put into the checkpoint's folder, which is tried before an output is touched.
-fn is_ready(job: Job, checkpoint: &[u8]) -> bool {
+fn is_ready(rt: &HostRuntime, job: Job, checkpoint: &[u8]) -> bool {
     if !job.saves {
         return true;
     }
-    checkpoints::can_save(checkpoint)
+    checkpoints::can_save(rt, checkpoint)
 }
 
 // From a run on.
 fn with_run(
+    rt: &HostRuntime,
     job: Job,
     beginning: Beginning,
     numbers: Numbers,
@@ -168,7 +176,7 @@ fn with_run(
     index: &[u8],
     blocks: &[u16],
     line: &mut [u8],
-    source: i32,
+    source: &File,
     total: u64,
     input: &[u8],
     output: &[u8],
@@ -176,51 +184,43 @@ fn with_run(
 ) -> Ending {
     let run = beginning.run;
     if !can_begin(
-        beginning, numbers, classes, singles, pairs, index, blocks, source, input, output,
+        rt, beginning, numbers, classes, singles, pairs, index, blocks, source, input, output,
     ) {
         return Ending::Failed;
     }
     if !go_to(run, source, input) {
         return Ending::Failed;
     }
-    if !is_ready(job, checkpoint) {
+    if !is_ready(rt, job, checkpoint) {
         return Ending::Failed;
     }
-    let target = open_target(run, beginning.resumed, output);
-    if target < 0 {
+    let Some(target) = open_target(rt, run, beginning.resumed, output) else {
         return Ending::Failed;
-    }
+    };
     if job.width != 0 {
         let page = tillbox_printing::print_ledger(
-            run, numbers, classes, singles, pairs, index, blocks, job.width, source, target, total,
-            line, input, output,
+            run, numbers, classes, singles, pairs, index, blocks, job.width, source, &target,
+            total, line, input, output,
         );
         return closed(printed(page), target, output);
     }
     if job.saves {
-        files::sync_folder(output);
+        files::sync_folder(rt, output);
     }
     let turn = blocks::all_parts(
-        job, run, numbers, classes, singles, pairs, index, blocks, source, target, total, input,
-        output, checkpoint,
+        rt, job, run, numbers, classes, singles, pairs, index, blocks, source, &target, total,
+        input, output, checkpoint,
     );
-    let ending = finished(job, turn, target, output, checkpoint);
+    let ending = finished(rt, job, turn, &target, output, checkpoint);
+    // The output of a job that saves was made safe with its last line.
     if job.saves {
-        return closed_saved(ending, target, output);
+        return ending;
     }
     closed(ending, target, output)
 }
 
-// How a job ends whose output was made safe with its last line, and is closed.
-fn closed_saved(ending: Ending, target: i32, output: &[u8]) -> Ending {
-    if files::close(target, output) {
-        return ending;
-    }
-    Ending::Failed
-}
-
 // How a job ends whose output is made safe and closed.
-pub fn closed(ending: Ending, target: i32, output: &[u8]) -> Ending {
+pub fn closed(ending: Ending, target: File, output: &[u8]) -> Ending {
     if files::finish(target, output) {
         return ending;
     }
@@ -229,6 +229,7 @@ pub fn closed(ending: Ending, target: i32, output: &[u8]) -> Ending {
 
 // The end of a job whose run had ended before: its output is looked at as that of one that goes on.
 fn nothing_to_do(
+    rt: &HostRuntime,
     run: Run,
     numbers: Numbers,
     classes: &[u8],
@@ -236,27 +237,26 @@ fn nothing_to_do(
     pairs: &[u16],
     index: &[u8],
     blocks: &[u16],
-    source: i32,
+    source: &File,
     input: &[u8],
     output: &[u8],
     checkpoint: &[u8],
 ) -> Ending {
     if !are_own(
-        run, numbers, classes, singles, pairs, index, blocks, source, input, output,
+        rt, run, numbers, classes, singles, pairs, index, blocks, source, input, output,
     ) {
         return Ending::Failed;
     }
-    let target = open_target(run, true, output);
-    if target < 0 {
+    if open_target(rt, run, true, output).is_none() {
         return Ending::Failed;
     }
-    libc::close(target);
     messages::say(b"tillbox: nothing to do: the run of the checkpoint has ended\n");
     told(run, stops::none(), kinds::none(), checkpoint)
 }
 
 // From an input of `total` units on.
 fn with_total(
+    rt: &HostRuntime,
     job: Job,
     numbers: Numbers,
     classes: &[u8],
@@ -265,7 +265,7 @@ fn with_total(
     index: &[u8],
     blocks: &[u16],
     line: &mut [u8],
-    source: i32,
+    source: &File,
     total: u64,
     input: &[u8],
     output: &[u8],
@@ -276,15 +276,16 @@ fn with_total(
         return Ending::Failed;
     }
     let origin = resume::begin(
-        job, numbers, classes, singles, pairs, index, blocks, total, checkpoint,
+        rt, job, numbers, classes, singles, pairs, index, blocks, total, checkpoint,
     );
     match origin {
         Origin::At(beginning) => with_run(
-            job, beginning, numbers, classes, singles, pairs, index, blocks, line, source, total,
-            input, output, checkpoint,
+            rt, job, beginning, numbers, classes, singles, pairs, index, blocks, line, source,
+            total, input, output, checkpoint,
         ),
         Origin::Finished(run) => nothing_to_do(
-            run, numbers, classes, singles, pairs, index, blocks, source, input, output, checkpoint,
+            rt, run, numbers, classes, singles, pairs, index, blocks, source, input, output,
+            checkpoint,
         ),
         Origin::Failed => Ending::Failed,
     }
@@ -304,6 +305,7 @@ fn is_complete(job: Job, wide: bool, bytes: u64, input: &[u8]) -> bool {
 
 // From an open input on, whose size is asked here: an earlier job may have worked on the checkpoint while the input grew.
 fn with_size(
+    rt: &HostRuntime,
     job: Job,
     numbers: Numbers,
     classes: &[u8],
@@ -312,7 +314,7 @@ fn with_size(
     index: &[u8],
     blocks: &[u16],
     line: &mut [u8],
-    source: i32,
+    source: &File,
     input: &[u8],
     output: &[u8],
     checkpoint: &[u8],
@@ -329,13 +331,14 @@ fn with_size(
     }
     let total = tillbox_layout::units_in(wide, bytes);
     with_total(
-        job, numbers, classes, singles, pairs, index, blocks, line, source, total, input, output,
-        checkpoint,
+        rt, job, numbers, classes, singles, pairs, index, blocks, line, source, total, input,
+        output, checkpoint,
     )
 }
 
 // From an open input on. A job that saves has its checkpoint to itself.
 fn with_input(
+    rt: &HostRuntime,
     job: Job,
     numbers: Numbers,
     classes: &[u8],
@@ -344,36 +347,40 @@ fn with_input(
     index: &[u8],
     blocks: &[u16],
     line: &mut [u8],
-    source: i32,
+    source: &File,
     input: &[u8],
     output: &[u8],
     checkpoint: &[u8],
 ) -> Ending {
-    let lock = locked(job, checkpoint);
-    if let Lock::Refused = lock {
-        return Ending::Failed;
+    match locked(rt, job, checkpoint) {
+        Lock::Refused => Ending::Failed,
+        Lock::Free => with_size(
+            rt, job, numbers, classes, singles, pairs, index, blocks, line, source, input, output,
+            checkpoint,
+        ),
+        Lock::Held(file) => {
+            let ending = with_size(
+                rt, job, numbers, classes, singles, pairs, index, blocks, line, source, input,
+                output, checkpoint,
+            );
+            tillbox_lock::release(rt, file, checkpoint);
+            ending
+        }
     }
-    let ending = with_size(
-        job, numbers, classes, singles, pairs, index, blocks, line, source, input, output,
-        checkpoint,
-    );
-    if let Lock::Held(fd) = lock {
-        tillbox_lock::release(fd, checkpoint);
-    }
-    ending
 }
 
 // The lock of a job that saves; one that does not needs none.
-fn locked(job: Job, checkpoint: &[u8]) -> Lock {
+fn locked(rt: &HostRuntime, job: Job, checkpoint: &[u8]) -> Lock {
     if !job.saves {
         return Lock::Free;
     }
-    tillbox_lock::take(checkpoint)
+    tillbox_lock::take(rt, checkpoint)
 }
 
 // Does a job with a table set. `checkpoint` is looked at only where the job saves, and `line` is room for a line that is broken. What
 // happened is said on standard error.
 pub fn with_tables(
+    rt: &HostRuntime,
     job: Job,
     numbers: Numbers,
     classes: &[u8],
@@ -390,14 +397,11 @@ pub fn with_tables(
     if !tables::good_shape(table, numbers, classes, singles, pairs, index, blocks) {
         return Ending::Failed;
     }
-    let source = files::open_input(input);
-    if source < 0 {
+    let Some(source) = files::open_input(rt, input) else {
         return Ending::Failed;
-    }
-    let ending = with_input(
-        job, numbers, classes, singles, pairs, index, blocks, line, source, input, output,
+    };
+    with_input(
+        rt, job, numbers, classes, singles, pairs, index, blocks, line, &source, input, output,
         checkpoint,
-    );
-    libc::close(source);
-    ending
+    )
 }

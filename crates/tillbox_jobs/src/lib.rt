@@ -1,5 +1,8 @@
 // Inner: the conversion of whole files, with checkpoints: what the program `tillbox` runs. Everything that is decided about a text is
 // decided by the calls of `convert` and `checkpoint`; here files are read and written.
+
+#![tactic(auto)]
+
 pub mod blocks;
 mod clock;
 pub mod job;

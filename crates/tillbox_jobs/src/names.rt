@@ -4,37 +4,38 @@ use tillbox_storage::messages;
 use tillbox_storage::names::{beside, is_output, is_plain, is_replaced, named_twice};
 
 // Whether what is read is of plain files, and an output of one that can be written.
-pub fn are_files(table: &[u8], input: &[u8], output: &[u8]) -> bool {
-    if !is_plain(table) {
+pub fn are_files(rt: &HostRuntime, table: &[u8], input: &[u8], output: &[u8]) -> bool {
+    if !is_plain(rt, table) {
         return false;
     }
-    if !is_plain(input) {
+    if !is_plain(rt, input) {
         return false;
     }
-    is_output(output)
+    is_output(rt, output)
 }
 
 // Whether an output is another file than what is read. Where it is not, that was said.
-pub fn output_apart(table: &[u8], input: &[u8], output: &[u8]) -> bool {
-    if named_twice(output, table) {
+pub fn output_apart(rt: &HostRuntime, table: &[u8], input: &[u8], output: &[u8]) -> bool {
+    if named_twice(rt, output, table) {
         return false;
     }
-    !named_twice(output, input)
+    !named_twice(rt, output, input)
 }
 
 // Whether a file that stands for a checkpoint is another one than the files of its job.
-fn is_apart(name: &[u8], table: &[u8], input: &[u8], output: &[u8]) -> bool {
-    if !is_replaced(name) {
+fn is_apart(rt: &HostRuntime, name: &[u8], table: &[u8], input: &[u8], output: &[u8]) -> bool {
+    if !is_replaced(rt, name) {
         return false;
     }
-    if !output_apart(table, input, name) {
+    if !output_apart(rt, table, input, name) {
         return false;
     }
-    !named_twice(name, output)
+    !named_twice(rt, name, output)
 }
 
 // The same of the file beside a checkpoint that has an ending.
 fn beside_apart(
+    rt: &HostRuntime,
     checkpoint: &[u8],
     ending: &[u8],
     table: &[u8],
@@ -47,25 +48,32 @@ fn beside_apart(
         messages::wrong(checkpoint, b"the name is too long");
         return false;
     }
-    is_apart(&name[..count], table, input, output)
+    is_apart(rt, &name[..count], table, input, output)
 }
 
 // Whether a job's names are of files, and no file that is written is another one of the job. Where it is not so, that was said.
-pub fn are_apart(job: Job, table: &[u8], input: &[u8], output: &[u8], checkpoint: &[u8]) -> bool {
-    if !are_files(table, input, output) {
+pub fn are_apart(
+    rt: &HostRuntime,
+    job: Job,
+    table: &[u8],
+    input: &[u8],
+    output: &[u8],
+    checkpoint: &[u8],
+) -> bool {
+    if !are_files(rt, table, input, output) {
         return false;
     }
-    if !output_apart(table, input, output) {
+    if !output_apart(rt, table, input, output) {
         return false;
     }
     if !job.saves {
         return true;
     }
-    if !is_apart(checkpoint, table, input, output) {
+    if !is_apart(rt, checkpoint, table, input, output) {
         return false;
     }
-    if !beside_apart(checkpoint, b".new", table, input, output) {
+    if !beside_apart(rt, checkpoint, b".new", table, input, output) {
         return false;
     }
-    beside_apart(checkpoint, b".lock", table, input, output)
+    beside_apart(rt, checkpoint, b".lock", table, input, output)
 }

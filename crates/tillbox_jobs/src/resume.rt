@@ -4,17 +4,19 @@ use crate::{report, stops};
 use checkpoint::Restored;
 use codepage::Numbers;
 use convert::{Direction, Policy, Run, Started};
+use std::fs::File;
+use std::io::ErrorKind;
 use tillbox_checks::kinds;
 use tillbox_storage::{checkpoints, files, messages};
 
 // A run to begin with, and whether it goes on over an output that is there.
-#[derive(Drop)]
+#[derive(Clone, Copy)]
 pub struct Beginning {
     pub run: Run,
     pub resumed: bool,
 }
 
-#[derive(Drop)]
+#[derive(Clone, Copy)]
 pub enum Origin {
     At(Beginning),
     // The run has ended and there is nothing more to read.
@@ -176,8 +178,17 @@ fn resumed(
     Origin::Failed
 }
 
+// The line of an open checkpoint file. Where it can not be read or is refused the reason was said.
+fn read_line(file: &File, path: &[u8]) -> Restored {
+    if !files::readable(file, path) {
+        return Restored::Refused;
+    }
+    checkpoints::read_line(file, path)
+}
+
 // The run that a job begins with, on an input of `total` units.
 pub fn begin(
+    rt: &HostRuntime,
     job: Job,
     numbers: Numbers,
     classes: &[u8],
@@ -191,20 +202,16 @@ pub fn begin(
     if !job.saves {
         return fresh(job, numbers.page);
     }
-    let fd = os::open_read(path);
-    if fd < 0 {
-        if os::errno() == libc::ENOENT {
-            return fresh(job, numbers.page);
+    let restored = match files::open_read(rt, path) {
+        Ok(file) => read_line(&file, path),
+        Err(error) => {
+            if error.kind() == ErrorKind::NotFound {
+                return fresh(job, numbers.page);
+            }
+            messages::cannot(b"open", path, error);
+            return Origin::Failed;
         }
-        messages::cannot(b"open", path);
-        return Origin::Failed;
-    }
-    if !files::readable(fd, path) {
-        libc::close(fd);
-        return Origin::Failed;
-    }
-    let restored = checkpoints::read_line(fd, path);
-    libc::close(fd);
+    };
     match restored {
         Restored::Refused => Origin::Failed,
         Restored::Accepted(run) => resumed(

@@ -2,19 +2,18 @@
 use crate::job::Ending;
 use crate::tables;
 use codepage::{Fault, Numbers};
-use libc::STDOUT_FILENO;
 use tillbox_checks::entries;
-use tillbox_storage::messages::{put, put_number};
+use tillbox_storage::messages::{STDOUT, put, put_number};
 
 // How many codes have a character, and how many characters a code.
 fn put_counts(classes: &[u8], singles: &[u16], pairs: &[u16], index: &[u8], blocks: &[u16]) {
-    put(STDOUT_FILENO, b"codes with a character: ");
-    put_number(STDOUT_FILENO, entries::single_codes(classes, singles));
-    put(STDOUT_FILENO, b" of one byte, ");
-    put_number(STDOUT_FILENO, entries::pair_codes(classes, pairs));
-    put(STDOUT_FILENO, b" of two bytes; characters with a code: ");
-    put_number(STDOUT_FILENO, entries::characters(index, blocks));
-    put(STDOUT_FILENO, b"\n");
+    put(STDOUT, b"codes with a character: ");
+    put_number(STDOUT, entries::single_codes(classes, singles));
+    put(STDOUT, b" of one byte, ");
+    put_number(STDOUT, entries::pair_codes(classes, pairs));
+    put(STDOUT, b" of two bytes; characters with a code: ");
+    put_number(STDOUT, entries::characters(index, blocks));
+    put(STDOUT, b"\n");
 }
 
 // Writes the report.
@@ -27,10 +26,10 @@ pub fn print(
     blocks: &[u16],
 ) -> Ending {
     let fault = codepage::shape_report(numbers, classes, singles, pairs, index, blocks);
-    put(STDOUT_FILENO, b"page ");
-    put_number(STDOUT_FILENO, numbers.page as u64);
-    put(STDOUT_FILENO, b": ");
-    tables::put_fault(STDOUT_FILENO, fault);
+    put(STDOUT, b"page ");
+    put_number(STDOUT, numbers.page as u64);
+    put(STDOUT, b": ");
+    tables::put_fault(STDOUT, fault);
     if let Fault::Good = fault {
         put_counts(classes, singles, pairs, index, blocks);
         return Ending::Done;

@@ -4,7 +4,7 @@ use convert::{Direction, Pending, Policy, Run, Started};
 
 // A code of one or two units (decoding: bytes), and the flag of its kind. A size of 0 stands for a code that is not known: the run
 // was not stopped, or it was stopped in an earlier job.
-#[derive(Drop)]
+#[derive(Clone, Copy)]
 pub struct Stop {
     pub size: usize,
     pub first: u16,
@@ -28,7 +28,7 @@ pub fn is_stopped(run: Run) -> bool {
 }
 
 // The first code without a character of some units: its size, and its flag.
-#[derive(Drop)]
+#[derive(Clone, Copy)]
 struct Lacking {
     size: usize,
     flag: u8,

@@ -1,7 +1,7 @@
 // A table set from a file: reading its image, and its shape in words.
 use codepage::{Fault, Numbers};
 use image::Loaded;
-use libc::STDERR_FILENO;
+use tillbox_storage::messages::STDERR;
 use tillbox_storage::{files, messages};
 
 // Says so where a file is no image.
@@ -15,6 +15,7 @@ fn told(path: &[u8], loaded: Loaded) -> Loaded {
 // Reads a file's image, by way of lent memory, into the fronts of lent tables. Where it is no image the reason was said. The memory has
 // room for more than the longest image that fits the tables.
 pub fn load(
+    rt: &HostRuntime,
     path: &[u8],
     image: &mut [u8],
     classes: &mut [u8],
@@ -23,12 +24,10 @@ pub fn load(
     index: &mut [u8],
     blocks: &mut [u16],
 ) -> Loaded {
-    let fd = files::open_input(path);
-    if fd < 0 {
+    let Some(file) = files::open_input(rt, path) else {
         return Loaded::NotAnImage;
-    }
-    let got = files::read_some(fd, image.len(), image, path);
-    libc::close(fd);
+    };
+    let got = files::read_some(&file, image.len(), image, path);
     if got.failed {
         return Loaded::NotAnImage;
     }
@@ -98,6 +97,6 @@ pub fn good_shape(
     }
     messages::refuse(10, path);
     messages::say(b"  the first bad place: ");
-    put_fault(STDERR_FILENO, fault);
+    put_fault(STDERR, fault);
     false
 }

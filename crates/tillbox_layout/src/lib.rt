@@ -1,6 +1,13 @@
-// Inner: numbers about files, places and sizes, the blocks of an input.
+// Inner: numbers about files, places and sizes, the blocks of an input, and parts of bytes.
+
+#![tactic(auto)]
+
+mod parts;
+
 ghost use Rattle.std.specs.Prelude.{◌≡◌, ◌+◌, ◌-◌, ◌≤◌, min, pos, length};
 ghost use Rattle.tillbox_layout.specs.Files.{greatest, Front, file_size, units_in, is_whole, place_of, block_len, is_final, block_count};
+
+pub use crate::parts::{copy, find};
 
 // The most units of a block of the journal.
 pub const BLOCK: u64 = 512;

@@ -3,7 +3,7 @@
 use listing::{Letter, Progress, Record};
 
 // What is wrong with a line.
-#[derive(Drop)]
+#[derive(Clone, Copy)]
 pub enum Fault {
     // The form.
     Empty,
@@ -33,7 +33,7 @@ pub enum Fault {
 
 // Whether some bytes have this byte.
 fn has(bytes: &[u8], byte: u8) -> bool {
-    bytes::scan::find(bytes, 0, bytes.len(), byte) < bytes.len()
+    tillbox_layout::find(bytes, 0, bytes.len(), byte) < bytes.len()
 }
 
 // Whether some bytes have a small letter.
@@ -59,7 +59,7 @@ fn has_none(line: &[u8]) -> bool {
     if size < 6 {
         return false;
     }
-    check::same(&line[size - 6..], b"\tFFFF\n")
+    &line[size - 6..] == b"\tFFFF\n".as_slice()
 }
 
 // What is wrong with the form of a line that has its letter and capitals alone.

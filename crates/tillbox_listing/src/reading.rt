@@ -5,6 +5,7 @@ use crate::messages::{say_end, say_refusal};
 use crate::state::{ReadState, append};
 use crate::{saving, state};
 use listing::{Ended, Read};
+use std::fs::File;
 use tillbox_jobs::job::Ending;
 use tillbox_layout::{front_bytes, front_units};
 use tillbox_storage::files;
@@ -125,7 +126,7 @@ fn take_bytes(
     let mut s = state;
     let mut at = 0;
     while at < block.len() {
-        let end = bytes::scan::find(block, at, block.len(), b'\n');
+        let end = tillbox_layout::find(block, at, block.len(), b'\n');
         let next = behind(end, block.len());
         s = take_part(
             s,
@@ -151,7 +152,7 @@ fn take_bytes(
 // The next block of the listing.
 fn next_block(
     state: ReadState,
-    source: i32,
+    source: &File,
     size: usize,
     line: &mut [u8],
     classes: &mut [u8],
@@ -204,7 +205,7 @@ fn take_rest(
 
 // All lines of a listing of `total` bytes, up to one that is refused. `line` is room for the bytes of a line that are kept.
 fn take_lines(
-    source: i32,
+    source: &File,
     total: u64,
     line: &mut [u8],
     classes: &mut [u8],
@@ -245,6 +246,7 @@ fn summary(state: ReadState, page: u16) {
 
 // From the last line on: the end is asked for, and each table cut to the size needed.
 fn with_lines(
+    rt: &HostRuntime,
     state: ReadState,
     classes: &[u8],
     singles: &[u16],
@@ -267,6 +269,7 @@ fn with_lines(
             let d = front_bytes(sizes.index, index);
             let e = front_units(sizes.blocks, blocks);
             if !saving::replace(
+                rt,
                 numbers,
                 &classes[..a],
                 &singles[..b],
@@ -285,7 +288,8 @@ fn with_lines(
 
 // From an open listing on.
 fn with_input(
-    source: i32,
+    rt: &HostRuntime,
+    source: &File,
     classes: &mut [u8],
     singles: &mut [u16],
     pairs: &mut [u16],
@@ -317,11 +321,14 @@ fn with_input(
     if state.failed {
         return Ending::Failed;
     }
-    with_lines(state, classes, singles, pairs, index, blocks, input, table)
+    with_lines(
+        rt, state, classes, singles, pairs, index, blocks, input, table,
+    )
 }
 
 // Reads a listing into lent tables and replaces the file `table` by their image, once the whole listing was accepted.
 pub fn read_listing(
+    rt: &HostRuntime,
     input: &[u8],
     table: &[u8],
     classes: &mut [u8],
@@ -330,11 +337,10 @@ pub fn read_listing(
     index: &mut [u8],
     blocks: &mut [u16],
 ) -> Ending {
-    let source = files::open_input(input);
-    if source < 0 {
+    let Some(source) = files::open_input(rt, input) else {
         return Ending::Failed;
-    }
-    let ending = with_input(source, classes, singles, pairs, index, blocks, input, table);
-    libc::close(source);
-    ending
+    };
+    with_input(
+        rt, &source, classes, singles, pairs, index, blocks, input, table,
+    )
 }

@@ -1,31 +1,32 @@
 // A table set written as an image, into a new file that then takes the place of another. (docs/CONSOLE.md, "A table image".)
 use codepage::Numbers;
-use libc::EEXIST;
+use std::fs::File;
+use std::io::ErrorKind;
 use tillbox_storage::{files, messages, names};
 
 // Writes a number of two bytes, low byte first.
-fn put_two(number: u16, fd: i32, path: &[u8]) -> bool {
+fn put_two(number: u16, file: &File, path: &[u8]) -> bool {
     let bytes = [(number % 256) as u8, (number / 256) as u8];
-    files::write(fd, &bytes, path)
+    files::write(file, &bytes, path)
 }
 
 // Writes the size of a table, a number of four bytes.
-fn put_size(size: usize, fd: i32, path: &[u8]) -> bool {
-    put_two((size % 65536) as u16, fd, path) && put_two((size / 65536 % 65536) as u16, fd, path)
+fn put_size(size: usize, file: &File, path: &[u8]) -> bool {
+    put_two((size % 65536) as u16, file, path) && put_two((size / 65536 % 65536) as u16, file, path)
 }
 
 // Writes the first 256 of some units, or all, two bytes each.
-fn put_block(units: &[u16], fd: i32, path: &[u8]) -> bool {
+fn put_block(units: &[u16], file: &File, path: &[u8]) -> bool {
     let mut bytes = [0u8; 512];
     let length = utf16::to_bytes(units, &mut bytes);
-    files::write(fd, &bytes[..length], path)
+    files::write(file, &bytes[..length], path)
 }
 
 // Writes units.
-fn put_units(units: &[u16], fd: i32, path: &[u8]) -> bool {
+fn put_units(units: &[u16], file: &File, path: &[u8]) -> bool {
     let mut at = 0;
     while at < units.len() {
-        if !put_block(&units[at..], fd, path) {
+        if !put_block(&units[at..], file, path) {
             return false;
         }
         if units.len() - at <= 256 {
@@ -37,14 +38,14 @@ fn put_units(units: &[u16], fd: i32, path: &[u8]) -> bool {
 }
 
 // Writes page and defaults, with their zeros.
-fn put_numbers(numbers: Numbers, fd: i32, path: &[u8]) -> bool {
-    if !put_two(numbers.page, fd, path) {
+fn put_numbers(numbers: Numbers, file: &File, path: &[u8]) -> bool {
+    if !put_two(numbers.page, file, path) {
         return false;
     }
-    if !put_two(numbers.default_byte as u16, fd, path) {
+    if !put_two(numbers.default_byte as u16, file, path) {
         return false;
     }
-    put_two(numbers.default_unit, fd, path) && put_two(0, fd, path)
+    put_two(numbers.default_unit, file, path) && put_two(0, file, path)
 }
 
 // Writes the sizes of the tables.
@@ -54,19 +55,19 @@ fn put_sizes(
     pairs: &[u16],
     index: &[u8],
     blocks: &[u16],
-    fd: i32,
+    file: &File,
     path: &[u8],
 ) -> bool {
-    if !put_size(classes.len(), fd, path) {
+    if !put_size(classes.len(), file, path) {
         return false;
     }
-    if !put_size(singles.len(), fd, path) {
+    if !put_size(singles.len(), file, path) {
         return false;
     }
-    if !put_size(pairs.len(), fd, path) {
+    if !put_size(pairs.len(), file, path) {
         return false;
     }
-    put_size(index.len(), fd, path) && put_size(blocks.len(), fd, path)
+    put_size(index.len(), file, path) && put_size(blocks.len(), file, path)
 }
 
 // Writes the tables.
@@ -76,19 +77,19 @@ fn put_tables(
     pairs: &[u16],
     index: &[u8],
     blocks: &[u16],
-    fd: i32,
+    file: &File,
     path: &[u8],
 ) -> bool {
-    if !files::write(fd, classes, path) {
+    if !files::write(file, classes, path) {
         return false;
     }
-    if !put_units(singles, fd, path) {
+    if !put_units(singles, file, path) {
         return false;
     }
-    if !put_units(pairs, fd, path) {
+    if !put_units(pairs, file, path) {
         return false;
     }
-    files::write(fd, index, path) && put_units(blocks, fd, path)
+    files::write(file, index, path) && put_units(blocks, file, path)
 }
 
 // Writes the image of a table set. Where it could not, the reason was said.
@@ -99,63 +100,73 @@ fn put_image(
     pairs: &[u16],
     index: &[u8],
     blocks: &[u16],
-    fd: i32,
+    file: &File,
     path: &[u8],
 ) -> bool {
-    if !put_numbers(numbers, fd, path) {
+    if !put_numbers(numbers, file, path) {
         return false;
     }
-    if !put_sizes(classes, singles, pairs, index, blocks, fd, path) {
+    if !put_sizes(classes, singles, pairs, index, blocks, file, path) {
         return false;
     }
-    put_tables(classes, singles, pairs, index, blocks, fd, path)
+    put_tables(classes, singles, pairs, index, blocks, file, path)
 }
 
 // What is done with the new file beside a table.
-#[derive(Drop)]
+#[derive(Clone, Copy)]
 enum Step {
     Make,
     Rename,
     Remove,
 }
 
-// Makes a file that is not there yet. -1 where the reason was said. One that is there is another call's, or was left by one that was cut.
-fn make_fresh(fresh: &[u8]) -> i32 {
-    let fd = os::create(fresh);
-    if fd < 0 {
-        if os::errno() == EEXIST {
-            messages::wrong(
-                fresh,
-                b"it is there already: another call is making it, or one was cut; remove it and call again",
-            );
-            return -1;
+// How a step ended.
+#[derive(Drop)]
+enum Stepped {
+    Made(File),
+    Done,
+    // The reason was said.
+    Failed,
+}
+
+// Makes a file that is not there yet. One that is there is another call's, or was left by one that was cut.
+fn make_fresh(rt: &HostRuntime, fresh: &[u8]) -> Stepped {
+    match files::create(rt, fresh) {
+        Ok(file) => Stepped::Made(file),
+        Err(error) => {
+            if error.kind() == ErrorKind::AlreadyExists {
+                messages::wrong(
+                    fresh,
+                    b"it is there already: another call is making it, or one was cut; remove it and call again",
+                );
+                return Stepped::Failed;
+            }
+            messages::cannot(b"make", fresh, error);
+            Stepped::Failed
         }
-        messages::cannot(b"make", fresh);
     }
-    fd
 }
 
-// Gives a new file the name of another one, in whose place it then stands. -1 where the reason was said.
-fn rename(fresh: &[u8], path: &[u8]) -> i32 {
-    if os::rename(fresh, path) < 0 {
-        messages::cannot(b"rename", fresh);
-        return -1;
+// Gives a new file the name of another one, in whose place it then stands.
+fn rename(rt: &HostRuntime, fresh: &[u8], path: &[u8]) -> Stepped {
+    if !files::rename(rt, fresh, path) {
+        return Stepped::Failed;
     }
-    files::sync_folder(path);
-    0
+    files::sync_folder(rt, path);
+    Stepped::Done
 }
 
-// Does a step with the new file beside a table: its descriptor, 0, or -1 where the reason was said. The names that the steps need stand on
-// the stack of this function alone, so that no other command has them on its own.
-fn with_fresh(step: Step, path: &[u8]) -> i32 {
+// Does a step with the new file beside a table. The names that the steps need stand on the stack of this function alone, so that no other
+// command has them on its own.
+fn with_fresh(rt: &HostRuntime, step: Step, path: &[u8]) -> Stepped {
     let mut fresh = io::buffer();
     let count = names::beside(path, b".new", &mut fresh);
     match step {
-        Step::Make => make_fresh(&fresh[..count]),
-        Step::Rename => rename(&fresh[..count], path),
+        Step::Make => make_fresh(rt, &fresh[..count]),
+        Step::Rename => rename(rt, &fresh[..count], path),
         Step::Remove => {
-            os::unlink(&fresh[..count]);
-            0
+            files::remove(rt, &fresh[..count]);
+            Stepped::Done
         }
     }
 }
@@ -163,6 +174,7 @@ fn with_fresh(step: Step, path: &[u8]) -> i32 {
 // Replaces a file by the image of a table set, by way of a new file beside it, which is safe before it is renamed. Where it could not, the
 // file is as it was, and the reason was said.
 pub fn replace(
+    rt: &HostRuntime,
     numbers: Numbers,
     classes: &[u8],
     singles: &[u16],
@@ -171,17 +183,16 @@ pub fn replace(
     blocks: &[u16],
     path: &[u8],
 ) -> bool {
-    let fd = with_fresh(Step::Make, path);
-    if fd < 0 {
+    let Stepped::Made(file) = with_fresh(rt, Step::Make, path) else {
         return false;
-    }
-    let written = put_image(numbers, classes, singles, pairs, index, blocks, fd, path);
-    let safe = files::finish(fd, path);
+    };
+    let written = put_image(numbers, classes, singles, pairs, index, blocks, &file, path);
+    let safe = files::finish(file, path);
     if written && safe {
-        if with_fresh(Step::Rename, path) == 0 {
+        if let Stepped::Done = with_fresh(rt, Step::Rename, path) {
             return true;
         }
     }
-    with_fresh(Step::Remove, path);
+    with_fresh(rt, Step::Remove, path);
     false
 }

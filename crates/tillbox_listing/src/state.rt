@@ -4,7 +4,7 @@ use tillbox_layout::sum;
 
 // What has been read of it; how many bytes of the line at hand are kept, and whether it has more; the lines and bytes so far; and whether
 // something failed, whose reason was said.
-#[derive(Drop)]
+#[derive(Clone, Copy)]
 pub struct ReadState {
     pub progress: Progress,
     pub length: usize,
@@ -56,7 +56,7 @@ impl ReadState {
 pub fn append(state: ReadState, part: &[u8], line: &mut [u8]) -> ReadState {
     let length = tillbox_layout::front_bytes(state.length, line);
     let count = tillbox_layout::front_bytes(line.len() - length, part);
-    bytes::copy(&part[..count], &mut line[length..]);
+    tillbox_layout::copy(&part[..count], &mut line[length..]);
     let mut s = state;
     s.length = length + count;
     if count < part.len() {

@@ -1,6 +1,7 @@
 // A table set written as a listing, line by line, into a file that is made anew.
 use codepage::Numbers;
 use lister::{Cursor, Listed};
+use std::fs::File;
 use tillbox_jobs::job::{Ending, closed};
 use tillbox_jobs::tables;
 use tillbox_layout::{front_bytes, sum};
@@ -15,7 +16,7 @@ const MOST_LINES: u64 = 100000;
 
 // Where the next line is looked for; the bytes that wait in the buffer; the lines and the bytes written so far; whether all lines are
 // written, and whether something failed, whose reason was said.
-#[derive(Drop)]
+#[derive(Clone, Copy)]
 struct WriteState {
     cursor: Cursor,
     length: usize,
@@ -62,7 +63,7 @@ impl WriteState {
     }
 
     // Writes what waits in the buffer.
-    fn flushed(self, room: &[u8], target: i32, path: &[u8]) -> WriteState {
+    fn flushed(self, room: &[u8], target: &File, path: &[u8]) -> WriteState {
         let mut s = self;
         let length = front_bytes(s.length, room);
         if !files::write(target, &room[..length], path) {
@@ -75,7 +76,7 @@ impl WriteState {
 }
 
 // Writes what waits where the longest line would not fit behind it.
-fn with_room(state: WriteState, room: &[u8], target: i32, path: &[u8]) -> WriteState {
+fn with_room(state: WriteState, room: &[u8], target: &File, path: &[u8]) -> WriteState {
     let length = front_bytes(state.length, room);
     if LINE <= room.len() - length {
         return state;
@@ -104,7 +105,7 @@ fn put_next(
     index: &[u8],
     blocks: &[u16],
     room: &mut [u8],
-    target: i32,
+    target: &File,
     table: &[u8],
     path: &[u8],
 ) -> WriteState {
@@ -143,7 +144,7 @@ fn put_lines(
     index: &[u8],
     blocks: &[u16],
     room: &mut [u8],
-    target: i32,
+    target: &File,
     table: &[u8],
     path: &[u8],
 ) -> WriteState {
@@ -179,6 +180,7 @@ fn finished(state: WriteState, page: u16) -> Ending {
 
 // Writes the listing of a table set. `room` is a buffer of at least one line.
 pub fn with_tables(
+    rt: &HostRuntime,
     numbers: Numbers,
     classes: &[u8],
     singles: &[u16],
@@ -192,12 +194,11 @@ pub fn with_tables(
     if !tables::good_shape(table, numbers, classes, singles, pairs, index, blocks) {
         return Ending::Failed;
     }
-    let target = files::make(output);
-    if target < 0 {
+    let Some(target) = files::make(rt, output) else {
         return Ending::Failed;
-    }
+    };
     let state = put_lines(
-        numbers, classes, singles, pairs, index, blocks, room, target, table, output,
+        numbers, classes, singles, pairs, index, blocks, room, &target, table, output,
     );
     closed(finished(state, numbers.page), target, output)
 }

@@ -1,7 +1,6 @@
 // The entries of a lock, and which of them is of a job at work.
 use crate::text;
 use crate::text::Text;
-use libc::ENOENT;
 use tillbox_identity::Identity;
 
 // The greatest number that a process can have.
@@ -9,7 +8,7 @@ const PROCESS_LIMIT: u64 = 2147483647;
 
 // A line of a lock as far as it is read: its two numbers, how many spaces came, whether the number at hand has a digit, and whether
 // something else came.
-#[derive(Drop)]
+#[derive(Clone, Copy)]
 pub struct Line {
     pub process: u64,
     pub descriptor: u64,
@@ -103,19 +102,19 @@ impl Line {
     }
 
     // Whether it is the entry of another process that is at work.
-    pub fn is_at_work(self, lock: Identity, own: u64) -> bool {
+    pub fn is_at_work(self, rt: &HostRuntime, lock: Identity, own: u64) -> bool {
         if !self.is_entry(own) {
             return false;
         }
-        has_open(self.process, self.descriptor, lock)
+        has_open(rt, self.process, self.descriptor, lock)
     }
 }
 
 // What the system shows under a name.
-fn shown(name: Text) -> Identity {
+fn shown(rt: &HostRuntime, name: Text) -> Identity {
     let bytes = name.bytes;
     let count = tillbox_layout::front_bytes(name.length, &bytes);
-    tillbox_identity::at(&bytes[..count])
+    tillbox_identity::at(rt, &bytes[..count])
 }
 
 // The name under which the system shows a process.
@@ -123,39 +122,42 @@ fn process_name(process: u64) -> Text {
     text::empty().with(b"/proc/").with_number(process)
 }
 
-// Whether there is a process of this number.
-fn is_there(process: u64) -> bool {
+// Whether there is a process of this number: the system shows it, or shows none at all, not even this one.
+fn is_there(rt: &HostRuntime, process: u64) -> bool {
     if PROCESS_LIMIT < process {
         return false;
     }
-    libc::getpgid(process as i32) >= 0
+    if shown(rt, process_name(process)).is_known() {
+        return true;
+    }
+    !tillbox_identity::at(rt, b"/proc/self").is_known()
 }
 
 // Whether a process has the lock open on a descriptor. Where the system shows its descriptors to us, that is looked at: a process
 // that ended may have left its number to another one. Where it does not, it is asked whether the process is there.
-fn has_open(process: u64, descriptor: u64, lock: Identity) -> bool {
+fn has_open(rt: &HostRuntime, process: u64, descriptor: u64, lock: Identity) -> bool {
     let name = process_name(process);
-    let file = shown(name.with(b"/fd/").with_number(descriptor));
+    let file = shown(rt, name.with(b"/fd/").with_number(descriptor));
     if file.is_known() {
         return file.is_same(lock);
     }
-    if os::errno() == ENOENT {
-        let seen = shown(name);
+    if file.missing {
+        let seen = shown(rt, name);
         if seen.is_known() {
             return false;
         }
     }
-    is_there(process)
+    is_there(rt, process)
 }
 
 // The first process of some entries that is at work, but for `own`; 0 where there is none.
-pub fn worker_in(entries: &[u8], lock: Identity, own: u64) -> u64 {
+pub fn worker_in(rt: &HostRuntime, entries: &[u8], lock: Identity, own: u64) -> u64 {
     let mut line = fresh();
     let mut i = 0;
     while i < entries.len() {
         let byte = entries[i];
         if byte == b'\n' {
-            if line.is_at_work(lock, own) {
+            if line.is_at_work(rt, lock, own) {
                 return line.process;
             }
         }

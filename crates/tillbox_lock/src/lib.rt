@@ -1,20 +1,29 @@
 // Inner: one job at a time on one checkpoint. The lock is a file beside it with an entry for each job that came: its process and
 // the descriptor that it has the lock open on. Entries are appended, so that they have an order, and the first one whose process still has
 // the lock open is that of the job at work. A job that is killed has it open no more; one that ends removes the file.
+
+#![tactic(auto)]
+
 mod entries;
 mod text;
 
-use libc::{EEXIST, ENOENT, SEEK_CUR};
+ghost use Rattle.io.specs.Counts.{IsPrefixLen};
+
+use std::fs::File;
+use std::io::{Error, ErrorKind, Seek, SeekFrom};
+use std::os::fd::AsRawFd;
+use std::os::unix::fs::FileExt;
+use std::process;
 use tillbox_identity::Identity;
-use tillbox_layout::{front_bytes, size_of};
-use tillbox_storage::messages;
+use tillbox_layout::front_bytes;
 use tillbox_storage::names::beside;
+use tillbox_storage::{files, messages};
 
 // What a job got.
 #[derive(Drop)]
 pub enum Lock {
-    // The lock, open on this descriptor.
-    Held(i32),
+    // The lock, open.
+    Held(File),
     // None, which is for a job without a checkpoint; or another file in between, so that it is asked for again.
     Free,
     // The reason was said.
@@ -45,18 +54,33 @@ fn say_worker(process: u64, checkpoint: &[u8]) -> Lock {
     Lock::Refused
 }
 
+// The number of this process.
+fn own_number(rt: &HostRuntime) -> u64 {
+    process::id(rt.process()) as u64
+}
+
 // The process at work by the entries at the front of a lock, as far as they stand before `size`, or 0.
-fn worker_among(entries: &[u8], size: u64, lock: Identity) -> u64 {
+fn worker_among(rt: &HostRuntime, entries: &[u8], size: u64, lock: Identity) -> u64 {
     let count = front_bytes(size as usize, entries);
-    let own = number_of(libc::getpid());
-    entries::worker_in(&entries[..count], lock, own)
+    let own = own_number(rt);
+    entries::worker_in(rt, &entries[..count], lock, own)
+}
+
+// How many bytes stand at the front of a lock, read into a buffer.
+fn read_front(reader: &File, bytes: &mut [u8]) -> usize
+    ensures { IsPrefixLen result bytes.new }
+{
+    match reader.read_at(bytes, 0) {
+        Ok(count) => count,
+        Err(_) => front_bytes(0, bytes),
+    }
 }
 
 // The process at work by the entries in the first `size` bytes of a lock, or 0.
-fn worker_before(reader: i32, size: u64, lock: Identity) -> u64 {
+fn worker_before(rt: &HostRuntime, reader: &File, size: u64, lock: Identity) -> u64 {
     let mut bytes = io::buffer();
-    let got = io::count(libc::pread(reader, &mut bytes, 0), &bytes);
-    worker_among(&bytes[..got], size, lock)
+    let got = read_front(reader, &mut bytes);
+    worker_among(rt, &bytes[..got], size, lock)
 }
 
 // Where an entry begins that ends at a place. Of a lock that is longer than can be looked at, that is said.
@@ -73,112 +97,102 @@ fn place_of(end: u64, size: u64, path: &[u8]) -> u64 {
     end - size
 }
 
-// Appends the entry of a job to an open lock, and answers where it begins, or a place that no lock has where the reason was said.
-fn append(fd: i32, path: &[u8]) -> u64 {
-    let own = number_of(libc::getpid());
-    let entry = entries::entry(own, number_of(fd));
-    let bytes = entry.bytes;
-    let count = front_bytes(entry.length, &bytes);
-    if !io::write_all(fd, &bytes[..count]) {
-        messages::cannot(b"write", path);
-        return LONGEST + 1;
+// Where an open file is read or written next, or 0.
+fn place_in(file: &File) -> u64 {
+    let mut seeker = file;
+    match seeker.seek(SeekFrom::Current(0)) {
+        Ok(place) => place,
+        Err(_) => 0,
     }
-    let end = size_of(libc::lseek(fd, 0, SEEK_CUR));
-    place_of(end, count as u64, path)
 }
 
-// A lock that is not alone, or could not be written; else its descriptor.
-fn enter(fd: i32, reader: i32, path: &[u8], checkpoint: &[u8]) -> Lock {
-    let lock = tillbox_identity::of(fd);
+// Appends the entry of a job to an open lock, and answers where it begins, or a place that no lock has where the reason was said.
+fn append(rt: &HostRuntime, file: &File, path: &[u8]) -> u64 {
+    let own = own_number(rt);
+    let entry = entries::entry(own, number_of(file.as_raw_fd()));
+    let bytes = entry.bytes;
+    let count = front_bytes(entry.length, &bytes);
+    if !files::write(file, &bytes[..count], path) {
+        return LONGEST + 1;
+    }
+    place_of(place_in(file), count as u64, path)
+}
+
+// A lock that is not alone, or could not be written; else it is held.
+fn enter(rt: &HostRuntime, file: File, reader: &File, path: &[u8], checkpoint: &[u8]) -> Lock {
+    let lock = tillbox_identity::of(&file);
     if !lock.is_same(tillbox_identity::of(reader)) {
         return Lock::Free;
     }
-    let first = worker_before(reader, LONGEST, lock);
+    let first = worker_before(rt, reader, LONGEST, lock);
     if first != 0 {
         return say_worker(first, checkpoint);
     }
-    let place = append(fd, path);
+    let place = append(rt, &file, path);
     if LONGEST < place {
         return Lock::Refused;
     }
-    let earlier = worker_before(reader, place, lock);
+    let earlier = worker_before(rt, reader, place, lock);
     if earlier != 0 {
         return say_worker(earlier, checkpoint);
     }
     // An earlier job may have removed the lock at its end: behind the look at the entries, so that none of them can do it later.
-    let named = tillbox_identity::at(path);
+    let named = tillbox_identity::at(rt, path);
     if !named.is_same(lock) {
         return Lock::Free;
     }
-    Lock::Held(fd)
+    Lock::Held(file)
 }
 
 // Makes a lock file, if there is none. Where it could not be made the reason was said.
-fn make(path: &[u8]) -> bool {
-    let fd = os::create(path);
-    if 0 <= fd {
-        libc::close(fd);
-        return true;
+fn make(rt: &HostRuntime, path: &[u8]) -> bool {
+    match files::create(rt, path) {
+        Ok(_) => true,
+        Err(error) => {
+            if error.kind() == ErrorKind::AlreadyExists {
+                return true;
+            }
+            messages::cannot(b"make", path, error);
+            false
+        }
     }
-    if os::errno() == EEXIST {
-        return true;
-    }
-    messages::cannot(b"make", path);
-    false
 }
 
 // A lock file that could not be opened: it was removed in between, or the reason is said.
-fn unopened(path: &[u8]) -> Lock {
-    if os::errno() == ENOENT {
+fn unopened(path: &[u8], error: Error) -> Lock {
+    if error.kind() == ErrorKind::NotFound {
         return Lock::Free;
     }
-    messages::cannot(b"open", path);
+    messages::cannot(b"open", path, error);
     Lock::Refused
 }
 
 // Asks for a lock that is open for appending.
-fn ask_open(fd: i32, path: &[u8], checkpoint: &[u8]) -> Lock {
-    let reader = os::open_read(path);
-    if reader < 0 {
-        return unopened(path);
+fn ask_open(rt: &HostRuntime, file: File, path: &[u8], checkpoint: &[u8]) -> Lock {
+    match files::open_read(rt, path) {
+        Ok(reader) => enter(rt, file, &reader, path, checkpoint),
+        Err(error) => unopened(path, error),
     }
-    let asked = enter(fd, reader, path, checkpoint);
-    libc::close(reader);
-    asked
 }
 
 // Asks for a lock once.
-fn ask(path: &[u8], checkpoint: &[u8]) -> Lock {
-    if !make(path) {
+fn ask(rt: &HostRuntime, path: &[u8], checkpoint: &[u8]) -> Lock {
+    if !make(rt, path) {
         return Lock::Refused;
     }
-    let fd = os::open_append(path);
-    if fd < 0 {
-        return unopened(path);
-    }
-    let asked = ask_open(fd, path, checkpoint);
-    if let Lock::Held(_) = asked {
-        return asked;
-    }
-    libc::close(fd);
-    asked
-}
-
-// Whether a lock is to be asked for again.
-fn is_free(lock: Lock) -> bool {
-    match lock {
-        Lock::Free => true,
-        _ => false,
+    match files::open_append(rt, path) {
+        Ok(file) => ask_open(rt, file, path, checkpoint),
+        Err(error) => unopened(path, error),
     }
 }
 
 // Asks for a lock until it does not change.
-fn ask_often(path: &[u8], checkpoint: &[u8]) -> Lock {
+fn ask_often(rt: &HostRuntime, path: &[u8], checkpoint: &[u8]) -> Lock {
     let mut tries = 0;
     while tries < TRIES {
-        let asked = ask(path, checkpoint);
-        if !is_free(asked) {
-            return asked;
+        match ask(rt, path, checkpoint) {
+            Lock::Free => {}
+            asked => return asked,
         }
         tries += 1;
     }
@@ -188,20 +202,20 @@ fn ask_often(path: &[u8], checkpoint: &[u8]) -> Lock {
 
 // Takes the lock of a checkpoint: `Held`, or `Refused` where the reason was said. The file beside the checkpoint is a plain file or
 // not there.
-pub fn take(checkpoint: &[u8]) -> Lock {
+pub fn take(rt: &HostRuntime, checkpoint: &[u8]) -> Lock {
     let mut name = io::buffer();
     let count = beside(checkpoint, b".lock", &mut name);
     if count == 0 {
         messages::wrong(checkpoint, b"the name is too long");
         return Lock::Refused;
     }
-    ask_often(&name[..count], checkpoint)
+    ask_often(rt, &name[..count], checkpoint)
 }
 
-// Removes the lock of a checkpoint that this job holds, open on a descriptor.
-pub fn release(fd: i32, checkpoint: &[u8]) {
+// Removes the lock of a checkpoint that this job holds, and closes it then.
+pub fn release(rt: &HostRuntime, file: File, checkpoint: &[u8]) {
     let mut name = io::buffer();
     let count = beside(checkpoint, b".lock", &mut name);
-    os::unlink(&name[..count]);
-    libc::close(fd);
+    files::remove(rt, &name[..count]);
+    drop(file);
 }

@@ -2,6 +2,7 @@
 use crate::page::Page;
 use codepage::Numbers;
 use linebreak::{Proposed, Refusal};
+use std::fs::File;
 use tillbox_layout::sum;
 use tillbox_storage::messages;
 use tillbox_storage::messages::{say, say_number};
@@ -10,20 +11,20 @@ use tillbox_storage::messages::{say, say_number};
 const SHORT: usize = 1023;
 
 // A printed line, and its line feed.
-fn put_closed(page: Page, part: &[u8], target: i32, path: &[u8]) -> Page {
+fn put_closed(page: Page, part: &[u8], target: &File, path: &[u8]) -> Page {
     let mut bytes = [0u8; 1024];
     let size = part.len();
     if SHORT < size {
         return page.put(part, target, path).put(b"\n", target, path);
     }
-    bytes::copy(part, &mut bytes);
+    tillbox_layout::copy(part, &mut bytes);
     bytes[size] = b'\n';
     let count = tillbox_layout::front_bytes(size + 1, &bytes);
     page.put(&bytes[..count], target, path)
 }
 
 // A part of a line, and a line feed.
-fn put_part(page: Page, line: &[u8], from: usize, to: u64, target: i32, path: &[u8]) -> Page {
+fn put_part(page: Page, line: &[u8], from: usize, to: u64, target: &File, path: &[u8]) -> Page {
     let end = tillbox_layout::front_bytes(to as usize, line);
     if end < from {
         return page;
@@ -43,7 +44,7 @@ fn place_before(breaks: &[u64], i: usize) -> usize {
 }
 
 // The line from break to break, and from the last one to its end.
-fn put_parts(page: Page, line: &[u8], breaks: &[u64], target: i32, path: &[u8]) -> Page {
+fn put_parts(page: Page, line: &[u8], breaks: &[u64], target: &File, path: &[u8]) -> Page {
     let mut p = page;
     let mut i = 0;
     while i < breaks.len() {
@@ -68,21 +69,21 @@ fn say_line(number: u64) {
 }
 
 // A line that is not broken, closed.
-fn put_unbroken(page: Page, line: &[u8], target: i32, path: &[u8]) -> Page {
+fn put_unbroken(page: Page, line: &[u8], target: &File, path: &[u8]) -> Page {
     let mut p = put_closed(page, line, target, path);
     p.unbroken = sum(p.unbroken, 1);
     p.closed(1)
 }
 
 // A line that was written as it came, since it is longer than a text may be.
-pub fn close_long(page: Page, target: i32, path: &[u8]) -> Page {
+pub fn close_long(page: Page, target: &File, path: &[u8]) -> Page {
     say_line(page.number);
     say(b"it has over 65,536 bytes\n");
     put_unbroken(page, b"", target, path)
 }
 
 // A line whose breaks were refused: it is told, and written whole.
-fn refused(page: Page, why: Refusal, width: u64, line: &[u8], target: i32, path: &[u8]) -> Page {
+fn refused(page: Page, why: Refusal, width: u64, line: &[u8], target: &File, path: &[u8]) -> Page {
     match why {
         Refusal::NoneExists => {
             say_line(page.number);
@@ -110,7 +111,7 @@ pub fn put_line(
     blocks: &[u16],
     width: u64,
     line: &[u8],
-    target: i32,
+    target: &File,
     path: &[u8],
 ) -> Page {
     let mut breaks = [0u64; 4096];

@@ -1,5 +1,8 @@
 // Inner: a ledger encoded under 555, and its lines broken into the printed lines of a receipt. (CR 12, `tillbox preview width N`.)
 // Every printed line is closed by a line feed. What is decided about the text is decided by the calls of `convert` and `linebreak`.
+
+#![tactic(auto)]
+
 mod breaking;
 mod lines;
 pub mod mark;
@@ -8,6 +11,7 @@ mod page;
 pub use crate::page::Page;
 use codepage::Numbers;
 use convert::Run;
+use std::fs::File;
 use tillbox_storage::files;
 
 // The next block of the ledger: its units are put line by line.
@@ -20,8 +24,8 @@ fn next_block(
     index: &[u8],
     blocks: &[u16],
     width: u64,
-    source: i32,
-    target: i32,
+    source: &File,
+    target: &File,
     size: usize,
     line: &mut [u8],
     input: &[u8],
@@ -73,8 +77,8 @@ pub fn print_ledger(
     index: &[u8],
     blocks: &[u16],
     width: u64,
-    source: i32,
-    target: i32,
+    source: &File,
+    target: &File,
     total: u64,
     line: &mut [u8],
     input: &[u8],

@@ -5,12 +5,13 @@ use crate::breaking;
 use crate::page::{Page, append};
 use codepage::Numbers;
 use convert::{Pending, Run};
+use std::fs::File;
 use tillbox_checks::kinds;
 use tillbox_checks::kinds::Kinds;
 use tillbox_storage::messages;
 
 // What a call wrote, at the front of a lent buffer, the run after it, and the characters that it replaced, by kind.
-#[derive(Drop)]
+#[derive(Clone, Copy)]
 struct Encoded {
     run: Run,
     written: usize,
@@ -93,7 +94,7 @@ fn put_piece(
     blocks: &[u16],
     units: &[u16],
     line: &mut [u8],
-    target: i32,
+    target: &File,
     path: &[u8],
 ) -> Page {
     if units.len() == 0 {
@@ -133,7 +134,7 @@ fn close(
     blocks: &[u16],
     width: u64,
     line: &[u8],
-    target: i32,
+    target: &File,
     path: &[u8],
 ) -> Page {
     if page.failed {
@@ -172,7 +173,7 @@ fn end_line(
     units: &[u16],
     last: bool,
     line: &mut [u8],
-    target: i32,
+    target: &File,
     path: &[u8],
 ) -> Page {
     let mut bytes = [0u8; 2048];
@@ -222,7 +223,7 @@ fn put_part(
     units: &[u16],
     feed: bool,
     line: &mut [u8],
-    target: i32,
+    target: &File,
     path: &[u8],
 ) -> Page {
     let p = put_piece(
@@ -263,7 +264,7 @@ pub fn put_units(
     width: u64,
     units: &[u16],
     line: &mut [u8],
-    target: i32,
+    target: &File,
     path: &[u8],
 ) -> Page {
     let mut p = page;
@@ -308,7 +309,7 @@ pub fn end_text(
     blocks: &[u16],
     width: u64,
     line: &mut [u8],
-    target: i32,
+    target: &File,
     path: &[u8],
 ) -> Page {
     if page.begun {

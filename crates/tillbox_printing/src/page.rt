@@ -1,5 +1,6 @@
 // How far a receipt is.
 use convert::Run;
+use std::fs::File;
 use tillbox_checks::kinds;
 use tillbox_checks::kinds::Kinds;
 use tillbox_layout::sum;
@@ -8,7 +9,7 @@ use tillbox_storage::files;
 // The run; the bytes of the line at hand, whether it has units, whether it is over the buffer and so written as it comes, and its
 // number; what was written, the printed lines, the lines that were not broken, and the characters replaced so far, by kind; and
 // whether something failed, whose reason was said.
-#[derive(Drop)]
+#[derive(Clone, Copy)]
 pub struct Page {
     pub run: Run,
     pub length: usize,
@@ -82,7 +83,7 @@ impl Page {
     }
 
     // Writes some bytes.
-    pub fn put(self, bytes: &[u8], target: i32, path: &[u8]) -> Page {
+    pub fn put(self, bytes: &[u8], target: &File, path: &[u8]) -> Page {
         let mut p = self;
         if p.failed {
             return p;
@@ -96,7 +97,7 @@ impl Page {
 }
 
 // Some bytes more of the line at hand. A line that is longer than the buffer is written as it comes, unbroken.
-pub fn append(page: Page, bytes: &[u8], line: &mut [u8], target: i32, path: &[u8]) -> Page {
+pub fn append(page: Page, bytes: &[u8], line: &mut [u8], target: &File, path: &[u8]) -> Page {
     let length = tillbox_layout::front_bytes(page.length, line);
     if page.over {
         return page.put(bytes, target, path);
@@ -106,7 +107,7 @@ pub fn append(page: Page, bytes: &[u8], line: &mut [u8], target: i32, path: &[u8
         p.over = true;
         return p.put(bytes, target, path);
     }
-    bytes::copy(bytes, &mut line[length..]);
+    tillbox_layout::copy(bytes, &mut line[length..]);
     let mut p = page;
     p.length = length + bytes.len();
     p

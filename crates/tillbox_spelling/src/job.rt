@@ -1,6 +1,7 @@
 // A job: the list of a file spelled into a file that is made anew.
 use crate::state::ListState;
 use codepage::Numbers;
+use std::fs::File;
 use tillbox_jobs::job::{Ending, closed};
 use tillbox_jobs::tables;
 use tillbox_storage::messages::{say, say_number};
@@ -37,6 +38,7 @@ fn finished(state: ListState) -> Ending {
 
 // From a list of `total` bytes on.
 fn with_total(
+    rt: &HostRuntime,
     numbers: Numbers,
     classes: &[u8],
     singles: &[u16],
@@ -44,7 +46,7 @@ fn with_total(
     index: &[u8],
     blocks: &[u16],
     line: &mut [u8],
-    source: i32,
+    source: &File,
     total: u64,
     input: &[u8],
     output: &[u8],
@@ -52,18 +54,19 @@ fn with_total(
     if !files::seek(source, 0, input) {
         return Ending::Failed;
     }
-    let target = files::make(output);
-    if target < 0 {
+    let Some(target) = files::make(rt, output) else {
         return Ending::Failed;
-    }
+    };
     let state = crate::spell_list(
-        numbers, classes, singles, pairs, index, blocks, source, target, total, line, input, output,
+        numbers, classes, singles, pairs, index, blocks, source, &target, total, line, input,
+        output,
     );
     closed(finished(state), target, output)
 }
 
 // From an open list on.
 fn with_input(
+    rt: &HostRuntime,
     numbers: Numbers,
     classes: &[u8],
     singles: &[u16],
@@ -71,7 +74,7 @@ fn with_input(
     index: &[u8],
     blocks: &[u16],
     line: &mut [u8],
-    source: i32,
+    source: &File,
     input: &[u8],
     output: &[u8],
 ) -> Ending {
@@ -80,6 +83,7 @@ fn with_input(
         return Ending::Failed;
     }
     with_total(
+        rt,
         numbers,
         classes,
         singles,
@@ -111,6 +115,7 @@ fn has_lines(classes: &[u8], table: &[u8]) -> bool {
 
 // Spells a list with a table set. `line` is room for one line, 65,536 bytes. What happened is said on standard error.
 pub fn with_tables(
+    rt: &HostRuntime,
     numbers: Numbers,
     classes: &[u8],
     singles: &[u16],
@@ -128,13 +133,10 @@ pub fn with_tables(
     if !has_lines(classes, table) {
         return Ending::Failed;
     }
-    let source = files::open_input(input);
-    if source < 0 {
+    let Some(source) = files::open_input(rt, input) else {
         return Ending::Failed;
-    }
-    let ending = with_input(
-        numbers, classes, singles, pairs, index, blocks, line, source, input, output,
-    );
-    libc::close(source);
-    ending
+    };
+    with_input(
+        rt, numbers, classes, singles, pairs, index, blocks, line, &source, input, output,
+    )
 }

@@ -1,6 +1,9 @@
 // Inner: a list of names, one a line, each in its standard spelling. (CR 8, `tillbox spell`.) A line ends at its line feed, the byte 0A,
 // and the last one may lack it; then so does its spelling. A line that is refused is told, and copied as it is. What is decided about a
 // line is decided by `spelling::standard_spelling`.
+
+#![tactic(auto)]
+
 pub mod job;
 mod lines;
 mod refused;
@@ -8,6 +11,7 @@ mod state;
 
 use crate::state::ListState;
 use codepage::Numbers;
+use std::fs::File;
 use tillbox_storage::files;
 
 // The next block of the list: its bytes are put line by line.
@@ -19,8 +23,8 @@ fn next_block(
     pairs: &[u16],
     index: &[u8],
     blocks: &[u16],
-    source: i32,
-    target: i32,
+    source: &File,
+    target: &File,
     size: usize,
     line: &mut [u8],
     input: &[u8],
@@ -55,8 +59,8 @@ fn spell_list(
     pairs: &[u16],
     index: &[u8],
     blocks: &[u16],
-    source: i32,
-    target: i32,
+    source: &File,
+    target: &File,
     total: u64,
     line: &mut [u8],
     input: &[u8],

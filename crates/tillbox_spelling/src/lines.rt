@@ -3,12 +3,13 @@ use crate::refused::{say_long, say_refusal};
 use crate::state::{ListState, append};
 use codepage::Numbers;
 use spelling::Spelled;
+use std::fs::File;
 
 // The longest line whose spelling is put into the small buffer.
 const SHORT: usize = 512;
 
 // A line that is not spelled, closed as it is.
-fn put_as_is(state: ListState, line: &[u8], feed: &[u8], target: i32, path: &[u8]) -> ListState {
+fn put_as_is(state: ListState, line: &[u8], feed: &[u8], target: &File, path: &[u8]) -> ListState {
     state
         .put(line, target, path)
         .put(feed, target, path)
@@ -22,7 +23,7 @@ fn put_spelling(
     spelled: &mut [u8],
     count: usize,
     feed: &[u8],
-    target: i32,
+    target: &File,
     path: &[u8],
 ) -> ListState {
     let size = tillbox_layout::front_bytes(count, spelled);
@@ -31,7 +32,7 @@ fn put_spelling(
             .put(&spelled[..size], target, path)
             .put(feed, target, path);
     }
-    bytes::copy(feed, &mut spelled[size..]);
+    tillbox_layout::copy(feed, &mut spelled[size..]);
     let end = tillbox_layout::front_bytes(size + feed.len(), spelled);
     state.put(&spelled[..end], target, path)
 }
@@ -39,7 +40,7 @@ fn put_spelling(
 // The state behind a line that was spelled by the first `count` bytes of a buffer.
 fn counted(state: ListState, line: &[u8], spelled: &[u8], count: usize) -> ListState {
     let size = tillbox_layout::front_bytes(count, spelled);
-    if check::same(line, &spelled[..size]) {
+    if line == &spelled[..size] {
         return state.closed();
     }
     state.with_changed().closed()
@@ -57,7 +58,7 @@ fn put_line(
     line: &[u8],
     feed: &[u8],
     spelled: &mut [u8],
-    target: i32,
+    target: &File,
     path: &[u8],
 ) -> ListState {
     let answer = spelling::standard_spelling(
@@ -86,7 +87,7 @@ fn put_short(
     blocks: &[u16],
     line: &[u8],
     feed: &[u8],
-    target: i32,
+    target: &File,
     path: &[u8],
 ) -> ListState {
     let mut spelled = [0u8; 1025];
@@ -117,7 +118,7 @@ fn put_long(
     blocks: &[u16],
     line: &[u8],
     feed: &[u8],
-    target: i32,
+    target: &File,
     path: &[u8],
 ) -> ListState {
     let mut spelled = [0u8; 65537];
@@ -148,7 +149,7 @@ fn end_line(
     blocks: &[u16],
     line: &[u8],
     feed: &[u8],
-    target: i32,
+    target: &File,
     path: &[u8],
 ) -> ListState {
     if state.failed {
@@ -201,7 +202,7 @@ fn put_part(
     part: &[u8],
     closes: bool,
     line: &mut [u8],
-    target: i32,
+    target: &File,
     path: &[u8],
 ) -> ListState {
     let s = append(state, part, line, target, path);
@@ -224,13 +225,13 @@ pub fn put_bytes(
     blocks: &[u16],
     block: &[u8],
     line: &mut [u8],
-    target: i32,
+    target: &File,
     path: &[u8],
 ) -> ListState {
     let mut s = state;
     let mut at = 0;
     while at < block.len() {
-        let end = bytes::scan::find(block, at, block.len(), b'\n');
+        let end = tillbox_layout::find(block, at, block.len(), b'\n');
         let next = end + 1;
         s = put_part(
             s,
@@ -267,7 +268,7 @@ pub fn end_list(
     index: &[u8],
     blocks: &[u16],
     line: &[u8],
-    target: i32,
+    target: &File,
     path: &[u8],
 ) -> ListState {
     if !state.is_begun() {

@@ -1,10 +1,11 @@
 // How far a list is.
+use std::fs::File;
 use tillbox_layout::sum;
 use tillbox_storage::files;
 
 // The bytes of the line at hand, and whether it is over the buffer and so written as it comes; what was read and written; the lines so
 // far, those of them that were changed and those that were refused; and whether something failed, whose reason was said.
-#[derive(Drop)]
+#[derive(Clone, Copy)]
 pub struct ListState {
     pub length: usize,
     pub over: bool,
@@ -82,7 +83,7 @@ impl ListState {
     }
 
     // Writes some bytes.
-    pub fn put(self, bytes: &[u8], target: i32, path: &[u8]) -> ListState {
+    pub fn put(self, bytes: &[u8], target: &File, path: &[u8]) -> ListState {
         let mut s = self;
         if s.failed {
             return s;
@@ -100,7 +101,7 @@ pub fn append(
     state: ListState,
     bytes: &[u8],
     line: &mut [u8],
-    target: i32,
+    target: &File,
     path: &[u8],
 ) -> ListState {
     let length = tillbox_layout::front_bytes(state.length, line);
@@ -112,7 +113,7 @@ pub fn append(
         s.over = true;
         return s.put(bytes, target, path);
     }
-    bytes::copy(bytes, &mut line[length..]);
+    tillbox_layout::copy(bytes, &mut line[length..]);
     let mut s = state;
     s.length = length + bytes.len();
     s

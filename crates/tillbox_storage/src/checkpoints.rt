@@ -2,11 +2,12 @@
 use crate::{files, messages, names};
 use checkpoint::{Restored, Written};
 use convert::Run;
+use std::fs::File;
 
 // Reads the line of an open checkpoint file. Where it is refused the reason was said.
-pub fn read_line(fd: i32, path: &[u8]) -> Restored {
+pub fn read_line(file: &File, path: &[u8]) -> Restored {
     let mut line = [0u8; 64];
-    let got = files::read_some(fd, 64, &mut line, path);
+    let got = files::read_some(file, 64, &mut line, path);
     if got.failed {
         return Restored::Refused;
     }
@@ -19,63 +20,60 @@ pub fn read_line(fd: i32, path: &[u8]) -> Restored {
 }
 
 // Writes a file whole and safely. It must not be there yet.
-fn write_new(path: &[u8], bytes: &[u8]) -> bool {
-    let fd = os::create(path);
-    if fd < 0 {
-        messages::cannot(b"make", path);
-        return false;
+fn write_new(rt: &HostRuntime, path: &[u8], bytes: &[u8]) -> bool {
+    match files::create(rt, path) {
+        Ok(file) => {
+            let written = files::write(&file, bytes, path);
+            let synced = files::sync(&file, path);
+            written && synced
+        }
+        Err(error) => {
+            messages::cannot(b"make", path, error);
+            false
+        }
     }
-    let written = files::write(fd, bytes, path);
-    let synced = files::sync(fd, path);
-    libc::close(fd);
-    if !written {
-        return false;
-    }
-    synced
 }
 
 // Puts a line into the file `fresh` and gives that file the checkpoint's name.
-fn replace(line: &[u8], fresh: &[u8], path: &[u8]) -> bool {
-    os::unlink(fresh);
-    if !write_new(fresh, line) {
+fn replace(rt: &HostRuntime, line: &[u8], fresh: &[u8], path: &[u8]) -> bool {
+    files::remove(rt, fresh);
+    if !write_new(rt, fresh, line) {
         return false;
     }
-    if os::rename(fresh, path) < 0 {
-        messages::cannot(b"rename", fresh);
-        return false;
-    }
-    true
+    files::rename(rt, fresh, path)
 }
 
 // Puts a line in the place of a checkpoint's, by way of a new file beside it. Where it could not, the reason was said.
-fn put_line(line: &[u8], path: &[u8]) -> bool {
+fn put_line(rt: &HostRuntime, line: &[u8], path: &[u8]) -> bool {
     let mut fresh = io::buffer();
     let count = names::beside(path, b".new", &mut fresh);
-    replace(line, &fresh[..count], path)
+    replace(rt, line, &fresh[..count], path)
 }
 
 // Whether a file can be made; it is removed again. Where it can not, the reason was said.
-fn can_make(fresh: &[u8]) -> bool {
-    os::unlink(fresh);
-    let fd = os::create(fresh);
-    if fd < 0 {
-        messages::cannot(b"make", fresh);
-        return false;
+fn can_make(rt: &HostRuntime, fresh: &[u8]) -> bool {
+    files::remove(rt, fresh);
+    match files::create(rt, fresh) {
+        Ok(_) => {
+            files::remove(rt, fresh);
+            true
+        }
+        Err(error) => {
+            messages::cannot(b"make", fresh, error);
+            false
+        }
     }
-    libc::close(fd);
-    os::unlink(fresh);
-    true
 }
 
 // Whether the new file of a checkpoint can be made beside it. Where it can not, the reason was said.
-pub fn can_save(path: &[u8]) -> bool {
+pub fn can_save(rt: &HostRuntime, path: &[u8]) -> bool {
     let mut fresh = io::buffer();
     let count = names::beside(path, b".new", &mut fresh);
-    can_make(&fresh[..count])
+    can_make(rt, &fresh[..count])
 }
 
 // Saves a run: first what was written to the output is made safe, then the line takes the checkpoint's place.
-pub fn save(run: Run, target: i32, output: &[u8], path: &[u8]) -> bool {
+pub fn save(rt: &HostRuntime, run: Run, target: &File, output: &[u8], path: &[u8]) -> bool {
     if !files::sync(target, output) {
         return false;
     }
@@ -84,7 +82,7 @@ pub fn save(run: Run, target: i32, output: &[u8], path: &[u8]) -> bool {
     match written {
         Written::Line(size) => {
             let count = tillbox_layout::front_bytes(size, &line);
-            put_line(&line[..count], path)
+            put_line(rt, &line[..count], path)
         }
         Written::InvalidRun => {
             messages::refuse(12, path);

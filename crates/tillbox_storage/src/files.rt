@@ -2,80 +2,164 @@
 ghost use Rattle.io.specs.Counts.{IsPrefixLen};
 
 use crate::messages;
-use libc::{EINVAL, SEEK_END, SEEK_SET};
+use std::fs::{File, OpenOptions};
+use std::io::{Error, ErrorKind, Print, Read, Seek, SeekFrom, Write};
+use std::os::unix::fs::FileExt;
+use std::{fs, io as system};
+use tillbox_identity::text_of;
 
-// Whether a file can be read, as a folder can not.
-pub fn readable(fd: i32, path: &[u8]) -> bool {
-    let mut byte = [0u8; 1];
-    if libc::pread(fd, &mut byte, 0) < 0 {
-        messages::cannot(b"read", path);
-        return false;
-    }
-    true
+// Opens a file for reading.
+pub fn open_read(rt: &HostRuntime, path: &[u8]) -> system::Result<File> {
+    File::open(rt, text_of(path)?)
 }
 
-// A descriptor for reading, or -1 where the reason was said.
-pub fn open_input(path: &[u8]) -> i32 {
-    let fd = os::open_read(path);
-    if fd < 0 {
-        messages::cannot(b"open", path);
-        return -1;
+// Makes a file that is not there yet, for writing.
+pub fn create(rt: &HostRuntime, path: &[u8]) -> system::Result<File> {
+    OpenOptions::new()
+        .write(true)
+        .create_new(true)
+        .open(rt, text_of(path)?)
+}
+
+// Opens a file that is there for appending: what is written stands at its end.
+pub fn open_append(rt: &HostRuntime, path: &[u8]) -> system::Result<File> {
+    OpenOptions::new().append(true).open(rt, text_of(path)?)
+}
+
+// Opens a file that is there for reading and writing, and leaves its bytes as they are.
+pub fn open_update(rt: &HostRuntime, path: &[u8]) -> system::Result<File> {
+    OpenOptions::new()
+        .read(true)
+        .write(true)
+        .open(rt, text_of(path)?)
+}
+
+// Opens a file for writing, and empties it, or makes it where it is not there.
+fn open_overwrite(rt: &HostRuntime, path: &[u8]) -> system::Result<File> {
+    File::create(rt, text_of(path)?)
+}
+
+// Removes a file, if it is there. Where it could not, what comes next tells it.
+pub fn remove(rt: &HostRuntime, path: &[u8]) {
+    if let Ok(name) = text_of(path) {
+        let _ = fs::remove_file(rt, name);
     }
-    if !readable(fd, path) {
-        libc::close(fd);
-        return -1;
+}
+
+// Gives a file another name.
+fn renamed(rt: &HostRuntime, from: &[u8], to: &[u8]) -> system::Result<()> {
+    fs::rename(rt, text_of(from)?, text_of(to)?)
+}
+
+// Gives a new file the name of another one, in whose place it then stands. Where it could not, the reason was said.
+pub fn rename(rt: &HostRuntime, fresh: &[u8], path: &[u8]) -> bool {
+    match renamed(rt, fresh, path) {
+        Ok(()) => true,
+        Err(error) => {
+            messages::cannot(b"rename", fresh, error);
+            false
+        }
     }
-    fd
+}
+
+// Whether a call succeeded. Where it did not, that and the reason is said.
+fn told(answer: system::Result<()>, what: &[u8], path: &[u8]) -> bool {
+    match answer {
+        Ok(()) => true,
+        Err(error) => {
+            messages::cannot(what, path, error);
+            false
+        }
+    }
+}
+
+// Whether a file can be read, as a folder can not.
+pub fn readable(file: &File, path: &[u8]) -> bool {
+    let mut byte = [0u8; 1];
+    match file.read_at(&mut byte, 0) {
+        Ok(_) => true,
+        Err(error) => {
+            messages::cannot(b"read", path, error);
+            false
+        }
+    }
+}
+
+// A file that is open for reading, or none where the reason was said.
+pub fn open_input(rt: &HostRuntime, path: &[u8]) -> Option<File> {
+    match open_read(rt, path) {
+        Ok(file) => {
+            if !readable(&file, path) {
+                return None;
+            }
+            Some(file)
+        }
+        Err(error) => {
+            messages::cannot(b"open", path, error);
+            None
+        }
+    }
 }
 
 // The size of a file in bytes, or -1 where the reason was said.
-pub fn size_of(fd: i32, path: &[u8]) -> i64 {
-    let size = libc::lseek(fd, 0, SEEK_END);
-    if size < 0 {
-        messages::cannot(b"find the size of", path);
-        return -1;
+pub fn size_of(file: &File, path: &[u8]) -> i64 {
+    let mut seeker = file;
+    match seeker.seek(SeekFrom::End(0)) {
+        Ok(size) => size.cast_signed(),
+        Err(error) => {
+            messages::cannot(b"find the size of", path, error);
+            -1
+        }
     }
-    size
 }
 
 // Goes to a place of a file.
-pub fn seek(fd: i32, place: i64, path: &[u8]) -> bool {
-    if libc::lseek(fd, place, SEEK_SET) < 0 {
-        messages::cannot(b"find the place in", path);
-        return false;
+pub fn seek(file: &File, place: i64, path: &[u8]) -> bool {
+    let mut seeker = file;
+    match seeker.seek(SeekFrom::Start(place.cast_unsigned())) {
+        Ok(_) => true,
+        Err(error) => {
+            messages::cannot(b"find the place in", path, error);
+            false
+        }
     }
-    true
 }
 
 // What was read: how many bytes stand at the front of the buffer, and whether it failed; then the reason was said.
-#[derive(Drop)]
+#[derive(Clone, Copy)]
 pub struct Got {
     pub count: usize,
     pub failed: bool,
 }
 
 // Reads once.
-fn read_once(fd: i32, buffer: &mut [u8], path: &[u8]) -> Got
+fn read_once(file: &File, buffer: &mut [u8], path: &[u8]) -> Got
     ensures { IsPrefixLen result.count buffer.new }
 {
-    let got = libc::read(fd, buffer);
-    if got < 0 {
-        messages::cannot(b"read", path);
-    }
-    Got {
-        count: io::count(got, buffer),
-        failed: got < 0,
+    let mut reader = file;
+    match reader.read(buffer) {
+        Ok(count) => Got {
+            count,
+            failed: false,
+        },
+        Err(error) => {
+            messages::cannot(b"read", path, error);
+            Got {
+                count: tillbox_layout::front_bytes(0, buffer),
+                failed: true,
+            }
+        }
     }
 }
 
 // Reads up to `size` bytes, to the end of the file.
-pub fn read_some(fd: i32, size: usize, buffer: &mut [u8], path: &[u8]) -> Got
+pub fn read_some(file: &File, size: usize, buffer: &mut [u8], path: &[u8]) -> Got
     ensures { IsPrefixLen result.count buffer.new }
 {
     let end = tillbox_layout::front_bytes(size, buffer);
     let mut at = 0;
     while at < end {
-        let turn = read_once(fd, &mut buffer[at..end], path);
+        let turn = read_once(file, &mut buffer[at..end], path);
         let count = turn.count;
         if count == 0 {
             return Got {
@@ -92,10 +176,10 @@ pub fn read_some(fd: i32, size: usize, buffer: &mut [u8], path: &[u8]) -> Got
 }
 
 // Reads a block of `size` bytes, which fit the buffer. One that is cut short is an error too.
-pub fn read_block(fd: i32, size: usize, buffer: &mut [u8], path: &[u8]) -> Got
+pub fn read_block(file: &File, size: usize, buffer: &mut [u8], path: &[u8]) -> Got
     ensures { IsPrefixLen result.count buffer.new }
 {
-    let mut got = read_some(fd, size, buffer, path);
+    let mut got = read_some(file, size, buffer, path);
     if got.failed {
         return got;
     }
@@ -107,49 +191,38 @@ pub fn read_block(fd: i32, size: usize, buffer: &mut [u8], path: &[u8]) -> Got
 }
 
 // Writes all bytes.
-pub fn write(fd: i32, bytes: &[u8], path: &[u8]) -> bool {
-    if io::write_all(fd, bytes) {
-        return true;
-    }
-    messages::cannot(b"write", path);
-    false
+pub fn write(file: &File, bytes: &[u8], path: &[u8]) -> bool {
+    let mut writer = file;
+    told(writer.write_all(bytes), b"write", path)
+}
+
+// Writes all bytes to standard output.
+pub fn write_out(rt: &HostRuntime, bytes: &[u8]) -> bool {
+    told(rt.stdout().write_all(bytes), b"write", b"standard output")
 }
 
 // Waits until all that was written is safe.
-pub fn sync(fd: i32, path: &[u8]) -> bool {
-    if libc::fsync(fd) < 0 {
-        messages::cannot(b"sync", path);
-        return false;
-    }
-    true
+pub fn sync(file: &File, path: &[u8]) -> bool {
+    told(file.sync_all(), b"sync", path)
 }
 
 // Waits until all that was written is safe, where it can be: what takes everything has nothing to make safe (EINVAL).
-fn settle(fd: i32, path: &[u8]) -> bool {
-    if libc::fsync(fd) < 0 {
-        if os::errno() == EINVAL {
-            return true;
+fn settle(file: &File, path: &[u8]) -> bool {
+    match file.sync_all() {
+        Ok(()) => true,
+        Err(error) => {
+            if error.kind() == ErrorKind::InvalidInput {
+                return true;
+            }
+            messages::cannot(b"sync", path, error);
+            false
         }
-        messages::cannot(b"sync", path);
-        return false;
     }
-    true
 }
 
-// Closes an output. Where that failed the reason was said.
-pub fn close(fd: i32, path: &[u8]) -> bool {
-    if libc::close(fd) < 0 {
-        messages::cannot(b"close", path);
-        return false;
-    }
-    true
-}
-
-// Makes an output safe and closes it. Where one of both failed the reason was said.
-pub fn finish(fd: i32, path: &[u8]) -> bool {
-    let safe = settle(fd, path);
-    let closed = close(fd, path);
-    safe && closed
+// Makes an output safe and closes it. Where it could not be made safe the reason was said; of closing std tells nothing.
+pub fn finish(file: File, path: &[u8]) -> bool {
+    settle(&file, path)
 }
 
 // The length of the folder's part of a path, with the slash at its end; 0 where it has none.
@@ -166,28 +239,31 @@ pub fn folder_len(path: &[u8]) -> usize
     tillbox_layout::front_bytes(end, path)
 }
 
-// Makes an open folder safe and closes it; one that could not be opened is left.
-fn sync_opened(fd: i32) {
-    if fd < 0 {
-        return;
+// Makes a folder safe; one that could not be opened is left.
+fn sync_opened(opened: system::Result<File>) {
+    if let Ok(folder) = opened {
+        let _ = folder.sync_all();
     }
-    libc::fsync(fd);
-    libc::close(fd);
 }
 
 // Has the name of a new file kept, as far as the file system can: what it could not do is no error, since the file is safe.
-pub fn sync_folder(path: &[u8]) {
+pub fn sync_folder(rt: &HostRuntime, path: &[u8]) {
     let count = folder_len(path);
     if count == 0 {
-        sync_opened(os::open_read(b"."));
+        sync_opened(open_read(rt, b"."));
         return;
     }
-    sync_opened(os::open_read(&path[..count]));
+    sync_opened(open_read(rt, &path[..count]));
+}
+
+// Cuts a file to so many bytes. Where it could not, the reason was said.
+pub fn set_length(file: &File, length: i64, path: &[u8]) -> bool {
+    told(file.set_len(length.cast_unsigned()), b"cut", path)
 }
 
 // Cuts an output that is taken up to `length` bytes and goes to its end.
-fn cut(fd: i32, length: i64, path: &[u8]) -> bool {
-    let size = size_of(fd, path);
+fn cut(file: &File, length: i64, path: &[u8]) -> bool {
+    let size = size_of(file, path);
     if size < 0 {
         return false;
     }
@@ -195,32 +271,35 @@ fn cut(fd: i32, length: i64, path: &[u8]) -> bool {
         messages::wrong(path, b"it is shorter than the checkpoint says");
         return false;
     }
-    if libc::ftruncate(fd, length) < 0 {
-        messages::cannot(b"cut", path);
+    if !set_length(file, length, path) {
         return false;
     }
-    seek(fd, length, path)
+    seek(file, length, path)
 }
 
-// An output that was written up to `length`, for what follows. -1 where the reason was said.
-pub fn take_up(path: &[u8], length: i64) -> i32 {
-    let fd = os::open_update(path);
-    if fd < 0 {
-        messages::cannot(b"open", path);
-        return -1;
+// An output that was written up to `length`, for what follows. None where the reason was said.
+pub fn take_up(rt: &HostRuntime, path: &[u8], length: i64) -> Option<File> {
+    match open_update(rt, path) {
+        Ok(file) => {
+            if !cut(&file, length, path) {
+                return None;
+            }
+            Some(file)
+        }
+        Err(error) => {
+            messages::cannot(b"open", path, error);
+            None
+        }
     }
-    if !cut(fd, length, path) {
-        libc::close(fd);
-        return -1;
-    }
-    fd
 }
 
-// An output that is made anew. -1 where the reason was said.
-pub fn make(path: &[u8]) -> i32 {
-    let fd = os::open_overwrite(path);
-    if fd < 0 {
-        messages::cannot(b"make", path);
+// An output that is made anew. None where the reason was said.
+pub fn make(rt: &HostRuntime, path: &[u8]) -> Option<File> {
+    match open_overwrite(rt, path) {
+        Ok(file) => Some(file),
+        Err(error) => {
+            messages::cannot(b"make", path, error);
+            None
+        }
     }
-    fd
 }

@@ -1,5 +1,11 @@
 // Messages: words and numbers written to a descriptor, and the meaning of each number that a call can refuse with.
-use libc::STDERR_FILENO;
+use crate::reason;
+use std::io::Error;
+
+// Standard output and standard error.
+pub const STDOUT: i32 = 1;
+
+pub const STDERR: i32 = 2;
 
 // Some bytes.
 pub fn put(fd: i32, text: &[u8]) {
@@ -30,25 +36,29 @@ pub fn put_hex(fd: i32, byte: u8) {
 
 // Some bytes, on standard error.
 pub fn say(text: &[u8]) {
-    put(STDERR_FILENO, text);
+    put(STDERR, text);
 }
 
 // A number in decimal, on standard error.
 pub fn say_number(number: u64) {
-    put_number(STDERR_FILENO, number);
+    put_number(STDERR, number);
 }
 
 // A byte as two hex digits, on standard error.
 pub fn say_hex(byte: u8) {
-    put_hex(STDERR_FILENO, byte);
+    put_hex(STDERR, byte);
 }
 
 // Says that something could not be done with a file, and the system's reason.
-pub fn cannot(what: &[u8], path: &[u8]) {
+pub fn cannot(what: &[u8], path: &[u8], error: Error) {
     say(b"tillbox: error: cannot ");
     say(what);
     say(b" ");
-    os::fail(path);
+    say(path);
+    say(b": ");
+    let numbered = error.raw_os_error().is_some();
+    reason::of(error).put(STDERR, numbered);
+    say(b"\n");
 }
 
 // Says what is wrong with a file.

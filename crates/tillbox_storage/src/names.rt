@@ -7,52 +7,52 @@ use crate::messages;
 use tillbox_identity::Identity;
 
 // The folder that a name stands in.
-fn folder_of(path: &[u8]) -> Identity {
+fn folder_of(rt: &HostRuntime, path: &[u8]) -> Identity {
     let count = folder_len(path);
     if count == 0 {
-        return tillbox_identity::at(b".");
+        return tillbox_identity::at(rt, b".");
     }
-    tillbox_identity::at(&path[..count])
+    tillbox_identity::at(rt, &path[..count])
 }
 
 // Whether a path's name in its folder is that of another path.
 fn is_namesake(a: &[u8], b: &[u8]) -> bool {
     let i = folder_len(a);
     let j = folder_len(b);
-    check::same(&a[i..], &b[j..])
+    a[i..] == b[j..]
 }
 
 // Whether two paths, of no file yet, would be of one file.
-fn would_be_one(a: &[u8], b: &[u8]) -> bool {
+fn would_be_one(rt: &HostRuntime, a: &[u8], b: &[u8]) -> bool {
     if !is_namesake(a, b) {
         return false;
     }
-    let folder = folder_of(a);
-    folder.is_same(folder_of(b))
+    let folder = folder_of(rt, a);
+    folder.is_same(folder_of(rt, b))
 }
 
 // Whether two paths are of one file.
-fn are_one(a: &[u8], b: &[u8]) -> bool {
-    if check::same(a, b) {
+fn are_one(rt: &HostRuntime, a: &[u8], b: &[u8]) -> bool {
+    if a == b {
         return true;
     }
-    let file = tillbox_identity::at(a);
-    let other = tillbox_identity::at(b);
+    let file = tillbox_identity::at(rt, a);
+    let other = tillbox_identity::at(rt, b);
     if file.is_known() {
         return file.is_same(other);
     }
     if other.is_known() {
         return false;
     }
-    would_be_one(a, b)
+    would_be_one(rt, a, b)
 }
 
 // Whether two paths are of one file, and says so.
-pub fn named_twice(a: &[u8], b: &[u8]) -> bool {
-    if !are_one(a, b) {
+pub fn named_twice(rt: &HostRuntime, a: &[u8], b: &[u8]) -> bool {
+    if !are_one(rt, a, b) {
         return false;
     }
-    if check::same(a, b) {
+    if a == b {
         messages::wrong(a, b"two of the files have this name");
         return true;
     }
@@ -65,8 +65,8 @@ pub fn named_twice(a: &[u8], b: &[u8]) -> bool {
 }
 
 // Whether a path is of a plain file, or of none. Where it is not, that was said.
-pub fn is_plain(path: &[u8]) -> bool {
-    let file = tillbox_identity::at(path);
+pub fn is_plain(rt: &HostRuntime, path: &[u8]) -> bool {
+    let file = tillbox_identity::at(rt, path);
     if !file.is_known() {
         return true;
     }
@@ -82,15 +82,15 @@ pub fn is_plain(path: &[u8]) -> bool {
 
 // Whether a path can be that of an output: a plain file, one to be made, or what takes everything. A link to a file that is not there
 // is none: it can not be told apart from that file.
-pub fn is_output(path: &[u8]) -> bool {
-    let file = tillbox_identity::at(path);
-    if file.is_same(tillbox_identity::at(b"/dev/null")) {
+pub fn is_output(rt: &HostRuntime, path: &[u8]) -> bool {
+    let file = tillbox_identity::at(rt, path);
+    if file.is_same(tillbox_identity::at(rt, b"/dev/null")) {
         return true;
     }
     if file.is_known() {
-        return is_plain(path);
+        return is_plain(rt, path);
     }
-    if tillbox_identity::is_link(path) {
+    if tillbox_identity::is_link(rt, path) {
         messages::wrong(path, b"it is a link to a file that is not there");
         return false;
     }
@@ -99,12 +99,12 @@ pub fn is_output(path: &[u8]) -> bool {
 
 // Whether a path can be that of a checkpoint or of what stands beside it: a plain file, or one to be made. It is replaced by a new
 // file, so that a link would be lost, and the file behind it left.
-pub fn is_replaced(path: &[u8]) -> bool {
-    if tillbox_identity::is_link(path) {
+pub fn is_replaced(rt: &HostRuntime, path: &[u8]) -> bool {
+    if tillbox_identity::is_link(rt, path) {
         messages::wrong(path, b"it is a link; name the file itself");
         return false;
     }
-    is_plain(path)
+    is_plain(rt, path)
 }
 
 // Puts a path with an ending behind it at the front of a buffer and answers its length, or 0 where it does not fit.
@@ -119,7 +119,7 @@ pub fn beside(path: &[u8], ending: &[u8], buffer: &mut [u8]) -> usize
     if buffer.len() - size < at {
         return 0;
     }
-    bytes::copy(path, buffer);
-    bytes::copy(ending, &mut buffer[at..]);
+    tillbox_layout::copy(path, buffer);
+    tillbox_layout::copy(ending, &mut buffer[at..]);
     tillbox_layout::front_bytes(at + size, buffer)
 }

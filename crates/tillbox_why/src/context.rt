@@ -15,7 +15,7 @@ use tillbox_layout::{front_bytes, front_units};
 const SHOWN: usize = 64;
 
 // What of a part is shown around a finding: from where, and up to where.
-#[derive(Drop)]
+#[derive(Clone, Copy)]
 pub struct Window {
     pub from: usize,
     pub to: usize,
@@ -44,7 +44,7 @@ fn shown_from(classes: &[u8], part: &[u8], mark: usize, place: usize) -> usize {
 fn shown_to(classes: &[u8], part: &[u8], place: usize) -> usize {
     let from = front_bytes(place, part);
     let room = front_bytes(SHOWN, &part[from..]);
-    let feed = bytes::scan::find(part, from, from + room, b'\n');
+    let feed = tillbox_layout::find(part, from, from + room, b'\n');
     code_from(classes, part, from, feed)
 }
 

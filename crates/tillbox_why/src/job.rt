@@ -2,6 +2,7 @@
 use crate::state::Telling;
 use codepage::Numbers;
 use convert::{Direction, Policy, Run, Started};
+use std::fs::File;
 use tillbox_jobs::job::Ending;
 use tillbox_jobs::{report, tables};
 use tillbox_layout::sum;
@@ -49,6 +50,7 @@ fn finished(state: Telling) -> Ending {
 
 // From an open journal on.
 fn with_input(
+    rt: &HostRuntime,
     policy: Policy,
     context: bool,
     numbers: Numbers,
@@ -58,7 +60,7 @@ fn with_input(
     index: &[u8],
     blocks: &[u16],
     part: &mut [u8],
-    source: i32,
+    source: &File,
     input: &[u8],
 ) -> Ending {
     let size = files::size_of(source, input);
@@ -66,6 +68,7 @@ fn with_input(
         return Ending::Failed;
     }
     let state = crate::tell_journal(
+        rt,
         policy,
         context,
         numbers,
@@ -96,6 +99,7 @@ fn is_allowed(policy: Policy, page: u16) -> bool {
 // Tells why a flag is up, with a table set. `part` is room for one part of the journal, 65,536 bytes; where `context` is asked for, the
 // line of the journal around each finding is told too. The findings go to standard output, all else to standard error.
 pub fn with_tables(
+    rt: &HostRuntime,
     policy: Policy,
     context: bool,
     numbers: Numbers,
@@ -114,13 +118,10 @@ pub fn with_tables(
     if !is_allowed(policy, numbers.page) {
         return Ending::Failed;
     }
-    let source = files::open_input(input);
-    if source < 0 {
+    let Some(source) = files::open_input(rt, input) else {
         return Ending::Failed;
-    }
-    let ending = with_input(
-        policy, context, numbers, classes, singles, pairs, index, blocks, part, source, input,
-    );
-    libc::close(source);
-    ending
+    };
+    with_input(
+        rt, policy, context, numbers, classes, singles, pairs, index, blocks, part, &source, input,
+    )
 }

@@ -1,6 +1,9 @@
 // Inner: why a flag is up: every code without a character of a journal, told on standard output, one a line. (CR 7, `tillbox why`.) The
 // journal is read in parts of at most 65,536 bytes that begin where a code begins, and end behind a line where they can. Which codes
 // have no character is decided by `findings::next_finding`.
+
+#![tactic(auto)]
+
 mod context;
 mod found;
 pub mod job;
@@ -14,10 +17,12 @@ mod utf8;
 use crate::state::Telling;
 use codepage::Numbers;
 use convert::Policy;
+use std::fs::File;
 use tillbox_storage::files;
 
 // Some bytes that were read for a part: the part ends where a code begins, and is told.
 fn tell_read(
+    rt: &HostRuntime,
     state: Telling,
     policy: Policy,
     context: bool,
@@ -32,6 +37,7 @@ fn tell_read(
 ) -> Telling {
     let end = tillbox_layout::front_bytes(parts::part_end(classes, read, complete), read);
     telling::tell_part(
+        rt,
         state,
         policy,
         context,
@@ -47,6 +53,7 @@ fn tell_read(
 
 // The next part of the journal, read and told.
 fn tell_next_part(
+    rt: &HostRuntime,
     state: Telling,
     policy: Policy,
     context: bool,
@@ -56,7 +63,7 @@ fn tell_next_part(
     pairs: &[u16],
     index: &[u8],
     blocks: &[u16],
-    source: i32,
+    source: &File,
     total: u64,
     part: &mut [u8],
     input: &[u8],
@@ -72,6 +79,7 @@ fn tell_next_part(
     let count = got.count;
     let complete = parts::is_complete(state.start, size, total);
     tell_read(
+        rt,
         state,
         policy,
         context,
@@ -88,6 +96,7 @@ fn tell_next_part(
 
 // All parts of a journal of `total` bytes. `part` is room for the bytes of one part.
 fn tell_journal(
+    rt: &HostRuntime,
     policy: Policy,
     context: bool,
     numbers: Numbers,
@@ -96,7 +105,7 @@ fn tell_journal(
     pairs: &[u16],
     index: &[u8],
     blocks: &[u16],
-    source: i32,
+    source: &File,
     total: u64,
     part: &mut [u8],
     input: &[u8],
@@ -108,8 +117,8 @@ fn tell_journal(
             return state;
         }
         state = tell_next_part(
-            state, policy, context, numbers, classes, singles, pairs, index, blocks, source, total,
-            part, input,
+            rt, state, policy, context, numbers, classes, singles, pairs, index, blocks, source,
+            total, part, input,
         );
         done += 1;
     }

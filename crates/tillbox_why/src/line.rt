@@ -1,7 +1,6 @@
 // A finding as a line: its place in the journal, its kind in words, its bytes, and what the policy does with it.
 use crate::text::{Text, empty};
 use findings::Finding;
-use libc::STDOUT_FILENO;
 use tillbox_layout::sum;
 use tillbox_storage::files;
 
@@ -38,8 +37,8 @@ pub fn line_of(start: u64, found: Finding) -> Text {
 }
 
 // Writes a text to standard output. Where it could not, the reason was said.
-pub fn put(text: Text) -> bool {
+pub fn put(rt: &HostRuntime, text: Text) -> bool {
     let bytes = text.bytes;
     let size = tillbox_layout::front_bytes(text.length, &bytes);
-    files::write(STDOUT_FILENO, &bytes[..size], b"standard output")
+    files::write_out(rt, &bytes[..size])
 }

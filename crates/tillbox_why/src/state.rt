@@ -8,7 +8,7 @@ use tillbox_layout::sum;
 // Where the part at hand begins in the journal; how much of the part is told, and a place of it where a code begins, from which the next
 // context is looked for; the findings so far, by kind; whether the policy stopped the reading; whether the part at hand is told to its end;
 // and whether something failed, whose reason was said.
-#[derive(Drop)]
+#[derive(Clone, Copy)]
 pub struct Telling {
     pub start: u64,
     pub told: usize,

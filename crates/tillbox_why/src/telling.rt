@@ -9,6 +9,7 @@ use findings::{Finding, Next};
 
 // Writes a finding's line, and the line around it.
 fn tell_in_context(
+    rt: &HostRuntime,
     state: Telling,
     numbers: Numbers,
     classes: &[u8],
@@ -32,15 +33,15 @@ fn tell_in_context(
         shown,
         found,
     );
-    if put(text) {
+    if put(rt, text) {
         return state.with(found).with_mark(shown.from);
     }
     state.broken()
 }
 
 // Writes a finding's line.
-fn tell_alone(state: Telling, found: Finding) -> Telling {
-    if put(line_of(state.start, found)) {
+fn tell_alone(rt: &HostRuntime, state: Telling, found: Finding) -> Telling {
+    if put(rt, line_of(state.start, found)) {
         return state.with(found);
     }
     state.broken()
@@ -48,6 +49,7 @@ fn tell_alone(state: Telling, found: Finding) -> Telling {
 
 // The next finding of a part, or its end.
 fn tell_next(
+    rt: &HostRuntime,
     state: Telling,
     policy: Policy,
     context: bool,
@@ -70,10 +72,10 @@ fn tell_next(
         Next::Nothing => state.at_end(part.len()),
         Next::Found(found) => {
             if !context {
-                return tell_alone(state, found);
+                return tell_alone(rt, state, found);
             }
             tell_in_context(
-                state, numbers, classes, singles, pairs, index, blocks, part, found,
+                rt, state, numbers, classes, singles, pairs, index, blocks, part, found,
             )
         }
     }
@@ -81,6 +83,7 @@ fn tell_next(
 
 // All findings of a part, up to its end or to a stop.
 pub fn tell_part(
+    rt: &HostRuntime,
     state: Telling,
     policy: Policy,
     context: bool,
@@ -102,7 +105,7 @@ pub fn tell_part(
             return s.next_part();
         }
         s = tell_next(
-            s, policy, context, numbers, classes, singles, pairs, index, blocks, part,
+            rt, s, policy, context, numbers, classes, singles, pairs, index, blocks, part,
         );
         turns += 1;
     }

@@ -1,7 +1,7 @@
 // A text that is written to standard output by one call.
 
 // Some bytes, as many as are counted; what does not fit is left out.
-#[derive(Drop)]
+#[derive(Clone, Copy)]
 pub struct Text {
     pub bytes: [u8; 1024],
     pub length: usize,
@@ -21,7 +21,7 @@ fn append(part: &[u8], length: usize, bytes: &mut [u8]) -> usize {
     if bytes.len() - at < part.len() {
         return at;
     }
-    bytes::copy(part, &mut bytes[at..]);
+    tillbox_layout::copy(part, &mut bytes[at..]);
     at + part.len()
 }
 
