@@ -6,6 +6,7 @@ use console_script::state::Next;
 
 // Runs a command that sets what the console holds.
 fn set(
+    rt: &HostRuntime,
     command: Command,
     line: &[u8],
     next: Next,
@@ -20,7 +21,7 @@ fn set(
     out: &mut [u8],
 ) -> Next {
     let next = console_setting::run_table(
-        command, line, next, classes, singles, pairs, index, blocks, out,
+        rt, command, line, next, classes, singles, pairs, index, blocks, out,
     );
     let next = console_setting::run_text(command, line, next, bytes, units, out);
     console_setting::run_run(command, line, next, lent_bytes, out)
@@ -76,6 +77,7 @@ fn read(
 
 // Runs a command that sets what the console holds, or calls the library on it.
 fn run(
+    rt: &HostRuntime,
     command: Command,
     line: &[u8],
     next: Next,
@@ -93,7 +95,8 @@ fn run(
     out: &mut [u8],
 ) -> Next {
     let next = set(
-        command, line, next, classes, singles, pairs, index, blocks, bytes, units, lent_bytes, out,
+        rt, command, line, next, classes, singles, pairs, index, blocks, bytes, units, lent_bytes,
+        out,
     );
     let next = console_cutting::run_fields(command, line, next, units, field_buffer, out);
     console_calling::run_call(
@@ -104,6 +107,7 @@ fn run(
 
 // Answers one line.
 pub fn answer(
+    rt: &HostRuntime,
     line: &[u8],
     next: Next,
     classes: &mut [u8],
@@ -143,6 +147,7 @@ pub fn answer(
         out,
     );
     run(
+        rt,
         command,
         line,
         next,

@@ -1,10 +1,11 @@
 // The input, read in blocks and cut into lines.
 ghost use Rattle.std.specs.Prelude.{◌≤◌, length};
 
-use libc::STDIN_FILENO;
+use std::io::Read;
+use std::rt::Stdin;
 
 // The unread part of the block, the length of the line that was gathered, and whether a line feed ended it.
-#[derive(Drop)]
+#[derive(Clone, Copy)]
 pub struct Cursor {
     pub from: usize,
     pub to: usize,
@@ -37,20 +38,22 @@ impl Cursor {
     }
 }
 
-// Reads a block of the input: how many bytes, 0 at its end.
-fn read_block(block: &mut [u8]) -> usize {
-    let got = libc::read(STDIN_FILENO, block);
-    io::count(got, block)
+// Reads a block of the input, by one call: how many bytes, 0 at its end and where a read fails.
+fn read_block(input: &mut Stdin, block: &mut [u8]) -> usize {
+    match input.read(block) {
+        Ok(count) => count,
+        Err(_) => 0,
+    }
 }
 
 // Reads the next block where this one is used up.
-fn refill(block: &mut [u8], cursor: Cursor) -> Cursor {
+fn refill(input: &mut Stdin, block: &mut [u8], cursor: Cursor) -> Cursor {
     if !cursor.waits() {
         return cursor;
     }
     let mut next = cursor;
     next.from = 0;
-    next.to = read_block(block);
+    next.to = read_block(input, block);
     next
 }
 
@@ -89,12 +92,12 @@ fn gather(block: &[u8], line: &mut [u8], cursor: Cursor) -> Cursor {
 
 // Gathers the next line. A proved loop has to end, and nothing says that a line does: so the loop counts its turns, up to a
 // number that no run reaches.
-pub fn next_line(block: &mut [u8], line: &mut [u8], cursor: Cursor) -> Cursor {
+pub fn next_line(input: &mut Stdin, block: &mut [u8], line: &mut [u8], cursor: Cursor) -> Cursor {
     let mut now = cursor;
     now.length = 0;
     now.ended = false;
     for _ in 0..u64::MAX {
-        now = refill(block, now);
+        now = refill(input, block, now);
         if now.waits() {
             return now;
         }

@@ -1,5 +1,8 @@
 // The tester's console: reads commands from standard input, one a line, calls the library and writes one line for each
 // command to standard output. (docs/CONSOLE.md.)
+
+#![tactic(auto)]
+
 mod commands;
 mod input;
 mod output;
@@ -10,7 +13,8 @@ use input::Cursor;
 
 // The tables have room for one element too many, and so have the texts, the rooms and the line. A proved loop has to end, and
 // nothing says that the input does: so the loop counts its turns, up to a number that no run reaches.
-fn main() {
+fn main(rt: HostRuntime) {
+    let mut stdin = rt.stdin();
     let mut classes = [0u8; 300];
     let mut singles = [0u16; 300];
     let mut pairs = [0u16; 33024];
@@ -36,12 +40,13 @@ fn main() {
         at: 0,
     };
     for _ in 0..u64::MAX {
-        cursor = input::next_line(&mut block, &mut line, cursor);
+        cursor = input::next_line(&mut stdin, &mut block, &mut line, cursor);
         if cursor.is_over() {
             return;
         }
         let end = texts::front_bytes(cursor.length, &line);
         next = commands::answer(
+            &rt,
             &line[..end],
             next,
             &mut classes,

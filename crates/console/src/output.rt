@@ -1,7 +1,9 @@
 // The output, gathered and written.
 use crate::input::Cursor;
 use console_script::texts;
-use libc::STDOUT_FILENO;
+
+// Standard output's descriptor.
+const STDOUT_FILENO: i32 = 1;
 
 // An output with more than this is written before the next command: no answer is longer than the rest.
 const OUT_LIMIT: usize = 300000;

@@ -1,4 +1,7 @@
 // Inner: the console's commands that check and propose breaks of the byte text into lines. (docs/CONSOLE.md, CR 12.)
+
+#![tactic(auto)]
+
 ghost use Rattle.io.specs.Counts.{IsPrefixLen};
 
 use codepage::Numbers;
@@ -14,7 +17,7 @@ const LIST_LIMIT: u64 = 300;
 const FILL: u64 = 0xEEEEEEEEEEEEEEEE;
 
 // Numbers that were read from a line: how many, and the place of the next word.
-#[derive(Drop)]
+#[derive(Clone, Copy)]
 struct Read {
     count: usize,
     next: usize,

@@ -1,4 +1,7 @@
 // Inner: the console's commands that call the library on the table set: what they answer is what the calls answered. (docs/CONSOLE.md.)
+
+#![tactic(auto)]
+
 mod answers;
 mod run;
 mod text;

@@ -1,4 +1,7 @@
 // Inner: the console's commands that cut the unit text into fields, by way of a buffer that it holds. (docs/CONSOLE.md, CR 1.)
+
+#![tactic(auto)]
+
 use console_script::command::Command;
 use console_script::state::{Next, State};
 use console_script::{command, texts, words};

@@ -1,4 +1,7 @@
 // Inner: the console's command that lists the findings of the byte text. (docs/CONSOLE.md, CR 7.)
+
+#![tactic(auto)]
+
 ghost use Rattle.std.specs.Prelude.{◌≤◌, take, replicate};
 ghost use Rattle.codepage.specs.CodePage.{code_page};
 ghost use Rattle.findings.specs.Calls.{findings_call, FindingsListed};
@@ -14,7 +17,7 @@ use findings::{Finding, Listed};
 const LIST_LIMIT: u64 = 300;
 
 // What a call answered, and the list after it.
-#[derive(Drop)]
+#[derive(Clone, Copy)]
 struct Report {
     listed: Listed,
     list: [Finding; 300],

@@ -1,4 +1,7 @@
 // Inner: the console's commands on the index of the byte text, by way of entries that it holds. (docs/CONSOLE.md, CR 11.)
+
+#![tactic(auto)]
+
 ghost use Rattle.io.specs.Counts.{IsPrefixLen};
 
 use charindex::{Appended, Found};

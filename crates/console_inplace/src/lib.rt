@@ -1,4 +1,7 @@
 // Inner: the console's command that encodes inside one buffer. (docs/CONSOLE.md, CR 9.)
+
+#![tactic(auto)]
+
 use codepage::Numbers;
 use console_script::command::Command;
 use console_script::state::{Next, State};

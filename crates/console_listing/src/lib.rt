@@ -1,4 +1,7 @@
 // Inner: the console's commands that read a table listing into lent tables and write one of the table set. (docs/CONSOLE.md, CR 3.)
+
+#![tactic(auto)]
+
 mod ending;
 mod reading;
 mod sums;

@@ -12,7 +12,7 @@ const PAIRS_LIMIT: u64 = 33024;
 const BLOCKS_LIMIT: u64 = 66048;
 
 // Five sizes, and the place of the next word.
-#[derive(Drop)]
+#[derive(Clone, Copy)]
 struct FoundSizes {
     value: Sizes,
     next: usize,

@@ -4,7 +4,7 @@ use mathlib.Core.Path.{◌≡◌, refl, sym, ap, ◌∙◌, subst}
 use Prim.Native.Nat.{ℕ, suc, ◌+◌, ◌/◌, ◌%◌, ◌<◌, ◌≤◌}
 use native.Mathlib.Numerals.{add-one}
 use native.Mathlib.Omega.{arith}
-use lib.ListN.{length, take, drop, get_or, set, length-append, length-set}
+use lib.ListN.{length, take, get_or, set, length-append}
 use lib.Seq.{sets, take-suc, take_all}
 use Rattle.checkpoint.specs.Line.{hex_byte}
 use Rattle.console_print.specs.Prints.{Printed, hex_of_byte, hex_of_unit, spread, hex_run}

@@ -1,5 +1,8 @@
 // Inner: writing answers. Each function writes at a place of the output and returns the place behind what it wrote; what does not
 // fit is left out, and an output that was emptied in time has room for every answer.
+
+#![tactic(auto)]
+
 ghost use Rattle.std.specs.Prelude.{◌≡◌, [], ◌∷◌, ◌<◌};
 ghost use Rattle.checkpoint.specs.Line.{hex_byte};
 ghost use Rattle.console_print.specs.Prints.{Printed, hex_of_byte, hex_of_unit, hex_run};

@@ -7,7 +7,7 @@ use mathlib.Core.Path.{◌≡◌, refl, sym, ap, ◌∙◌}
 use Prim.Native.Nat.{ℕ, suc, ◌+◌, ◌-◌, ◌*◌, ◌%◌, ◌<◌, ◌≤◌}
 use native.Mathlib.Numerals.{add-one}
 use native.Mathlib.Omega.{arith}
-use lib.Dec.{leb, eqb}
+use lib.Dec.{eqb}
 use lib.ListN.{length, take, drop, get_or, drop_of_length-le, get_or-eq_default}
 use lib.Seq.{drop-cons}
 use borrow.Author.Tests.{eq-eqb, ne_eqb, le-leb, lt-leb, eqb-true, eqb-false}
@@ -90,7 +90,7 @@ module _ (word : List ℕ) (value i : ℕ) where
   spelled_end : length word ≤ i → spelled value (drop i word) ≡ some value
   spelled_end h = ap (spelled value) (drop_of_length-le word h) ∙ spelled_nil value
 
--- a number that was found, or none; and a test that was turned round
+-- a number that was found, or none
 module _ (number : ℕ) {o : Option ℕ} where
   -- not found, by a test turned round: none
   pub given_none : (found : Bool) → not found ≡ true → given found number ≡ o → none ≡ o
@@ -101,17 +101,6 @@ module _ (number : ℕ) {o : Option ℕ} where
   pub given_some : (found : Bool) → not found ≡ false → given found number ≡ o → some number ≡ o
   given_some true e f = f
   given_some false e f = absurd (false≢true (sym e))
-
-module _ {p : Bool} where
-  -- where a test that was turned round holds, the test itself is false
-  pub test_false : (b : Bool) → not b ≡ true → b ≡ p → false ≡ p
-  test_false true e f = absurd (false≢true e)
-  test_false false e f = f
-
-  -- where it does not hold, the test itself is true
-  pub test_true : (b : Bool) → not b ≡ false → b ≡ p → true ≡ p
-  test_true true e f = f
-  test_true false e f = absurd (false≢true (sym e))
 
 module _ (limit : ℕ) where
   at_most : (value : ℕ) → value ≤ limit → limited limit (some value) ≡ some value

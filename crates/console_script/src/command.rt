@@ -4,7 +4,7 @@ use crate::words;
 // The longest line.
 const LINE_LIMIT: usize = 400000;
 
-#[derive(Drop)]
+#[derive(Clone, Copy)]
 pub enum Command {
     Table,
     Shape,

@@ -8,7 +8,7 @@ use listing::Progress;
 // The table set's numbers and sizes, the lengths of the two texts, the run in hand, the length of the field buffer, how many units
 // the state of the fields claims to be held in it, how many entries the index has, the sizes of the tables that are lent for reading a
 // listing, what has been read of it, and where writing one goes on.
-#[derive(Drop)]
+#[derive(Clone, Copy)]
 pub struct State {
     pub numbers: Numbers,
     pub sizes: Sizes,
@@ -24,7 +24,7 @@ pub struct State {
 }
 
 // The state after a command, and the place behind its answer.
-#[derive(Drop)]
+#[derive(Clone, Copy)]
 pub struct Next {
     pub state: State,
     pub at: usize,

@@ -15,44 +15,44 @@ pub const UNITS_ROOM: u64 = 66000;
 
 pub const BYTES_ROOM: u64 = 140000;
 
-#[derive(Drop)]
+#[derive(Clone, Copy)]
 pub struct Number {
     pub value: u64,
     pub next: usize,
 }
 
-#[derive(Drop)]
+#[derive(Clone, Copy)]
 pub struct Letter {
     pub value: Direction,
     pub next: usize,
 }
 
-#[derive(Drop)]
+#[derive(Clone, Copy)]
 pub struct Digits {
     pub value: Policy,
     pub next: usize,
 }
 
-#[derive(Drop)]
+#[derive(Clone, Copy)]
 pub struct FoundPending {
     pub value: Pending,
     pub next: usize,
 }
 
-#[derive(Drop)]
+#[derive(Clone, Copy)]
 pub struct Record {
     pub value: Run,
     pub next: usize,
 }
 
-#[derive(Drop)]
+#[derive(Clone, Copy)]
 pub struct Flag {
     pub value: bool,
     pub next: usize,
 }
 
 // A part: of the line, hex digits or a file's name; or of a text.
-#[derive(Drop)]
+#[derive(Clone, Copy)]
 pub struct Part {
     pub from: usize,
     pub to: usize,
@@ -60,7 +60,7 @@ pub struct Part {
 }
 
 // A number, if the digits are one within a limit.
-#[derive(Drop)]
+#[derive(Clone, Copy)]
 struct Value {
     ok: bool,
     value: u64,

@@ -1,5 +1,7 @@
 // Inner: the console's commands that set what it holds, the table set, the texts and the run in hand. (docs/CONSOLE.md.)
 
+#![tactic(auto)]
+
 ghost use Rattle.io.specs.Counts.{IsPrefixLen};
 
 use checkpoint::Restored;
@@ -9,18 +11,45 @@ use console_script::state::{Next, State};
 use console_script::{command, texts, words};
 use convert::{Policy, Run, Started};
 use image::{Loaded, Sizes};
+use std::fs::File;
+use std::io::Read;
+
+// How many bytes one read puts at the front of a buffer: 0 at the end of what is read, and where the read fails.
+fn read_some(from: &mut File, buf: &mut [u8]) -> usize
+    ensures { IsPrefixLen result buf.new }
+{
+    match from.read(buf) {
+        Ok(count) => count,
+        Err(_) => 0,
+    }
+}
+
+// Reads until the buffer is full, or a read gives nothing: how many bytes.
+fn read_full(from: &mut File, buf: &mut [u8]) -> usize
+    ensures { IsPrefixLen result buf.new }
+{
+    let mut done = 0;
+    while done < buf.len() {
+        let count = read_some(from, &mut buf[done..]);
+        if count == 0 {
+            break;
+        }
+        done += count;
+    }
+    done
+}
 
 // The bytes of a file, as far as they fit; none where it can't be read.
-fn read_file(name: &[u8], file: &mut [u8]) -> usize
+fn read_file(rt: &HostRuntime, name: &[u8], file: &mut [u8]) -> usize
     ensures { IsPrefixLen result file.new }
 {
-    let fd = os::open_read(name);
-    if fd < 0 {
+    let Ok(path) = str::from_utf8(name) else {
         return 0;
-    }
-    let count = io::read_full(fd, file);
-    libc::close(fd);
-    count
+    };
+    let Ok(mut from) = File::open(rt, path) else {
+        return 0;
+    };
+    read_full(&mut from, file)
 }
 
 // The sizes of the five tables, a space before each.
@@ -46,6 +75,7 @@ fn put_table(numbers: Numbers, sizes: Sizes, out: &mut [u8], at: usize) -> usize
 
 // Reads a file's image into the tables. The buffer has room for one byte more than the longest image.
 fn load_file(
+    rt: &HostRuntime,
     name: &[u8],
     classes: &mut [u8],
     singles: &mut [u16],
@@ -54,7 +84,7 @@ fn load_file(
     blocks: &mut [u16],
 ) -> Loaded {
     let mut file = [0u8; 199373];
-    let count = read_file(name, &mut file);
+    let count = read_file(rt, name, &mut file);
     image::load(&file[..count], classes, singles, pairs, index, blocks)
 }
 
@@ -74,6 +104,7 @@ fn answer_table(loaded: Loaded, state: State, out: &mut [u8], at: usize) -> Next
 
 // `table FILE`.
 fn table(
+    rt: &HostRuntime,
     line: &[u8],
     from: usize,
     state: State,
@@ -91,7 +122,15 @@ fn table(
     }
     let start = name.from;
     let end = name.to;
-    let loaded = load_file(&line[start..end], classes, singles, pairs, index, blocks);
+    let loaded = load_file(
+        rt,
+        &line[start..end],
+        classes,
+        singles,
+        pairs,
+        index,
+        blocks,
+    );
     answer_table(loaded, state, out, at)
 }
 
@@ -301,6 +340,7 @@ fn load(
 
 // Runs the command that sets the table set.
 pub fn run_table(
+    rt: &HostRuntime,
     command: Command,
     line: &[u8],
     next: Next,
@@ -316,6 +356,7 @@ pub fn run_table(
     };
     let state = next.state;
     table(
+        rt,
         line,
         command::second(line),
         state,

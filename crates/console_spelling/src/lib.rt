@@ -1,4 +1,7 @@
 // Inner: the console's command that gives the byte text its standard spelling. (docs/CONSOLE.md, CR 8.)
+
+#![tactic(auto)]
+
 use codepage::Numbers;
 use console_script::command::Command;
 use console_script::state::{Next, State};
