@@ -12,7 +12,7 @@ run() {
     "$@" || failed=1
 }
 
-if ! rt check; then
+if ! rt all check; then
     echo "tests: failed: not all is proved"
     exit 1
 fi
