@@ -12,32 +12,7 @@ use console_script::{command, texts, words};
 use convert::{Policy, Run, Started};
 use image::{Loaded, Sizes};
 use std::fs::File;
-use std::io::Read;
-
-// How many bytes one read puts at the front of a buffer: 0 at the end of what is read, and where the read fails.
-fn read_some(from: &mut File, buf: &mut [u8]) -> usize
-    ensures { IsPrefixLen result buf.new }
-{
-    match from.read(buf) {
-        Ok(count) => count,
-        Err(_) => 0,
-    }
-}
-
-// Reads until the buffer is full, or a read gives nothing: how many bytes.
-fn read_full(from: &mut File, buf: &mut [u8]) -> usize
-    ensures { IsPrefixLen result buf.new }
-{
-    let mut done = 0;
-    while done < buf.len() {
-        let count = read_some(from, &mut buf[done..]);
-        if count == 0 {
-            break;
-        }
-        done += count;
-    }
-    done
-}
+use std::os::fd::AsRawFd;
 
 // The bytes of a file, as far as they fit; none where it can't be read.
 fn read_file(rt: &HostRuntime, name: &[u8], file: &mut [u8]) -> usize
@@ -46,10 +21,10 @@ fn read_file(rt: &HostRuntime, name: &[u8], file: &mut [u8]) -> usize
     let Ok(path) = str::from_utf8(name) else {
         return 0;
     };
-    let Ok(mut from) = File::open(rt, path) else {
+    let Ok(from) = File::open(rt, path) else {
         return 0;
     };
-    read_full(&mut from, file)
+    io::read_full(from.as_raw_fd(), file)
 }
 
 // The sizes of the five tables, a space before each.
