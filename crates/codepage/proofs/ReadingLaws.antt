@@ -10,7 +10,7 @@ use lib.ListN.{length, drop, length-append}
 use borrow.Author.Tests.{le-leb, lt-leb, leb-true, leb-false}
 use Rattle.codepage.specs.CodePage.{pick, entry_at, is_trail}
 use Rattle.codepage.specs.declared.Kind.TheVariants.{Invalid}
-use Rattle.codepage.specs.declared.Lookup.TheVariants.{Found, Lacking}
+use Rattle.std.specs.Prelude.{Ok, Err}
 use Rattle.codepage.specs.Reading.{byte_joins, byte_pair, is_high, is_low, is_surrogate, unit_code, unit_alone, Reader, Code, units_of, size_of, alone, together, settled, completed, waits_then, codes_at_end, call_codes, left_pending, as_units}
 
 -- ---- one unit more: it waits, it is a code alone, or it settles the one that waits: they are one code, or that one is a code
@@ -162,14 +162,14 @@ more_le r c b = by_next (r.joins c b)
     by_next false = omega arith
 
 -- a pair that has a character is one code
-pub pair_joins : (classes pairs : List ℕ) (lead byte unit : ℕ) → byte_pair classes pairs lead byte ≡ Found unit → byte_joins classes byte ≡ true
+pub pair_joins : (classes pairs : List ℕ) (lead byte unit : ℕ) → byte_pair classes pairs lead byte ≡ Ok unit → byte_joins classes byte ≡ true
 unfolding byte_pair byte_joins
 pair_joins classes pairs lead byte unit e = by_trail (is_trail (entry_at classes byte)) refl
   where
     by_trail : (t : Bool) → is_trail (entry_at classes byte) ≡ t → (is_trail (entry_at classes byte) || leb 0x80 byte) ≡ true
     by_trail true q = rw q
     by_trail false q =
-        let lacks : Lacking Invalid ≡ Found unit = rw q at e in
+        let lacks : Err Invalid ≡ Ok unit = rw q at e in
         absurd (let z : ◌≡◌ {A = ℕ} 0 1 = cc in omega arith)
 
 -- ---- surrogates
@@ -195,7 +195,7 @@ no_surrogate_waits unit e = by_high (is_high unit) e
     by_high false q = refl
 
 -- a high surrogate alone is invalid
-pub high_alone : (index blocks : List ℕ) (unit : ℕ) → is_high unit ≡ true → unit_alone index blocks unit ≡ Lacking Invalid
+pub high_alone : (index blocks : List ℕ) (unit : ℕ) → is_high unit ≡ true → unit_alone index blocks unit ≡ Err Invalid
 unfolding unit_alone is_surrogate
 high_alone index blocks unit e = rw e
 
@@ -205,14 +205,14 @@ unfolding unit_alone
 alone_looked_up index blocks unit e = rw e
 
 -- a unit that has a code is no surrogate, so it does not wait
-pub found_no_surrogate : (index blocks : List ℕ) (unit code : ℕ) → unit_alone index blocks unit ≡ Found code → is_surrogate unit ≡ false
+pub found_no_surrogate : (index blocks : List ℕ) (unit code : ℕ) → unit_alone index blocks unit ≡ Ok code → is_surrogate unit ≡ false
 unfolding unit_alone
 found_no_surrogate index blocks unit code e = by_unit (is_surrogate unit) e
   where
-    by_unit : (t : Bool) → pick t (Lacking Invalid) (unit_code index blocks unit) ≡ Found code → t ≡ false
+    by_unit : (t : Bool) → pick t (Err Invalid) (unit_code index blocks unit) ≡ Ok code → t ≡ false
     by_unit true q = absurd (let z : ◌≡◌ {A = ℕ} 0 1 = cc in omega arith)
     by_unit false q = refl
 
 -- a unit that has a code does not wait
-pub found_no_wait : (index blocks : List ℕ) (unit code : ℕ) → unit_alone index blocks unit ≡ Found code → is_high unit ≡ false
+pub found_no_wait : (index blocks : List ℕ) (unit code : ℕ) → unit_alone index blocks unit ≡ Ok code → is_high unit ≡ false
 found_no_wait index blocks unit code e = no_surrogate_waits unit (found_no_surrogate index blocks unit code e)

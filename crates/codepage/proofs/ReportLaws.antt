@@ -1,4 +1,5 @@
 -- The report names the first bad place: each case exactly if what it says holds.
+use Rattle.std.specs.Prelude.{Ok, Err}
 use mathlib.Core.Bool.{Bool, true, false, not, ◌&&◌, ◌||◌, false≢true}
 use mathlib.Core.List.{List, [], ◌∷◌}
 use mathlib.Core.Logic.{◌↔◌}
@@ -9,9 +10,8 @@ use native.Mathlib.Omega.{arith}
 use lib.Dec.{leb, ltb, eqb}
 use lib.ListN.{length}
 use borrow.Author.Tests.{eqb-true, eqb-false, leb-true, leb-false, ltb-true, ltb-false, eq-eqb, ne_eqb, le-leb, lt-leb, lt-ltb, le-ltb, not-true, not-false}
-use Rattle.codepage.specs.CodePage.{CodePage, pick, entry_at, is_known, is_lead, GoodShape, first_bad, bad_class, bad_number, class_fault, sizes_fault, entries_fault, first_fault, GoodClass, GoodNumber, GoodBlocks, PageGood, ClassesGood, SinglesGood, PairsGood, IndexGood, SizesGood, Names}
-use Rattle.codepage.specs.declared.Fault.{Fault}
-use Rattle.codepage.specs.declared.Fault.TheVariants.{Good, Page, ClassesSize, SinglesSize, PairsSize, IndexSize, BlocksSize, Class, Lead, Number}
+use Rattle.codepage.specs.CodePage.{CodePage, pick, entry_at, is_known, is_lead, GoodShape, first_bad, bad_class, bad_number, class_fault, sizes_fault, entries_fault, first_fault, GoodClass, GoodNumber, GoodBlocks, PageGood, ClassesGood, SinglesGood, PairsGood, IndexGood, SizesGood, Names, Report}
+use Rattle.codepage.specs.declared.Fault.TheVariants.{Page, ClassesSize, SinglesSize, PairsSize, IndexSize, BlocksSize, Class, Lead, Number}
 use Rattle.codepage.proofs.ShapeLaws.{bad_here, bad_later, and_left, and_right, or_left_false, or_right_false, none_at_all, all_are_good, no_fault}
 
 -- ---- the first bad place, without the search
@@ -145,7 +145,7 @@ module _ (p : CodePage) where
   number_not k e h = omega (arith, leb-true count (entry_at p.index k) e)
 
   -- ---- what the report says holds
-  pick_names : (t : Bool) (f g : Fault) → (t ≡ true → Names p f) → (t ≡ false → Names p g) → Names p (pick t f g)
+  pick_names : (t : Bool) (f g : Report) → (t ≡ true → Names p f) → (t ≡ false → Names p g) → Names p (pick t f g)
   pick_names true f g h k = h refl
   pick_names false f g h k = k refl
 
@@ -160,24 +160,24 @@ module _ (p : CodePage) where
   inside_of : length p.blocks % 256 ≡ 0 → (leb 1 count && leb count 256) ≡ true → GoodBlocks p
   inside_of e q = (count, leb-true 1 count (and_left _ _ q), leb-true count 256 (and_right (leb 1 count) _ q), omega arith)
 
-  says_blocks : (then : Fault) → IndexGood p → (SizesGood p → Names p then)
-      → Names p (pick (not (eqb (length p.blocks % 256) 0)) BlocksSize (pick (not (leb 1 count && leb count 256)) BlocksSize then))
+  says_blocks : (then : Report) → IndexGood p → (SizesGood p → Names p then)
+      → Names p (pick (not (eqb (length p.blocks % 256) 0)) (Err BlocksSize) (pick (not (leb 1 count && leb count 256)) (Err BlocksSize) then))
   says_blocks then a h =
-      pick_names _ BlocksSize _ (λ e. (a, uneven (eqb-false _ _ (not-true _ e))))
-      (λ e. pick_names _ BlocksSize then (λ q. (a, outside (not-true _ q))) (λ q. h (a, inside_of (eqb-true _ _ (not-false _ e)) (not-false _ q))))
+      pick_names _ (Err BlocksSize) _ (λ e. (a, uneven (eqb-false _ _ (not-true _ e))))
+      (λ e. pick_names _ (Err BlocksSize) then (λ q. (a, outside (not-true _ q))) (λ q. h (a, inside_of (eqb-true _ _ (not-false _ e)) (not-false _ q))))
 
-  says_sizes : (then : Fault) → (SizesGood p → Names p then) → Names p (sizes_fault p then)
+  says_sizes : (then : Report) → (SizesGood p → Names p then) → Names p (sizes_fault p then)
   unfolding sizes_fault
   says_sizes then h =
-      pick_names (eqb p.page 0) Page _ (λ e. eqb-true _ _ e)
+      pick_names (eqb p.page 0) (Err Page) _ (λ e. eqb-true _ _ e)
       (λ e₁. let a₁ : PageGood p = eqb-false _ _ e₁ in
-      pick_names _ ClassesSize _ (λ e. (a₁, eqb-false _ _ (not-true _ e)))
+      pick_names _ (Err ClassesSize) _ (λ e. (a₁, eqb-false _ _ (not-true _ e)))
       (λ e₂. let a₂ : ClassesGood p = (a₁, eqb-true _ _ (not-false _ e₂)) in
-      pick_names _ SinglesSize _ (λ e. (a₂, eqb-false _ _ (not-true _ e)))
+      pick_names _ (Err SinglesSize) _ (λ e. (a₂, eqb-false _ _ (not-true _ e)))
       (λ e₃. let a₃ : SinglesGood p = (a₂, eqb-true _ _ (not-false _ e₃)) in
-      pick_names _ PairsSize _ (λ e. (a₃, eqb-false _ _ (not-true _ e)))
+      pick_names _ (Err PairsSize) _ (λ e. (a₃, eqb-false _ _ (not-true _ e)))
       (λ e₄. let a₄ : PairsGood p = (a₃, eqb-true _ _ (not-false _ e₄)) in
-      pick_names _ IndexSize _ (λ e. (a₄, eqb-false _ _ (not-true _ e)))
+      pick_names _ (Err IndexSize) _ (λ e. (a₄, eqb-false _ _ (not-true _ e)))
       (λ e₅. let a₅ : IndexGood p = (a₄, eqb-true _ _ (not-false _ e₅)) in
       says_blocks then a₅ h)))))
 
@@ -189,7 +189,7 @@ module _ (p : CodePage) where
   says_class s k f =
       let below : (j : ℕ) → j < k → GoodClass p j = λ j l. class_good j (f.none_below j l) in
       let inside : k < 256 = omega (arith, f.inside, s.0.0.0.0.1) in
-      pick_names (is_known (entry_at p.classes k)) (Lead k) (Class k)
+      pick_names (is_known (entry_at p.classes k)) (Err (Lead k)) (Err (Class k))
       (λ e. let low = known_not k (entry_at p.classes k) f.is_bad e in (s, low.0, low.1, below)) (λ e. (s, inside, e, below))
 
   abbrev first_class : ℕ
@@ -198,7 +198,7 @@ module _ (p : CodePage) where
   abbrev first_number : ℕ
   first_number = first_bad (bad_number count) 0 p.index
 
-  says_number : SizesGood p → AllClasses → first_number < 256 → Names p (Number first_number)
+  says_number : SizesGood p → AllClasses → first_number < 256 → Names p (Err (Number first_number))
   says_number s all h =
       let f = zero_found (bad_number count) p.index (omega (arith, s.0.1)) in
       (s, all, h, number_not first_number f.is_bad, λ j l. number_good j (f.none_below j l))
@@ -211,7 +211,7 @@ module _ (p : CodePage) where
       pick_names (ltb first_class 256) (class_fault p.classes first_class) _
       (λ e. says_class s first_class (zero_found bad_class p.classes (omega (arith, ltb-true first_class 256 e))))
       (λ e. let all : AllClasses = λ k h. class_good k (none_at_all bad_class p.classes (omega (arith, ltb-false first_class 256 e)) k (omega arith)) in
-      pick_names (ltb first_number 256) (Number first_number) Good (λ q. says_number s all (ltb-true first_number 256 q))
+      pick_names (ltb first_number 256) (Err (Number first_number)) (Ok tt) (λ q. says_number s all (ltb-true first_number 256 q))
       (λ q. good_of s all (λ k h. number_good k (none_at_all (bad_number count) p.index (omega (arith, ltb-false first_number 256 q)) k (omega arith)))))
     where
       good_of : SizesGood p → AllClasses → ((k : ℕ) → k < 256 → GoodNumber p k) → GoodShape p
@@ -233,7 +233,7 @@ module _ (p : CodePage) where
   says = says_sizes (entries_fault p.classes p.index count) says_entries
 
   -- ---- and what holds is said
-  sizes_pass : SizesGood p → (then : Fault) → sizes_fault p then ≡ then
+  sizes_pass : SizesGood p → (then : Report) → sizes_fault p then ≡ then
   unfolding sizes_fault
   sizes_pass s then =
       let (n, l, m, e) = s.1 in
@@ -255,38 +255,38 @@ module _ (p : CodePage) where
       let at : first_bad bad_class 0 p.classes ≡ k = at_zero bad_class p.classes k (omega (arith, s.0.0.0.0.1)) b (λ j l. good_class j (g j l)) in
       sizes_pass s _ ∙ rw (at, lt-ltb k 256 h)
 
-  blocks_size : IndexGood p → (GoodBlocks p → ⊥) → first_fault p ≡ BlocksSize
+  blocks_size : IndexGood p → (GoodBlocks p → ⊥) → first_fault p ≡ Err BlocksSize
   unfolding first_fault sizes_fault
   blocks_size a h =
       rw (ne_eqb _ _ a.0.0.0.0, eq-eqb _ _ a.0.0.0.1, eq-eqb _ _ a.0.0.1, eq-eqb _ _ a.0.1, eq-eqb _ _ a.1)
       (by_tests (eqb (length p.blocks % 256) 0) (leb 1 count && leb count 256) refl refl)
     where
       by_tests : (t u : Bool) → eqb (length p.blocks % 256) 0 ≡ t → (leb 1 count && leb count 256) ≡ u
-          → pick (not t) BlocksSize (pick (not u) BlocksSize (entries_fault p.classes p.index count)) ≡ BlocksSize
+          → pick (not t) (Err BlocksSize) (pick (not u) (Err BlocksSize) (entries_fault p.classes p.index count)) ≡ Err BlocksSize
       by_tests false u e q = refl
       by_tests true false e q = refl
       by_tests true true e q = absurd (h (inside_of (eqb-true _ _ e) q))
 
-  number_is : SizesGood p → (k : ℕ) → k < 256 → AllClasses → (GoodNumber p k → ⊥) → ((j : ℕ) → j < k → GoodNumber p j) → first_fault p ≡ Number k
+  number_is : SizesGood p → (k : ℕ) → k < 256 → AllClasses → (GoodNumber p k → ⊥) → ((j : ℕ) → j < k → GoodNumber p j) → first_fault p ≡ Err (Number k)
   unfolding first_fault entries_fault
   number_is s k l c b g =
       let none : first_class ≡ length p.classes = all_are_good bad_class p.classes (λ j q. good_class j (c j (omega (arith, s.0.0.0.0.1)))) in
       let at : first_number ≡ k = at_zero (bad_number count) p.index k (omega (arith, s.0.1)) (bad_number_lem k b s.1) (λ j q. good_number j (g j q)) in
       sizes_pass s _ ∙ rw (none, le-ltb (length p.classes) 256 (omega (arith, s.0.0.0.0.1)), at, lt-ltb k 256 l)
 
-  named : (f : Fault) → Names p f → first_fault p ≡ f
+  named : (f : Report) → Names p f → first_fault p ≡ f
   unfolding first_fault sizes_fault
-  named Good h = no_fault p h
-  named Page h = rw (eq-eqb _ _ h)
-  named ClassesSize h = rw (ne_eqb _ _ h.0, ne_eqb _ _ h.1)
-  named SinglesSize h = rw (ne_eqb _ _ h.0.0, eq-eqb _ _ h.0.1, ne_eqb _ _ h.1)
-  named PairsSize h = rw (ne_eqb _ _ h.0.0.0, eq-eqb _ _ h.0.0.1, eq-eqb _ _ h.0.1, ne_eqb _ _ h.1)
-  named IndexSize h = rw (ne_eqb _ _ h.0.0.0.0, eq-eqb _ _ h.0.0.0.1, eq-eqb _ _ h.0.0.1, eq-eqb _ _ h.0.1, ne_eqb _ _ h.1)
-  named BlocksSize h = blocks_size h.0 h.1
-  named (Class byte) h = class_is h.0 byte h.1 (unknown_bad byte h.2) h.3 ∙ unfold class_fault in rw h.2
-  named (Lead byte) h = class_is h.0 byte (omega (arith, h.1)) (low_lead_bad byte h.1 h.2) h.3 ∙ unfold class_fault in rw (lead_known (entry_at p.classes byte) h.2)
-  named (Number place) h = number_is h.0 place h.2 h.1 h.3 h.4
+  named (Ok u) h = no_fault p h
+  named (Err Page) h = rw (eq-eqb _ _ h)
+  named (Err ClassesSize) h = rw (ne_eqb _ _ h.0, ne_eqb _ _ h.1)
+  named (Err SinglesSize) h = rw (ne_eqb _ _ h.0.0, eq-eqb _ _ h.0.1, ne_eqb _ _ h.1)
+  named (Err PairsSize) h = rw (ne_eqb _ _ h.0.0.0, eq-eqb _ _ h.0.0.1, eq-eqb _ _ h.0.1, ne_eqb _ _ h.1)
+  named (Err IndexSize) h = rw (ne_eqb _ _ h.0.0.0.0, eq-eqb _ _ h.0.0.0.1, eq-eqb _ _ h.0.0.1, eq-eqb _ _ h.0.1, ne_eqb _ _ h.1)
+  named (Err BlocksSize) h = blocks_size h.0 h.1
+  named (Err (Class byte)) h = class_is h.0 byte h.1 (unknown_bad byte h.2) h.3 ∙ unfold class_fault in rw h.2
+  named (Err (Lead byte)) h = class_is h.0 byte (omega (arith, h.1)) (low_lead_bad byte h.1 h.2) h.3 ∙ unfold class_fault in rw (lead_known (entry_at p.classes byte) h.2)
+  named (Err (Number place)) h = number_is h.0 place h.2 h.1 h.3 h.4
 
 -- THE REPORT NAMES THE FIRST BAD PLACE: each case exactly if what it says holds.
-pub report_exact : (p : CodePage) (f : Fault) → (first_fault p ≡ f) ↔ Names p f
+pub report_exact : (p : CodePage) (f : Report) → (first_fault p ≡ f) ↔ Names p f
 report_exact p f = (λ e. subst (Names p) e (says p), named p f)

@@ -1,4 +1,5 @@
 -- Laws of the shape: the report is exact, and of a good shape every place that a rule looks at is inside its table.
+use Rattle.std.specs.Prelude.{Ok, Err, Some, None}
 use mathlib.Core.Bool.{Bool, true, false, not, ◌&&◌, ◌||◌, true≢false, false≢true}
 use mathlib.Core.List.{List, [], ◌∷◌}
 use mathlib.Core.Logic.{◌↔◌}
@@ -11,9 +12,9 @@ use lib.Dec.{leb, ltb, eqb}
 use lib.ListN.{length, get_or, take, drop, length-take, drop_of_length-le}
 use lib.Seq.{drop-cons, take_all}
 use borrow.Author.Tests.{eqb-true, eqb-false, leb-true, leb-false, ltb-true, ltb-false, eq-eqb, ne_eqb, le-leb, lt-leb, lt-ltb, le-ltb, not-false}
-use Rattle.codepage.specs.CodePage.{CodePage, pick, entry_at, is_known, is_lead, leads, leads_below, GoodShape, first_bad, bad_class, bad_number, class_fault, sizes_fault, entries_fault, first_fault, is_good}
+use Rattle.codepage.specs.CodePage.{CodePage, pick, entry_at, is_known, is_lead, leads, leads_below, GoodShape, first_bad, bad_class, bad_number, class_fault, sizes_fault, entries_fault, first_fault, is_good, Report, place_below}
 use Rattle.codepage.specs.declared.Fault.{Fault}
-use Rattle.codepage.specs.declared.Fault.TheVariants.{Good, Page, ClassesSize, SinglesSize, PairsSize, IndexSize, BlocksSize, Number}
+use Rattle.codepage.specs.declared.Fault.TheVariants.{Page, ClassesSize, SinglesSize, PairsSize, IndexSize, BlocksSize, Number}
 
 -- ---- the first bad place
 module _ (bad : ℕ → ℕ → Bool) where
@@ -39,6 +40,13 @@ module _ (bad : ℕ → ℕ → Bool) where
   pub bad_none : (i : ℕ) (xs : List ℕ) (n : ℕ) → n ≡ first_bad bad i (drop i xs) → length xs ≤ i → n ≡ i
   unfolding first_bad
   bad_none i xs n e h = e ∙ ap (first_bad bad i) (drop_of_length-le xs h)
+
+  -- the same of a place below an end, or none
+  pub place_found : (i : ℕ) (xs : List ℕ) (end : ℕ) → length xs ≡ end → first_bad bad 0 xs ≡ first_bad bad i (drop i xs) → i < end → bad i (get_or xs i 0) ≡ true → Some i ≡ place_below end (first_bad bad 0 xs)
+  place_found i xs end l e h b = rw (bad_found i xs _ e (omega arith) b, lt-ltb i end h)
+
+  pub place_none : (i : ℕ) (xs : List ℕ) (end : ℕ) → length xs ≡ end → first_bad bad 0 xs ≡ first_bad bad i (drop i xs) → end ≤ i → None ≡ place_below end (first_bad bad 0 xs)
+  place_none i xs end l e h = rw (bad_none i xs _ e (omega arith), le-ltb i end h)
 
   -- where none is found, none is bad; where none is bad, none is found
   none_step : (i x : ℕ) (xs : List ℕ) (t : Bool) → bad i x ≡ t → i + length (x ∷ xs) ≤ first_bad bad i (x ∷ xs) → (bad i x ≡ false) × (suc i + length xs ≤ first_bad bad (suc i) xs)
@@ -156,7 +164,7 @@ unfolding leads_below
 below_le cs byte = omega (arith, leads_le (take byte cs), simp length-take at (leads_le (take byte cs)))
 
 -- ---- the report is exact
-good_step : (b : Bool) (f g : Fault) → is_good f ≡ false → is_good (pick b f g) ≡ true → (b ≡ false) × (is_good g ≡ true)
+good_step : (b : Bool) (f g : Report) → is_good f ≡ false → is_good (pick b f g) ≡ true → (b ≡ false) × (is_good g ≡ true)
 good_step true f g n e = absurd (false≢true (sym n ∙ e))
 good_step false f g n e = (refl, e)
 
@@ -165,11 +173,26 @@ unfolding class_fault
 class_fault_lem cs byte true e = rw e
 class_fault_lem cs byte false e = rw e
 
--- what comes after the sizes counts exactly where the sizes hold
-abbrev chain : (a b c d e f g : Bool) → Fault → Fault
-chain a b c d e f g then = pick a Page (pick b ClassesSize (pick c SinglesSize (pick d PairsSize (pick e IndexSize (pick f BlocksSize (pick g BlocksSize then))))))
+-- what is told of a place below an end, or none
+pub below_some : (end n k : ℕ) → place_below end n ≡ Some k → (ltb n end ≡ true) × (n ≡ k)
+below_some end n k = by_test (ltb n end) refl
+  where
+    by_test : (t : Bool) → ltb n end ≡ t → pick t (Some n) None ≡ Some k → (ltb n end ≡ true) × (n ≡ k)
+    by_test true q e = (q, search e)
+    by_test false q e = search e
 
-chain_then : (a b c d e f g : Bool) (then : Fault) → chain a b c d e f g then ≡ pick (is_good (chain a b c d e f g Good)) then (chain a b c d e f g Good)
+pub below_none : (end n : ℕ) → place_below end n ≡ None → ltb n end ≡ false
+below_none end n = by_test (ltb n end) refl
+  where
+    by_test : (t : Bool) → ltb n end ≡ t → pick t (Some n) None ≡ None → ltb n end ≡ false
+    by_test true q e = search e
+    by_test false q e = q
+
+-- what comes after the sizes counts exactly where the sizes hold
+abbrev chain : (a b c d e f g : Bool) → Report → Report
+chain a b c d e f g then = pick a (Err Page) (pick b (Err ClassesSize) (pick c (Err SinglesSize) (pick d (Err PairsSize) (pick e (Err IndexSize) (pick f (Err BlocksSize) (pick g (Err BlocksSize) then))))))
+
+chain_then : (a b c d e f g : Bool) (then : Report) → chain a b c d e f g then ≡ pick (is_good (chain a b c d e f g (Ok tt))) then (chain a b c d e f g (Ok tt))
 chain_then true b c d e f g then = refl
 chain_then false true c d e f g then = refl
 chain_then false false true d e f g then = refl
@@ -179,7 +202,7 @@ chain_then false false false false false true g then = refl
 chain_then false false false false false false true then = refl
 chain_then false false false false false false false then = refl
 
-pub sizes_then : (p : CodePage) (then : Fault) → sizes_fault p then ≡ pick (is_good (sizes_fault p Good)) then (sizes_fault p Good)
+pub sizes_then : (p : CodePage) (then : Report) → sizes_fault p then ≡ pick (is_good (sizes_fault p (Ok tt))) then (sizes_fault p (Ok tt))
 unfolding sizes_fault
 sizes_then p then =
     chain_then
@@ -192,37 +215,40 @@ sizes_then p then =
     (not (leb 1 (length p.blocks / 256) && leb (length p.blocks / 256) 256))
     then
 
--- where the sizes hold, classes have 256 entries
-pub sizes_classes : (p : CodePage) → is_good (sizes_fault p Good) ≡ true → length p.classes ≡ 256
+-- where the sizes hold, classes and index have 256 entries
+pub sizes_classes : (p : CodePage) → is_good (sizes_fault p (Ok tt)) ≡ true → (length p.classes ≡ 256) × (length p.index ≡ 256)
 unfolding sizes_fault
 sizes_classes p e =
-    let s₁ = good_step (eqb p.page 0) Page _ refl e in
-    let s₂ = good_step (not (eqb (length p.classes) 256)) ClassesSize _ refl s₁.1 in
-    eqb-true _ _ (not-false _ s₂.0)
+    let s₁ = good_step (eqb p.page 0) (Err Page) _ refl e in
+    let s₂ = good_step (not (eqb (length p.classes) 256)) (Err ClassesSize) _ refl s₁.1 in
+    let s₃ = good_step (not (eqb (length p.singles) 256)) (Err SinglesSize) _ refl s₂.1 in
+    let s₄ = good_step (not (eqb (length p.pairs) (256 * leads p.classes))) (Err PairsSize) _ refl s₃.1 in
+    let s₅ = good_step (not (eqb (length p.index) 256)) (Err IndexSize) _ refl s₄.1 in
+    (eqb-true _ _ (not-false _ s₂.0), eqb-true _ _ (not-false _ s₅.0))
 
--- the report in two parts
-pub report_bad : (p : CodePage) (fault : Fault) → fault ≡ sizes_fault p Good → is_good fault ≡ false → fault ≡ first_fault p
+-- the report in two parts: a fault of the page and the sizes is the report
+pub report_bad : (p : CodePage) (e : Fault) → sizes_fault p (Ok tt) ≡ Err e → first_fault p ≡ Err e
 unfolding first_fault
-report_bad p fault e q = let none : is_good (sizes_fault p Good) ≡ false = ap is_good (sym e) ∙ q in rw (sizes_then, none) e
+report_bad p e q = rw (sizes_then, q)
 
 -- where page and sizes are good, the report is what the entries say
-pub report_good : (p : CodePage) (fault : Fault) → is_good (sizes_fault p Good) ≡ true → fault ≡ entries_fault p.classes p.index (length p.blocks / 256) → fault ≡ first_fault p
+pub report_good : (p : CodePage) (u : Unit) → sizes_fault p (Ok tt) ≡ Ok u → first_fault p ≡ entries_fault p.classes p.index (length p.blocks / 256)
 unfolding first_fault
-report_good p fault q e = rw (sizes_then, q) e
+report_good p u q = rw (sizes_then, q)
 
 module _ (p : CodePage) where
   good_shape : is_good (first_fault p) ≡ true → GoodShape p
   unfolding first_fault sizes_fault entries_fault bad_class bad_number
   good_shape e =
-      let s₁ = good_step (eqb p.page 0) Page _ refl e in
-      let s₂ = good_step (not (eqb (length p.classes) 256)) ClassesSize _ refl s₁.1 in
-      let s₃ = good_step (not (eqb (length p.singles) 256)) SinglesSize _ refl s₂.1 in
-      let s₄ = good_step (not (eqb (length p.pairs) (256 * leads p.classes))) PairsSize _ refl s₃.1 in
-      let s₅ = good_step (not (eqb (length p.index) 256)) IndexSize _ refl s₄.1 in
-      let s₆ = good_step (not (eqb (length p.blocks % 256) 0)) BlocksSize _ refl s₅.1 in
-      let s₇ = good_step (not (leb 1 (length p.blocks / 256) && leb (length p.blocks / 256) 256)) BlocksSize _ refl s₆.1 in
+      let s₁ = good_step (eqb p.page 0) (Err Page) _ refl e in
+      let s₂ = good_step (not (eqb (length p.classes) 256)) (Err ClassesSize) _ refl s₁.1 in
+      let s₃ = good_step (not (eqb (length p.singles) 256)) (Err SinglesSize) _ refl s₂.1 in
+      let s₄ = good_step (not (eqb (length p.pairs) (256 * leads p.classes))) (Err PairsSize) _ refl s₃.1 in
+      let s₅ = good_step (not (eqb (length p.index) 256)) (Err IndexSize) _ refl s₄.1 in
+      let s₆ = good_step (not (eqb (length p.blocks % 256) 0)) (Err BlocksSize) _ refl s₅.1 in
+      let s₇ = good_step (not (leb 1 (length p.blocks / 256) && leb (length p.blocks / 256) 256)) (Err BlocksSize) _ refl s₆.1 in
       let s₈ = good_step (ltb (first_bad bad_class 0 p.classes) 256) (class_fault p.classes (first_bad bad_class 0 p.classes)) _ (class_fault_lem p.classes (first_bad bad_class 0 p.classes) _ refl) s₇.1 in
-      let s₉ = good_step (ltb (first_bad (bad_number (length p.blocks / 256)) 0 p.index) 256) (Number (first_bad (bad_number (length p.blocks / 256)) 0 p.index)) _ refl s₈.1 in
+      let s₉ = good_step (ltb (first_bad (bad_number (length p.blocks / 256)) 0 p.index) 256) (Err (Number (first_bad (bad_number (length p.blocks / 256)) 0 p.index))) _ refl s₈.1 in
       let classes : length p.classes ≡ 256 = eqb-true _ _ (not-false _ s₂.0) in
       let index : length p.index ≡ 256 = eqb-true _ _ (not-false _ s₅.0) in
       let whole : length p.blocks % 256 ≡ 0 = eqb-true _ _ (not-false _ s₆.0) in
@@ -257,7 +283,7 @@ module _ (p : CodePage) where
   class_good k false e g h = rw (h, e)
 
   -- of a good shape the report says good
-  pub no_fault : GoodShape p → first_fault p ≡ Good
+  pub no_fault : GoodShape p → first_fault p ≡ Ok tt
   unfolding first_fault sizes_fault entries_fault
   no_fault g =
       let count = g.blocks.0 in

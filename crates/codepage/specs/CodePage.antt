@@ -1,8 +1,11 @@
 -- Document 01, "The table set"; docs/RULES.md, the same heading.
-use Rattle.std.specs.Prelude.{Bool, true, false, not, ◌&&◌, ◌||◌, List, [], ◌∷◌, ◌≡◌, ℕ, suc, ◌+◌, ◌*◌, ◌/◌, ◌%◌, ◌<◌, ◌≤◌, leb, ltb, eqb, length, get_or, take}
+use Rattle.std.specs.Prelude.{Bool, true, false, not, ◌&&◌, ◌||◌, Option, Some, None, Result, Ok, Err, List, [], ◌∷◌, ◌≡◌, ℕ, suc, ◌+◌, ◌*◌, ◌/◌, ◌%◌, ◌<◌, ◌≤◌, leb, ltb, eqb, length, get_or, take}
 use Rattle.codepage.specs.declared.Numbers.{Numbers}
+use Rattle.codepage.specs.declared.TableSet.{TableSet}
+use Rattle.codepage.specs.declared.TableRoom.{TableRoom}
+use Rattle.codepage.specs.declared.Sizes.{Sizes}
 use Rattle.codepage.specs.declared.Fault.{Fault}
-use Rattle.codepage.specs.declared.Fault.TheVariants.{Good, Page, ClassesSize, SinglesSize, PairsSize, IndexSize, BlocksSize, Class, Lead, Number}
+use Rattle.codepage.specs.declared.Fault.TheVariants.{Page, ClassesSize, SinglesSize, PairsSize, IndexSize, BlocksSize, Class, Lead, Number}
 
 -- The table set: three numbers and the five lent tables.
 pub record CodePage : Type 0 where
@@ -28,6 +31,15 @@ code_page n classes singles pairs index blocks =
       index = index;
       blocks = blocks;
     }
+
+-- the table set that a caller lends
+abbrev pub page_of : TableSet → CodePage
+page_of t = code_page t.numbers t.classes.now t.singles.now t.pairs.now t.index.now t.blocks.now
+
+-- the table set whose tables are the fronts of lent memory, so many elements of each
+abbrev pub front_page : Numbers → Sizes → TableRoom → CodePage
+front_page n sizes room =
+    code_page n (take sizes.classes room.classes.now) (take sizes.singles room.singles.now) (take sizes.pairs room.pairs.now) (take sizes.index room.index.now) (take sizes.blocks room.blocks.now)
 
 -- the first of two where a test holds, else the second
 abbrev pub pick {ℓ} : {A : Type ℓ} → Bool → A → A → A
@@ -76,10 +88,18 @@ pub record GoodShape (p : CodePage) : Type 0 where
   pub low : (byte : ℕ) → byte < 0x80 → is_lead (entry_at p.classes byte) ≡ false
   pub number : (high : ℕ) → high < 256 → 256 * entry_at p.index high + 256 ≤ length p.blocks
 
--- The report. The first place, counted from `place`, at which an entry is bad; behind the last where none is.
+-- The report: the shape is good, or its first bad place.
+abbrev pub Report : Type 0
+Report = Result Unit Fault
+
+-- The first place, counted from `place`, at which an entry is bad; behind the last where none is.
 unfoldable pub first_bad : (ℕ → ℕ → Bool) → ℕ → List ℕ → ℕ
 first_bad bad place [] = place
 first_bad bad place (x ∷ xs) = elim (bad place x) [ true ↦ place | false ↦ first_bad bad (suc place) xs ]
+
+-- a place below an end, or none
+abbrev pub place_below : ℕ → ℕ → Option ℕ
+place_below end place = pick (ltb place end) (Some place) None
 
 -- a class that no byte can have, or a lead below 80
 unfoldable pub bad_class : ℕ → ℕ → Bool
@@ -90,45 +110,37 @@ unfoldable pub bad_number : ℕ → ℕ → ℕ → Bool
 bad_number count place number = leb count number
 
 -- what the report says of a byte whose class is bad: the class is unknown, or that of a lead below 80
-unfoldable pub class_fault : List ℕ → ℕ → Fault
-class_fault classes byte = pick (is_known (entry_at classes byte)) (Lead byte) (Class byte)
+unfoldable pub class_fault : List ℕ → ℕ → Report
+class_fault classes byte = pick (is_known (entry_at classes byte)) (Err (Lead byte)) (Err (Class byte))
 
 -- page, then the sizes in the order of the tables; where all of them hold, what comes then
-unfoldable pub sizes_fault : CodePage → (then : Fault) → Fault
+unfoldable pub sizes_fault : CodePage → (then : Report) → Report
 sizes_fault p then =
-    pick (eqb p.page 0) Page
-    (pick (not (eqb (length p.classes) 256)) ClassesSize
-    (pick (not (eqb (length p.singles) 256)) SinglesSize
-    (pick (not (eqb (length p.pairs) (256 * leads p.classes))) PairsSize
-    (pick (not (eqb (length p.index) 256)) IndexSize
-    (pick (not (eqb (length p.blocks % 256) 0)) BlocksSize
-    (pick (not (leb 1 (length p.blocks / 256) && leb (length p.blocks / 256) 256)) BlocksSize
+    pick (eqb p.page 0) (Err Page)
+    (pick (not (eqb (length p.classes) 256)) (Err ClassesSize)
+    (pick (not (eqb (length p.singles) 256)) (Err SinglesSize)
+    (pick (not (eqb (length p.pairs) (256 * leads p.classes))) (Err PairsSize)
+    (pick (not (eqb (length p.index) 256)) (Err IndexSize)
+    (pick (not (eqb (length p.blocks % 256) 0)) (Err BlocksSize)
+    (pick (not (leb 1 (length p.blocks / 256) && leb (length p.blocks / 256) 256)) (Err BlocksSize)
     then))))))
 
 -- the first bad class or low lead, then the first index number that names none of so many blocks
-unfoldable pub entries_fault : (classes index : List ℕ) → (count : ℕ) → Fault
+unfoldable pub entries_fault : (classes index : List ℕ) → (count : ℕ) → Report
 entries_fault classes index count =
     pick (ltb (first_bad bad_class 0 classes) 256) (class_fault classes (first_bad bad_class 0 classes))
-    (pick (ltb (first_bad (bad_number count) 0 index) 256) (Number (first_bad (bad_number count) 0 index))
-    Good)
+    (pick (ltb (first_bad (bad_number count) 0 index) 256) (Err (Number (first_bad (bad_number count) 0 index)))
+    (Ok tt))
 
 -- The first bad place: page, then the sizes in the order of the tables, then the first bad class or low lead, then the first
 -- bad index number.
-unfoldable pub first_fault : CodePage → Fault
+unfoldable pub first_fault : CodePage → Report
 first_fault p = sizes_fault p (entries_fault p.classes p.index (length p.blocks / 256))
 
 -- whether the report found no bad place
-abbrev pub is_good : Fault → Bool
-is_good Good = true
-is_good Page = false
-is_good ClassesSize = false
-is_good SinglesSize = false
-is_good PairsSize = false
-is_good IndexSize = false
-is_good BlocksSize = false
-is_good (Class byte) = false
-is_good (Lead byte) = false
-is_good (Number place) = false
+abbrev pub is_good : Report → Bool
+is_good (Ok _) = true
+is_good (Err _) = false
 
 -- What each case of the report says: all before it is good, and this is bad; of an entry's place, none below it is bad.
 
@@ -170,14 +182,14 @@ abbrev pub SizesGood : CodePage → Type 0
 SizesGood p = IndexGood p × GoodBlocks p
 
 -- what a shape report says of a table set, case by case (docs/RULES.md, "The table set")
-abbrev pub Names : CodePage → Fault → Type 0
-Names p Good = GoodShape p
-Names p Page = p.page ≡ 0
-Names p ClassesSize = PageGood p × (length p.classes ≡ 256 → ⊥)
-Names p SinglesSize = ClassesGood p × (length p.singles ≡ 256 → ⊥)
-Names p PairsSize = SinglesGood p × (length p.pairs ≡ 256 * leads p.classes → ⊥)
-Names p IndexSize = PairsGood p × (length p.index ≡ 256 → ⊥)
-Names p BlocksSize = IndexGood p × (GoodBlocks p → ⊥)
-Names p (Class byte) = SizesGood p × (byte < 256) × (is_known (entry_at p.classes byte) ≡ false) × ((k : ℕ) → k < byte → GoodClass p k)
-Names p (Lead byte) = SizesGood p × (byte < 0x80) × (is_lead (entry_at p.classes byte) ≡ true) × ((k : ℕ) → k < byte → GoodClass p k)
-Names p (Number place) = SizesGood p × ((k : ℕ) → k < 256 → GoodClass p k) × (place < 256) × (GoodNumber p place → ⊥) × ((k : ℕ) → k < place → GoodNumber p k)
+abbrev pub Names : CodePage → Report → Type 0
+Names p (Ok _) = GoodShape p
+Names p (Err Page) = p.page ≡ 0
+Names p (Err ClassesSize) = PageGood p × (length p.classes ≡ 256 → ⊥)
+Names p (Err SinglesSize) = ClassesGood p × (length p.singles ≡ 256 → ⊥)
+Names p (Err PairsSize) = SinglesGood p × (length p.pairs ≡ 256 * leads p.classes → ⊥)
+Names p (Err IndexSize) = PairsGood p × (length p.index ≡ 256 → ⊥)
+Names p (Err BlocksSize) = IndexGood p × (GoodBlocks p → ⊥)
+Names p (Err (Class byte)) = SizesGood p × (byte < 256) × (is_known (entry_at p.classes byte) ≡ false) × ((k : ℕ) → k < byte → GoodClass p k)
+Names p (Err (Lead byte)) = SizesGood p × (byte < 0x80) × (is_lead (entry_at p.classes byte) ≡ true) × ((k : ℕ) → k < byte → GoodClass p k)
+Names p (Err (Number place)) = SizesGood p × ((k : ℕ) → k < 256 → GoodClass p k) × (place < 256) × (GoodNumber p place → ⊥) × ((k : ℕ) → k < place → GoodNumber p k)

@@ -1,23 +1,25 @@
 -- Document 01, "Reading one code from bytes" and "Reading one unit for bytes", as amended by CR 2 and CR 5: what a code means,
 -- with no policy. docs/RULES.md, "Reading bytes" and "Reading units".
-use Rattle.std.specs.Prelude.{Bool, true, ◌&&◌, ◌||◌, List, [], ◌∷◌, ◌++◌, ℕ, ◌+◌, ◌*◌, ◌/◌, ◌%◌, leb, eqb, length}
+use Rattle.std.specs.Prelude.{Bool, true, ◌&&◌, ◌||◌, Result, Ok, Err, List, [], ◌∷◌, ◌++◌, ℕ, ◌+◌, ◌*◌, ◌/◌, ◌%◌, leb, eqb, length}
 use Rattle.std.proofs.Math.Option.{Option, none, some}
 use Rattle.codepage.specs.CodePage.{pick, entry_at, is_single, is_lead, is_trail, leads_below}
 use Rattle.codepage.specs.declared.Kind.{Kind}
 use Rattle.codepage.specs.declared.Kind.TheVariants.{UndefinedSingle, UndefinedPair, Invalid}
-use Rattle.codepage.specs.declared.Lookup.{Lookup}
-use Rattle.codepage.specs.declared.Lookup.TheVariants.{Found, Lacking}
+
+-- what a table says of a code: its character (in encoding, of a unit: its code), or why it has none
+abbrev pub Lookup : Type 0
+Lookup = Result ℕ Kind
 
 -- what an entry says; FFFF means none
 unfoldable pub lookup : Kind → ℕ → Lookup
-lookup kind value = pick (eqb value 0xFFFF) (Lacking kind) (Found value)
+lookup kind value = pick (eqb value 0xFFFF) (Err kind) (Ok value)
 
 -- Reading one code from bytes.
 
 -- One byte. Class single: its character, or undefined single. Class never, and a lead that nothing is taken with (at the end of
 -- the whole text, or before a byte below 80 that may not be second): invalid.
 unfoldable pub byte_alone : (classes singles : List ℕ) → ℕ → Lookup
-byte_alone classes singles byte = pick (is_single (entry_at classes byte)) (lookup UndefinedSingle (entry_at singles byte)) (Lacking Invalid)
+byte_alone classes singles byte = pick (is_single (entry_at classes byte)) (lookup UndefinedSingle (entry_at singles byte)) (Err Invalid)
 
 -- CR 2: a byte is taken with the lead before it if it may be second, or is 80 or more; else it is read afresh.
 unfoldable pub byte_joins : (classes : List ℕ) → ℕ → Bool
@@ -27,7 +29,7 @@ byte_joins classes byte = is_trail (entry_at classes byte) || leb 0x80 byte
 -- with it: invalid.
 -- The lead with j leads below it uses block j, at the second byte.
 unfoldable pub byte_pair : (classes pairs : List ℕ) → ℕ → ℕ → Lookup
-byte_pair classes pairs lead byte = pick (is_trail (entry_at classes byte)) (lookup UndefinedPair (entry_at pairs (256 * leads_below classes lead + byte))) (Lacking Invalid)
+byte_pair classes pairs lead byte = pick (is_trail (entry_at classes byte)) (lookup UndefinedPair (entry_at pairs (256 * leads_below classes lead + byte))) (Err Invalid)
 
 -- Reading one unit for bytes.
 
@@ -49,7 +51,7 @@ unit_code index blocks unit = lookup UndefinedSingle (entry_at blocks (256 * ent
 
 -- One unit. A surrogate is not looked up: it is invalid.
 unfoldable pub unit_alone : (index blocks : List ℕ) → ℕ → Lookup
-unit_alone index blocks unit = pick (is_surrogate unit) (Lacking Invalid) (unit_code index blocks unit)
+unit_alone index blocks unit = pick (is_surrogate unit) (Err Invalid) (unit_code index blocks unit)
 
 -- a code up to 00FF is one byte; a larger one is its high half, then its low half
 unfoldable pub bytes_of : ℕ → List ℕ
@@ -90,7 +92,7 @@ encoder index blocks =
       waits = is_high;
       joins = λ high unit. is_low unit;
       one = unit_alone index blocks;
-      two = λ high low. Lacking UndefinedSingle;
+      two = λ high low. Err UndefinedSingle;
       writes = bytes_of;
     }
 

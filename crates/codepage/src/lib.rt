@@ -1,9 +1,9 @@
-// A code page as a caller lends it: three numbers and five tables. (Document 01, "The table set"; docs/RULES.md, "The table set".)
+// A code page as a caller lends it, `TableSet`: three numbers and five tables. (Document 01, "The table set"; docs/RULES.md, "The table set".)
 //
 // `shape_report` names the first bad place of a table set, or says that its shape is good. Every call of this product that is handed
 // tables tests their shape itself, and refuses a bad one with 10: a caller asks for the report to tell a person what is wrong.
 //
-//     let fault = codepage::shape_report(numbers, classes, singles, pairs, index, blocks);
+//     let report = codepage::shape_report(&tables);
 //
 // The other functions are small questions about a class.
 
@@ -13,9 +13,8 @@ pub mod marks;
 mod scans;
 pub mod shape;
 
-ghost use Rattle.std.specs.Prelude.{◌≡◌, ℕ, ◌≤◌, length};
-ghost use Rattle.codepage.specs.CodePage.{code_page, is_single, is_lead, is_trail, is_known, first_bad, bad_class, bad_number, sizes_fault, entries_fault, first_fault, is_good};
-ghost use Rattle.codepage.specs.declared.Fault.TheVariants.{Good};
+ghost use Rattle.std.specs.Prelude.{◌≡◌, ℕ, ◌≤◌, Ok, length, take};
+ghost use Rattle.codepage.specs.CodePage.{page_of, front_page, is_single, is_lead, is_trail, is_known, first_bad, place_below, bad_class, bad_number, sizes_fault, entries_fault, first_fault};
 
 // The numbers of a table set.
 #[derive(Clone, Copy)]
@@ -25,10 +24,63 @@ pub struct Numbers {
     pub default_unit: u16,
 }
 
-// What the shape report says: the shape is good, or its first bad place.
+// A table set: its numbers, and the tables that its owner lends.
+#[derive(Clone, Copy)]
+pub struct TableSet<'a> {
+    pub numbers: Numbers,
+    pub classes: &'a [u8],
+    pub singles: &'a [u16],
+    pub pairs: &'a [u16],
+    pub index: &'a [u8],
+    pub blocks: &'a [u16],
+}
+
+// How many elements each table has.
+#[derive(Clone, Copy)]
+pub struct Sizes {
+    pub classes: usize,
+    pub singles: usize,
+    pub pairs: usize,
+    pub index: usize,
+    pub blocks: usize,
+}
+
+// Memory that its owner lends for the tables of a table set to be read into.
+#[derive(Drop)]
+pub struct TableRoom<'a> {
+    pub classes: &'a mut [u8],
+    pub singles: &'a mut [u16],
+    pub pairs: &'a mut [u16],
+    pub index: &'a mut [u8],
+    pub blocks: &'a mut [u16],
+}
+
+impl TableRoom<'_> {
+    // The table set whose tables are the fronts of the memory; of a table that asks for more than there is, all of it.
+    pub fn table_set(&self, numbers: Numbers, sizes: Sizes) -> TableSet<'_>
+        ensures { page_of result ≡ front_page numbers sizes self.now }
+    {
+        TableSet {
+            numbers,
+            classes: front(self.classes, sizes.classes),
+            singles: front(self.singles, sizes.singles),
+            pairs: front(self.pairs, sizes.pairs),
+            index: front(self.index, sizes.index),
+            blocks: front(self.blocks, sizes.blocks),
+        }
+    }
+}
+
+// The first elements of a table, or all where it has fewer.
+fn front<T>(table: &[T], size: usize) -> &[T]
+    ensures { result.now ≡ take size table.now }
+{
+    &table[..size.min(table.len())]
+}
+
+// The first bad place of a table set whose shape is not good.
 #[derive(Clone, Copy)]
 pub enum Fault {
-    Good,
     // The page is 0.
     Page,
     // A table has another size than it must have.
@@ -53,12 +105,8 @@ pub enum Kind {
     Invalid,
 }
 
-// What a table says of a code: its character (in encoding, of a unit: its code), or none and why.
-#[derive(Clone, Copy)]
-pub enum Lookup {
-    Found(u16),
-    Lacking(Kind),
-}
+// What a table says of a code: its character (in encoding, of a unit: its code), or why it has none.
+pub type Lookup = Result<u16, Kind>;
 
 // Whether a class is that of a lead byte.
 pub fn is_lead_class(class: u8) -> bool
@@ -113,130 +161,93 @@ fn is_bad_class(byte: usize, class: u8) -> bool
     false
 }
 
-// The first byte with a bad class, or the number of classes where there is none.
-fn first_bad_class(classes: &[u8]) -> usize
-    ensures { result ≡ first_bad bad_class 0 classes.now }
+// The first byte with a bad class, if there is one.
+fn first_bad_class(classes: &[u8]) -> Option<usize>
+    requires { length classes.now ≡ 256 }
+    ensures { result ≡ place_below 256 (first_bad bad_class 0 classes.now) }
 {
-    let mut i = 0;
-    let place = loop {
-        if classes.len() <= i {
-            break i;
+    for (byte, class) in classes.iter().enumerate() {
+        if is_bad_class(byte, *class) {
+            return Some(byte);
         }
-        if is_bad_class(i, classes[i]) {
-            break i;
-        }
-        i += 1;
-    };
-    place
+    }
+    None
 }
 
-// The first index entry that names none of `count` blocks, or the number of entries where there is none.
-fn first_bad_number(index: &[u8], count: usize) -> usize
-    ensures { result ≡ first_bad (bad_number count) 0 index.now }
+// The first index entry that names none of `count` blocks, if there is one.
+fn first_bad_number(index: &[u8], count: usize) -> Option<usize>
+    requires { length index.now ≡ 256 }
+    ensures { result ≡ place_below 256 (first_bad (bad_number count) 0 index.now) }
 {
-    let mut i = 0;
-    let place = loop {
-        if index.len() <= i {
-            break i;
+    for (place, number) in index.iter().enumerate() {
+        if count <= (*number as usize) {
+            return Some(place);
         }
-        if count <= (index[i] as usize) {
-            break i;
-        }
-        i += 1;
-    };
-    place
+    }
+    None
 }
 
 // The first fault of the page and the sizes, or good.
-fn size_fault(
-    numbers: Numbers,
-    classes: &[u8],
-    singles: &[u16],
-    pairs: &[u16],
-    index: &[u8],
-    blocks: &[u16],
-) -> Fault
-    ensures { result ≡ sizes_fault (code_page numbers classes.now singles.now pairs.now index.now blocks.now) Good }
+fn sizes_report(tables: &TableSet) -> Result<(), Fault>
+    ensures { result ≡ sizes_fault (page_of tables.now) (Ok tt) }
 {
+    let TableSet {
+        numbers,
+        classes,
+        singles,
+        pairs,
+        index,
+        blocks,
+    } = *tables;
     if numbers.page == 0 {
-        return Fault::Page;
+        return Err(Fault::Page);
     }
     if classes.len() != 256 {
-        return Fault::ClassesSize;
+        return Err(Fault::ClassesSize);
     }
     if singles.len() != 256 {
-        return Fault::SinglesSize;
+        return Err(Fault::SinglesSize);
     }
     if pairs.len() != 256 * scans::leads_below(classes, 256) {
-        return Fault::PairsSize;
+        return Err(Fault::PairsSize);
     }
     if index.len() != 256 {
-        return Fault::IndexSize;
+        return Err(Fault::IndexSize);
     }
     if blocks.len() % 256 != 0 {
-        return Fault::BlocksSize;
+        return Err(Fault::BlocksSize);
     }
     let count = blocks.len() / 256;
     if count < 1 {
-        return Fault::BlocksSize;
+        return Err(Fault::BlocksSize);
     }
     if 256 < count {
-        return Fault::BlocksSize;
+        return Err(Fault::BlocksSize);
     }
-    Fault::Good
+    Ok(())
 }
 
 // The first bad class or low lead, then the first index number that names none of `count` blocks, or good.
-fn entry_fault(classes: &[u8], index: &[u8], count: usize) -> Fault
-    requires { length classes.now ≡ 256 }
+fn entries_report(classes: &[u8], index: &[u8], count: usize) -> Result<(), Fault>
+    requires { (length classes.now ≡ 256) × (length index.now ≡ 256) }
     ensures { result ≡ entries_fault classes.now index.now count }
 {
-    let byte = first_bad_class(classes);
-    if byte < 256 {
+    if let Some(byte) = first_bad_class(classes) {
         if is_known_class(classes[byte]) {
-            return Fault::Lead(byte);
+            return Err(Fault::Lead(byte));
         }
-        return Fault::Class(byte);
+        return Err(Fault::Class(byte));
     }
-    let place = first_bad_number(index, count);
-    if place < 256 {
-        return Fault::Number(place);
+    if let Some(place) = first_bad_number(index, count) {
+        return Err(Fault::Number(place));
     }
-    Fault::Good
-}
-
-// Whether the report found no bad place.
-fn is_good(fault: Fault) -> bool
-    ensures { result ≡ is_good fault }
-{
-    match fault {
-        Fault::Good => true,
-        Fault::Page => false,
-        Fault::ClassesSize => false,
-        Fault::SinglesSize => false,
-        Fault::PairsSize => false,
-        Fault::IndexSize => false,
-        Fault::BlocksSize => false,
-        Fault::Class(_) => false,
-        Fault::Lead(_) => false,
-        Fault::Number(_) => false,
-    }
+    Ok(())
 }
 
 // The shape report.
-pub fn shape_report(
-    numbers: Numbers,
-    classes: &[u8],
-    singles: &[u16],
-    pairs: &[u16],
-    index: &[u8],
-    blocks: &[u16],
-) -> Fault
-    ensures { result ≡ first_fault (code_page numbers classes.now singles.now pairs.now index.now blocks.now) }
+pub fn shape_report(tables: &TableSet) -> Result<(), Fault>
+    ensures { result ≡ first_fault (page_of tables.now) }
 {
-    let sizes = size_fault(numbers, classes, singles, pairs, index, blocks);
-    if !is_good(sizes) {
-        return sizes;
-    }
-    entry_fault(classes, index, blocks.len() / 256)
+    sizes_report(tables)?;
+    entries_report(tables.classes, tables.index, tables.blocks.len() / 256)
 }

@@ -35,11 +35,9 @@ pub fn scan_classes(classes: &[u8]) -> ClassScan
 {
     let mut mark: u8 = 0;
     let mut leads: u8 = 0;
-    let mut i: usize = 0;
-    while i < 128 {
+    for i in 0..128 {
         mark = mark | low_mark(classes[i]) | high_mark(classes[128 + i]);
         leads += lead_mark(classes[128 + i]);
-        i += 1;
     }
     ClassScan { mark, leads }
 }
@@ -50,10 +48,8 @@ pub fn largest(index: &[u8]) -> u8
     ensures { Largest index.now 256 result }
 {
     let mut most: u8 = 0;
-    let mut i: usize = 0;
-    while i < 256 {
-        most = larger(most, index[i]);
-        i += 1;
+    for number in index {
+        most = larger(most, *number);
     }
     most
 }
@@ -64,10 +60,8 @@ pub fn leads_below(classes: &[u8], byte: usize) -> usize
     ensures { result ≡ leads_below classes.now byte }
 {
     let mut count: u16 = 0;
-    let mut i = 0;
-    while i < byte {
+    for i in 0..byte {
         count += lead_mark(classes[i]) as u16;
-        i += 1;
     }
     count as usize
 }

@@ -1,9 +1,9 @@
 // The shape test of a call, which other crates of this product call. It is no public call: that is the shape report.
 ghost use Rattle.std.specs.Prelude.{◌≡◌, ℕ, length};
-ghost use Rattle.codepage.specs.CodePage.{code_page, first_fault, is_good};
+ghost use Rattle.codepage.specs.CodePage.{page_of, first_fault, is_good};
 ghost use Rattle.codepage.specs.Marks.{good_sizes};
 
-use crate::{Numbers, scans};
+use crate::{TableSet, scans};
 
 // Whether the sizes of the tables are those of a good shape, but for the pairs'.
 fn good_sizes(classes: &[u8], singles: &[u16], index: &[u8], blocks: &[u16]) -> bool
@@ -28,16 +28,17 @@ fn good_sizes(classes: &[u8], singles: &[u16], index: &[u8], blocks: &[u16]) -> 
 }
 
 // Whether the shape is good. Its loops have no break; the report has its own.
-pub fn good_shape(
-    numbers: Numbers,
-    classes: &[u8],
-    singles: &[u16],
-    pairs: &[u16],
-    index: &[u8],
-    blocks: &[u16],
-) -> bool
-    ensures { result ≡ is_good (first_fault (code_page numbers classes.now singles.now pairs.now index.now blocks.now)) }
+pub fn good_shape(tables: &TableSet) -> bool
+    ensures { result ≡ is_good (first_fault (page_of tables.now)) }
 {
+    let TableSet {
+        numbers,
+        classes,
+        singles,
+        pairs,
+        index,
+        blocks,
+    } = *tables;
     if numbers.page == 0 {
         return false;
     }

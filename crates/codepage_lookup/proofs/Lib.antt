@@ -2,3 +2,4 @@ pub mod WordLaws
 pub mod ProfileLaws
 pub mod LeadLaws
 pub mod LeadRows
+pub mod TableLaws

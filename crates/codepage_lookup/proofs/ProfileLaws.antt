@@ -14,8 +14,8 @@ use Rattle.codepage_lookup.specs.Profile.{SettledAs, unit_entry, ClearPage, NoCo
 use Rattle.codepage.specs.Reading.{lookup, byte_alone, byte_joins, byte_pair, is_high, is_low, is_surrogate, unit_code, unit_alone, decoder, encoder, settled}
 use Rattle.codepage.specs.declared.Kind.{Kind}
 use Rattle.codepage.specs.declared.Kind.TheVariants.{UndefinedSingle, UndefinedPair, Invalid}
-use Rattle.codepage.specs.declared.Lookup.{Lookup}
-use Rattle.codepage.specs.declared.Lookup.TheVariants.{Found, Lacking}
+use Rattle.codepage.specs.Reading.{Lookup}
+use Rattle.std.specs.Prelude.{Ok, Err}
 use Rattle.codepage.proofs.ReadingLaws.{high_alone, alone_looked_up, below_surrogates, from_surrogates}
 use Rattle.codepage.proofs.MarkLaws.{all_below, all_below_lem, or_else}
 
@@ -91,13 +91,13 @@ module _ (classes singles pairs : List ℕ) (lead byte : ℕ) where
   settled_second e q = record { means = q ∙ sym (rw e); more = rw e }
 
   -- one that may not be: of 80 or more, and below 80
-  pub settled_high : is_trail (entry_at classes byte) ≡ false → 0x80 ≤ byte → SettledAs (settled (decoder classes singles pairs) lead byte) (record { means = Lacking Invalid; more = 1 })
+  pub settled_high : is_trail (entry_at classes byte) ≡ false → 0x80 ≤ byte → SettledAs (settled (decoder classes singles pairs) lead byte) (record { means = Err Invalid; more = 1 })
   unfolding settled decoder byte_joins byte_pair
   settled_high e h = record { means = rw (e, le-leb 0x80 byte h); more = rw (e, le-leb 0x80 byte h) }
 
   -- below 80: the lead is invalid alone, and the byte is read afresh (CR 2)
   pub settled_low : is_lead (entry_at classes lead) ≡ true → is_trail (entry_at classes byte) ≡ false → byte < 0x80
-      → SettledAs (settled (decoder classes singles pairs) lead byte) (record { means = Lacking Invalid; more = 0 })
+      → SettledAs (settled (decoder classes singles pairs) lead byte) (record { means = Err Invalid; more = 0 })
   unfolding settled decoder byte_joins byte_alone
   settled_low l e h =
       let single : is_single (entry_at classes lead) ≡ false = lead_no_single (entry_at classes lead) (is_single (entry_at classes lead)) refl l in
@@ -106,33 +106,33 @@ module _ (classes singles pairs : List ℕ) (lead byte : ℕ) where
 -- ---- a high surrogate, settled by the unit after it
 module _ (index blocks : List ℕ) (high unit : ℕ) where
   -- a low surrogate after it: both are one undefined single (CR 5)
-  pub settled_pair : is_low unit ≡ true → SettledAs (settled (encoder index blocks) high unit) (record { means = Lacking UndefinedSingle; more = 1 })
+  pub settled_pair : is_low unit ≡ true → SettledAs (settled (encoder index blocks) high unit) (record { means = Err UndefinedSingle; more = 1 })
   unfolding settled encoder
   settled_pair e = record { means = rw e; more = rw e }
 
   -- any other unit after it: the high surrogate is invalid alone, and that unit is read afresh
-  pub settled_alone : is_high high ≡ true → is_low unit ≡ false → SettledAs (settled (encoder index blocks) high unit) (record { means = Lacking Invalid; more = 0 })
+  pub settled_alone : is_high high ≡ true → is_low unit ≡ false → SettledAs (settled (encoder index blocks) high unit) (record { means = Err Invalid; more = 0 })
   unfolding settled encoder
   settled_alone h e = record { means = rw e (sym (high_alone index blocks high h)); more = rw e }
 
 -- ---- entries that are a character
-pub found_entry : (kind : Kind) (value : ℕ) → (value ≡ 0xFFFF → ⊥) → lookup kind value ≡ Found value
+pub found_entry : (kind : Kind) (value : ℕ) → (value ≡ 0xFFFF → ⊥) → lookup kind value ≡ Ok value
 unfolding lookup
 found_entry kind value n = rw (ne_eqb value 0xFFFF n)
 
 -- a single below 80 whose entry is itself has itself as character
-pub plain_byte : (classes singles : List ℕ) (byte : ℕ) → byte < 0x80 → is_single (entry_at classes byte) ≡ true → entry_at singles (0 + byte) ≡ byte → byte_alone classes singles byte ≡ Found byte
+pub plain_byte : (classes singles : List ℕ) (byte : ℕ) → byte < 0x80 → is_single (entry_at classes byte) ≡ true → entry_at singles (0 + byte) ≡ byte → byte_alone classes singles byte ≡ Ok byte
 unfolding byte_alone
 plain_byte classes singles byte h e q =
     let at : entry_at singles byte ≡ byte = rw (zero-add byte) at q in
     rw (e, at) (found_entry _ byte (λ z. omega arith))
 
 -- a byte that has a character alone is a single
-pub found_single : (classes singles : List ℕ) (byte unit : ℕ) → byte_alone classes singles byte ≡ Found unit → is_single (entry_at classes byte) ≡ true
+pub found_single : (classes singles : List ℕ) (byte unit : ℕ) → byte_alone classes singles byte ≡ Ok unit → is_single (entry_at classes byte) ≡ true
 unfolding byte_alone
 found_single classes singles byte unit = by_class (is_single (entry_at classes byte))
   where
-    by_class : (t : Bool) → pick t (lookup UndefinedSingle (entry_at singles byte)) (Lacking Invalid) ≡ Found unit → t ≡ true
+    by_class : (t : Bool) → pick t (lookup UndefinedSingle (entry_at singles byte)) (Err Invalid) ≡ Ok unit → t ≡ true
     by_class true e = refl
     by_class false e = let z : ◌≡◌ {A = ℕ} 0 1 = cc in absurd (omega arith)
 
@@ -146,7 +146,7 @@ clear_page classes singles low high byte h n = by_half (ltb byte 0x80) refl
     by_half false q = high byte (ltb-false byte 0x80 q) h n
 
 -- a unit below 80 whose entry is itself has itself as code
-pub plain_unit : (index blocks : List ℕ) (unit : ℕ) → unit < 0x80 → entry_at blocks (256 * entry_at index 0 + unit) ≡ unit → unit_alone index blocks unit ≡ Found unit
+pub plain_unit : (index blocks : List ℕ) (unit : ℕ) → unit < 0x80 → entry_at blocks (256 * entry_at index 0 + unit) ≡ unit → unit_alone index blocks unit ≡ Ok unit
 unfolding unit_code
 plain_unit index blocks unit h q =
     let high : unit / 256 ≡ 0 = omega arith in
@@ -154,7 +154,7 @@ plain_unit index blocks unit h q =
     alone_looked_up index blocks unit (below_surrogates unit (omega arith)) ∙ rw (high, low, q) (found_entry _ unit (λ z. omega arith))
 
 -- a unit alone, by its entry
-pub alone_invalid : (index blocks : List ℕ) (unit : ℕ) → is_surrogate unit ≡ true → unit_alone index blocks unit ≡ Lacking Invalid
+pub alone_invalid : (index blocks : List ℕ) (unit : ℕ) → is_surrogate unit ≡ true → unit_alone index blocks unit ≡ Err Invalid
 unfolding unit_alone
 alone_invalid index blocks unit e = rw e
 
@@ -166,7 +166,7 @@ alone_entry index blocks unit value found e q f = rw e (f ∙ ap (lookup Undefin
 
 -- a unit's entry that is a code is what it means, where no surrogate's entry is one (`NoCodes`)
 pub code_found : (index blocks : List ℕ) (unit value : ℕ) → (is_surrogate unit ≡ true → unit_entry index blocks unit ≡ 0xFFFF) → value ≡ unit_entry index blocks unit → (value ≡ 0xFFFF → ⊥)
-    → unit_alone index blocks unit ≡ Found value
+    → unit_alone index blocks unit ≡ Ok value
 code_found index blocks unit value none q n =
     sym (alone_entry index blocks unit value (lookup UndefinedSingle value) (by_unit (is_surrogate unit) refl) q refl) ∙ found_entry UndefinedSingle value n
   where

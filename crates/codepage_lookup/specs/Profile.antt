@@ -1,10 +1,11 @@
 -- Definitions that the contracts of looking up and of the page's profile cite, and that no promise does.
-use Rattle.std.specs.Prelude.{Bool, true, ◌||◌, List, ◌≡◌, ℕ, zero, suc, ◌+◌, ◌-◌, ◌*◌, ◌/◌, ◌%◌, ◌^◌, ◌<◌, eqb, ltb, length}
+use Rattle.std.specs.Prelude.{Bool, true, false, ◌||◌, List, ◌≡◌, ℕ, zero, suc, ◌+◌, ◌-◌, ◌*◌, ◌/◌, ◌%◌, ◌^◌, ◌<◌, eqb, ltb, length}
 use Rattle.std.specs.Int.Bits.{bit_and}
 use Rattle.std.specs.Int.Count.{ones, count_leading_zeros, count_trailing_zeros}
 use Rattle.codepage.specs.CodePage.{pick, entry_at, is_single, is_lead, is_known}
 use Rattle.codepage.specs.Marks.{mark_of, NoLowLead}
-use Rattle.codepage.specs.Reading.{is_surrogate, Code}
+use Rattle.codepage.specs.Reading.{byte_alone, is_surrogate, Code}
+use Rattle.std.specs.Prelude.{Ok}
 use Rattle.codepage_lookup.specs.declared.SettledCode.{SettledCode}
 use Rattle.codepage_lookup.specs.declared.profile.Leads.{Leads}
 
@@ -28,6 +29,15 @@ KnownClasses classes = (byte : ℕ) → byte < 256 → is_known (entry_at classe
 -- no byte but a single has an entry among the singles: they alone tell which bytes have a character alone
 abbrev pub ClearPage : (classes singles : List ℕ) → Type 0
 ClearPage classes singles = (byte : ℕ) → byte < 256 → (entry_at singles byte ≡ 0xFFFF → ⊥) → is_single (entry_at classes byte) ≡ true
+
+-- every byte below 80 is a single whose character is itself
+abbrev pub PlainPage : (classes singles : List ℕ) → Type 0
+PlainPage classes singles = (byte : ℕ) → byte < 0x80 → (is_lead (entry_at classes byte) ≡ false) × (byte_alone classes singles byte ≡ Ok byte)
+
+-- a page whose mixed text goes by the quick loops: text below 80 stays as it is, and the singles alone tell which bytes have a
+-- character alone
+abbrev pub MixedPage : (classes singles : List ℕ) → Type 0
+MixedPage classes singles = PlainPage classes singles × ClearPage classes singles
 
 -- how many ones of a word stand below a place
 abbrev pub ones_below : (word place : ℕ) → ℕ

@@ -4,8 +4,10 @@ ghost use Rattle.std.specs.Int.Count.{ones, count_trailing_zeros};
 ghost use Rattle.codepage.specs.CodePage.{entry_at, is_single, is_lead, leads_below};
 ghost use Rattle.codepage.specs.Reading.{byte_alone, unit_alone};
 ghost use Rattle.codepage.specs.Marks.{NoLowLead};
-ghost use Rattle.codepage_lookup.specs.Profile.{lead_bits, ones_below, block_of, side_by_side, KnownClasses, ClearPage, LeadsAt, NoCodes};
+ghost use Rattle.codepage_lookup.specs.Profile.{lead_bits, ones_below, block_of, side_by_side, KnownClasses, ClearPage, PlainPage, MixedPage, LeadsAt, NoCodes};
+ghost use Rattle.codepage_lookup.specs.Tables.{LeadOf, OnlySingles};
 
+use crate::tables::{ByteTables, LeadTables, UnitTables};
 use crate::words;
 use codepage::{Lookup, marks};
 
@@ -29,23 +31,10 @@ fn singles_below(classes: &[u8], to: usize) -> bool
     ensures { result ≡ true → (byte : ℕ) → byte < to → is_single (entry_at classes.now byte) ≡ true }
 {
     let mut mark: u8 = 0;
-    let mut i: usize = 0;
-    while i < to {
+    for i in 0..to {
         mark = marks::larger(mark, single_mark(classes[i]));
-        i += 1;
     }
     mark == 0
-}
-
-// Whether every byte is single. Where the first lead bytes of most pages stand is looked at first.
-pub fn only_singles(classes: &[u8]) -> bool
-    requires { length classes.now ≡ 256 }
-    ensures { result ≡ true → (byte : ℕ) → byte < 256 → is_single (entry_at classes.now byte) ≡ true }
-{
-    if !singles_below(&classes[128..192], 64) {
-        return false;
-    }
-    singles_below(classes, 256)
 }
 
 // Whether 128 entries from a place on are 0, 1, 2 and so on.
@@ -54,18 +43,16 @@ fn counts_up(table: &[u16], from: usize) -> bool
     ensures { result ≡ true → (k : ℕ) → k < 128 → entry_at table.now (from + k) ≡ k }
 {
     let mut mark: u16 = 0;
-    let mut i: u16 = 0;
-    while i < 128 {
+    for i in 0..128 {
         mark = mark | (table[from + (i as usize)] ^ i);
-        i += 1;
     }
     mark == 0
 }
 
 // Whether every byte below 80 is a single whose character is itself.
-pub fn plain_bytes(classes: &[u8], singles: &[u16]) -> bool
+fn plain_bytes(classes: &[u8], singles: &[u16]) -> bool
     requires { (length classes.now ≡ 256) × (length singles.now ≡ 256) }
-    ensures { result ≡ true → (byte : ℕ) → byte < 0x80 → (is_lead (entry_at classes.now byte) ≡ false) × (byte_alone classes.now singles.now byte ≡ Lookup.Found byte) }
+    ensures { result ≡ true → (byte : ℕ) → byte < 0x80 → (is_lead (entry_at classes.now byte) ≡ false) × (byte_alone classes.now singles.now byte ≡ Ok byte) }
 {
     if !singles_below(classes, 128) {
         return false;
@@ -89,10 +76,8 @@ fn clear_from_80(classes: &[u8], singles: &[u16]) -> bool
     ensures { result ≡ true → (byte : ℕ) → 0x80 ≤ byte → byte < 256 → (entry_at singles.now byte ≡ 0xFFFF → ⊥) → is_single (entry_at classes.now byte) ≡ true }
 {
     let mut mark: u16 = 0;
-    let mut i: usize = 128;
-    while i < 256 {
+    for i in 128..256 {
         mark = mark | entry_mark(classes[i], singles[i]);
-        i += 1;
     }
     mark == 0
 }
@@ -100,7 +85,7 @@ fn clear_from_80(classes: &[u8], singles: &[u16]) -> bool
 // Whether every byte below 80 is a single whose character is itself, and the singles alone tell which bytes have a character alone.
 pub fn mixed_page(classes: &[u8], singles: &[u16]) -> bool
     requires { (length classes.now ≡ 256) × (length singles.now ≡ 256) }
-    ensures byte_value { result ≡ true → (byte : ℕ) → byte < 0x80 → (is_lead (entry_at classes.now byte) ≡ false) × (byte_alone classes.now singles.now byte ≡ Lookup.Found byte) }
+    ensures byte_value { result ≡ true → (byte : ℕ) → byte < 0x80 → (is_lead (entry_at classes.now byte) ≡ false) × (byte_alone classes.now singles.now byte ≡ Ok byte) }
     ensures clear_page { result ≡ true → ClearPage classes.now singles.now }
 {
     if !plain_bytes(classes, singles) {
@@ -109,25 +94,14 @@ pub fn mixed_page(classes: &[u8], singles: &[u16]) -> bool
     clear_from_80(classes, singles)
 }
 
-// Whether the code of every unit below 80 is itself.
-pub fn plain_units(index: &[u8], blocks: &[u16]) -> bool
-    requires index_len { length index.now ≡ 256 }
-    requires by_index { (high : ℕ) → 256 * entry_at index.now high + 256 ≤ length blocks.now }
-    ensures { result ≡ true → (unit : ℕ) → unit < 0x80 → unit_alone index.now blocks.now unit ≡ Lookup.Found unit }
-{
-    counts_up(blocks, 256 * (index[0] as usize))
-}
-
 // Whether the 256 entries of a block are all none.
 fn is_empty(blocks: &[u16], from: usize) -> bool
     requires { from + 256 ≤ length blocks.now }
     ensures { result ≡ true → (k : ℕ) → k < 256 → entry_at blocks.now (from + k) ≡ 0xFFFF }
 {
     let mut mark: u16 = 0xFFFF;
-    let mut i: usize = 0;
-    while i < 256 {
+    for i in 0..256 {
         mark = mark & blocks[from + i];
-        i += 1;
     }
     mark == 0xFFFF
 }
@@ -154,12 +128,10 @@ fn no_surrogate_codes(index: &[u8], blocks: &[u16]) -> bool
     if !is_empty(blocks, 256 * (first as usize)) {
         return false;
     }
-    let mut half: usize = 0xD9;
-    while half < 0xE0 {
+    for half in 0xD9..0xE0 {
         if !is_empty_too(blocks, first, index[half]) {
             return false;
         }
-        half += 1;
     }
     true
 }
@@ -188,23 +160,6 @@ fn eight_bits(classes: &[u8], from: usize) -> u64
     let marks = (word & 0x0202020202020202) >> 1;
     let folded = (marks | (marks >> 28)) & 0x11111111;
     ((folded * 0x204081) >> 21) & 0xFF
-}
-
-// The lead bytes of a page, met from the last on.
-pub fn leads_of(classes: &[u8]) -> Leads
-    requires classes_len { length classes.now ≡ 256 }
-    requires known_classes { KnownClasses classes.now × NoLowLead classes.now }
-    ensures { LeadsAt classes.now result }
-{
-    let mut low: u64 = 0;
-    let mut high: u64 = 0;
-    let mut i: usize = 64;
-    while 0 < i {
-        i -= 8;
-        low = (low << 8) + eight_bits(classes, 0x80 + i);
-        high = (high << 8) + eight_bits(classes, 0xC0 + i);
-    }
-    Leads { low, high }
 }
 
 // How many ones a word has.
@@ -262,26 +217,99 @@ fn first_from(from: usize, word: u64) -> usize
     from + (u64::trailing_zeros(word) as usize)
 }
 
-// The block of a lead byte where the ones of both words stand side by side: its distance to the first lead, less the gap between the
-// words for a lead from C0 on. Bit 6 of a lead tells its word, so that nothing is asked.
-fn block_in_runs(classes: &[u8], leads: Leads, lead: u8) -> usize
-    requires classes_len { (length classes.now ≡ 256) × (is_lead (entry_at classes.now lead) ≡ true) × LeadsAt classes.now leads }
-    requires low_value { (side_by_side leads.low ≡ true) × (side_by_side leads.high ≡ true) }
-    ensures { result ≡ leads_below classes.now lead }
-{
-    let low = first_from(0x80, leads.low);
-    let high = first_from(0xC0, leads.high) - ones_of(leads.low);
-    let byte = lead as usize;
-    byte - low - (high - low) * (byte / 64 % 2)
+impl<'a> ByteTables<'a> {
+    // Whether every byte is single. Where the first lead bytes of most pages stand is looked at first.
+    pub fn only_singles(&self) -> bool
+        ensures { result ≡ true → OnlySingles self.now }
+    {
+        if !singles_below(&self.classes[128..192], 64) {
+            return false;
+        }
+        singles_below(self.classes, 256)
+    }
+
+    // Whether every byte below 80 is a single whose character is itself.
+    pub fn keeps_plain(&self) -> bool
+        ensures { result ≡ true → PlainPage self.now.classes.now self.now.singles.now }
+    {
+        plain_bytes(self.classes, self.singles)
+    }
+
+    // Whether it is so, and the singles alone tell which bytes have a character alone.
+    pub fn is_mixed(&self) -> bool
+        ensures { result ≡ true → MixedPage self.now.classes.now self.now.singles.now }
+    {
+        mixed_page(self.classes, self.singles)
+    }
+
+    // The lead bytes, met from the last on.
+    fn leads(&self) -> Leads
+        ensures { LeadsAt self.now.classes.now result }
+    {
+        let classes = self.classes;
+        let mut low: u64 = 0;
+        let mut high: u64 = 0;
+        let mut i: usize = 64;
+        while 0 < i {
+            i -= 8;
+            low = (low << 8) + eight_bits(classes, 0x80 + i);
+            high = (high << 8) + eight_bits(classes, 0xC0 + i);
+        }
+        Leads { low, high }
+    }
+
+    // The tables with the lead bytes.
+    pub fn with_leads(&self) -> LeadTables<'a>
+        ensures { result.tables ≡ self.now }
+    {
+        let leads = self.leads();
+        LeadTables {
+            tables: *self,
+            leads,
+        }
+    }
 }
 
-// The block of a lead byte, in loops: the compiler asks once whether there are gaps. `classes` serve the contract alone.
-pub fn block_of(classes: &[u8], leads: Leads, lead: u8) -> usize
-    requires { (length classes.now ≡ 256) × (is_lead (entry_at classes.now lead) ≡ true) × LeadsAt classes.now leads }
-    ensures { result ≡ leads_below classes.now lead }
-{
-    if are_runs(leads) {
-        return block_in_runs(classes, leads, lead);
+impl LeadTables<'_> {
+    // The block of a lead byte where the ones of both words stand side by side: its distance to the first lead, less the gap between
+    // the words for a lead from C0 on. Bit 6 of a lead tells its word, so that nothing is asked.
+    fn block_in_runs(&self, lead: u8) -> usize
+        requires is_lead { LeadOf self.now.tables lead }
+        requires low_value { (side_by_side self.now.leads.low ≡ true) × (side_by_side self.now.leads.high ≡ true) }
+        ensures { result ≡ leads_below self.now.tables.classes.now lead }
+    {
+        let leads = self.leads;
+        let low = first_from(0x80, leads.low);
+        let high = first_from(0xC0, leads.high) - ones_of(leads.low);
+        let byte = lead as usize;
+        byte - low - (high - low) * (byte / 64 % 2)
     }
-    block_counted(leads, lead)
+
+    // The block of a lead byte, in loops: the compiler asks once whether there are gaps.
+    pub fn block_of(&self, lead: u8) -> usize
+        requires { LeadOf self.now.tables lead }
+        ensures { result ≡ leads_below self.now.tables.classes.now lead }
+    {
+        if are_runs(self.leads) {
+            return self.block_in_runs(lead);
+        }
+        block_counted(self.leads, lead)
+    }
+}
+
+impl UnitTables<'_> {
+    // Whether the code of every unit below 80 is itself.
+    pub fn keeps_plain(&self) -> bool
+        ensures { result ≡ true → (unit : ℕ) → unit < 0x80 → unit_alone self.now.index.now self.now.blocks.now unit ≡ Ok unit }
+    {
+        counts_up(self.blocks, 256 * (self.index[0] as usize))
+    }
+
+    // Whether `code_of` may be asked of every unit of a piece, whose units are not over `bound`.
+    pub fn may_ask(&self, bound: u16, piece: &[u16]) -> bool
+        requires { (k : ℕ) → entry_at piece.now k ≤ bound }
+        ensures { result ≡ true → NoCodes self.now.index.now self.now.blocks.now piece.now }
+    {
+        codes_asked(bound, self.index, self.blocks, piece)
+    }
 }

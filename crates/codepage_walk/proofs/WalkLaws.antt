@@ -15,7 +15,7 @@ use borrow.Author.Tests.{le-leb, lt-leb, leb-true, leb-false}
 use Rattle.codepage.specs.CodePage.{entry_at, is_lead, is_trail}
 use Rattle.codepage.specs.Reading.{byte_alone, byte_joins, Reader, decoder, Code, size_of, alone, together, settled, completed, waits_then, codes_at_end, call_codes, left_pending, as_units, codes}
 use Rattle.codepage.proofs.ReadingLaws.{codes_wait, codes_one, codes_settled, more_le, sizes_of, sizes_cover, none_waits}
-use Rattle.codepage.specs.declared.Lookup.{Lookup}
+use Rattle.codepage.specs.Reading.{Lookup}
 use Rattle.codepage_lookup.specs.declared.SettledCode.{SettledCode}
 use Rattle.codepage_lookup.specs.Profile.{SettledAs}
 use Rattle.codepage_walk.specs.Walk.{Placed, placed_from, placed, CodeAt, ReadAs, SizedAs, ClassesSize}

@@ -1,17 +1,16 @@
-use mathlib.Core.Path.{sym}
 use native.Mathlib.Omega.{arith}
 use borrow.Author.Tests.{le-leb, lt-leb}
 use Rattle.codepage.specs.CodePage.{bad_number}
-use Rattle.codepage.proofs.ShapeLaws.{bad_turn, bad_found, bad_none}
+use Rattle.codepage.proofs.ShapeLaws.{bad_turn, place_found, place_none}
 use Rattle.codepage.proofs.first_bad_number.Goals as goal
 
-pub loop-i-preserved : goal.loop-i-preserved
+pub loop-place-preserved : goal.loop-place-preserved
 unfolding bad_number
-loop-i-preserved c = (omega arith, bad_turn (bad_number c.args.count) _ _ _ c.loop-i.invariant.1 (omega arith) (lt-leb _ _ c.if-count-index.false))
+loop-place-preserved c = bad_turn (bad_number c.args.count) _ _ _ c.loop-place.invariant (omega arith) (lt-leb _ _ c.if-count-number.false)
 
-pub returns-then-index-i : goal.returns-then-index-i
-returns-then-index-i c = sym (bad_none (bad_number c.args.count) _ _ _ c.loop-i.invariant.1 c.if-index-i.true)
-
-pub returns-then-count-index : goal.returns-then-count-index
+pub returns-then-count-number : goal.returns-then-count-number
 unfolding bad_number
-returns-then-count-index c = sym (bad_found (bad_number c.args.count) _ _ _ c.loop-i.invariant.1 (omega arith) (le-leb _ _ c.if-count-index.true))
+returns-then-count-number c = place_found (bad_number c.args.count) _ _ _ c.requires c.loop-place.invariant (omega arith) (le-leb _ _ c.if-count-number.true)
+
+pub returns : goal.returns
+returns c = place_none (bad_number c.args.count) _ _ _ c.requires c.loop-place.invariant (omega arith)

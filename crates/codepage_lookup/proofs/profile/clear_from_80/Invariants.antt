@@ -10,6 +10,3 @@ Clear classes singles byte = 0x80 ≤ byte → (entry_at singles byte ≡ 0xFFFF
 
 abbrev pub invariant-loop-i : goal.invariant-loop-i
 invariant-loop-i l = (128 ≤ l.i) × (l.i ≤ 256) × (l.mark ≡ 0 → (k : ℕ) → k < l.i → Clear l.classes l.singles k)
-
-abbrev pub decreases-loop-i : goal.decreases-loop-i
-decreases-loop-i l = 256 - l.i

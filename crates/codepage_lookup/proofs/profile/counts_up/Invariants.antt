@@ -5,6 +5,3 @@ use Rattle.codepage_lookup.proofs.profile.counts_up.Given as goal
 
 abbrev pub invariant-loop-i : goal.invariant-loop-i
 invariant-loop-i l = (l.i ≤ 128) × (l.mark ≡ 0 → (k : ℕ) → k < l.i → entry_at l.table (l.from + k) ≡ k)
-
-abbrev pub decreases-loop-i : goal.decreases-loop-i
-decreases-loop-i l = 128 - l.i

@@ -5,6 +5,3 @@ use Rattle.codepage_lookup.proofs.profile.no_surrogate_codes.Given as goal
 
 abbrev pub invariant-loop-half : goal.invariant-loop-half
 invariant-loop-half l = (0xD9 ≤ l.half) × (l.half ≤ 0xE0) × ((h : ℕ) → 0xD8 ≤ h → h < l.half → Empty l.blocks (entry_at l.index h))
-
-abbrev pub decreases-loop-half : goal.decreases-loop-half
-decreases-loop-half l = 0xE0 - l.half

@@ -6,6 +6,3 @@ use Rattle.codepage_lookup.proofs.profile.singles_below.Given as goal
 
 abbrev pub invariant-loop-i : goal.invariant-loop-i
 invariant-loop-i l = (l.i ≤ l.to) × (l.mark ≡ 0 → (k : ℕ) → k < l.i → is_single (entry_at l.classes k) ≡ true)
-
-abbrev pub decreases-loop-i : goal.decreases-loop-i
-decreases-loop-i l = l.to - l.i

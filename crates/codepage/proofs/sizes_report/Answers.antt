@@ -2,7 +2,7 @@ use native.Mathlib.Omega.{arith}
 use borrow.Author.Tests.{le-leb, lt-leb, eq-eqb, ne_eqb}
 use Rattle.codepage.specs.CodePage.{sizes_fault}
 use Rattle.codepage.proofs.ShapeLaws.{below_all, below_le}
-use Rattle.codepage.proofs.size_fault.Goals as goal
+use Rattle.codepage.proofs.sizes_report.Goals as goal
 
 pub returns-then-numbers-eq0 : goal.returns-then-numbers-eq0
 unfolding sizes_fault
@@ -17,7 +17,7 @@ unfolding sizes_fault
 returns-then-singles-ne256 c = rw (ne_eqb _ _ c.if-numbers-eq0.false, eq-eqb _ _ c.if-classes-ne256.false, ne_eqb _ _ c.if-singles-ne256.true)
 
 pub overflow_mul-leads_below : goal.overflow_mul-leads_below
-overflow_mul-leads_below c = omega (arith, c.leads_below.ensures, below_le c.args.classes.now 256)
+overflow_mul-leads_below c = omega (arith, c.leads_below.ensures, below_le c.args.tables.now.classes.now 256)
 
 pub returns-then-pairs-leads_below : goal.returns-then-pairs-leads_below
 unfolding sizes_fault

@@ -1,5 +1,0 @@
-use Rattle.codepage_lookup.proofs.ProfileLaws.{code_found}
-use Rattle.codepage_lookup.proofs.code_of.Goals as goal
-
-pub returns : goal.returns
-returns c = λ n. code_found _ _ _ _ c.requires.unit_value c.unit_entry.ensures n
