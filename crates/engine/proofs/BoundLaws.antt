@@ -15,8 +15,8 @@ use Rattle.codepage.specs.Reading.{unit_of, bytes_of, decoder, encoder, Code, si
 use Rattle.codepage.proofs.ReadingLaws.{sizes_of, sizes_cover}
 use Rattle.codepage.specs.declared.Kind.{Kind}
 use Rattle.codepage.specs.declared.Kind.TheVariants.{UndefinedSingle, UndefinedPair, Invalid}
-use Rattle.codepage.specs.declared.Lookup.{Lookup}
-use Rattle.codepage.specs.declared.Lookup.TheVariants.{Found, Lacking}
+use Rattle.codepage.specs.Reading.{Lookup}
+use Rattle.std.specs.Prelude.{Ok, Err}
 use Rattle.engine.specs.declared.Direction.{Direction}
 use Rattle.engine.specs.declared.Direction.TheVariants.{Decoding, Encoding}
 use Rattle.engine.specs.declared.Policy.{Policy}
@@ -116,8 +116,8 @@ flag_low Invalid = omega arith
 
 small_effect : (m : ℕ) (writes : ℕ → List ℕ) (policy : Policy) (default first : ℕ) (found : Lookup) → 1 ≤ m → ((value : ℕ) → length (writes value) ≤ m) → Small m (effect_of writes policy default first found)
 unfolding effect_of
-small_effect m writes policy default first (Found value) h w = record { writes = w value; flag = omega arith }
-small_effect m writes policy default first (Lacking kind) h w = small_acted m (flag_of kind) (action_of (digit_of policy kind) default first) h (flag_low kind)
+small_effect m writes policy default first (Ok value) h w = record { writes = w value; flag = omega arith }
+small_effect m writes policy default first (Err kind) h w = small_acted m (flag_of kind) (action_of (digit_of policy kind) default first) h (flag_low kind)
 
 bytes_le : (code : ℕ) → length (bytes_of code) ≤ 2
 unfolding bytes_of

@@ -6,17 +6,16 @@ use Prim.Native.Nat.{ℕ, zero, suc, ◌+◌, ◌*◌, ◌<◌, ◌≤◌}
 use native.Mathlib.Omega.{arith}
 use lib.ListN.{length, set}
 use borrow.Author.Tests.{eq-eqb, ne_eqb}
-use Rattle.codepage.specs.CodePage.{entry_at, is_lead, leads_below}
+use Rattle.codepage.specs.CodePage.{entry_at, is_lead}
 use Rattle.codepage.specs.Reading.{byte_alone, unit_of, decoder, settled}
-use Rattle.codepage.specs.declared.Lookup.{Lookup}
-use Rattle.codepage.proofs.ShapeLaws.{block_there}
+use Rattle.codepage.specs.Reading.{Lookup}
 use Rattle.codepage_lookup.specs.declared.SettledCode.{SettledCode}
 use Rattle.codepage_lookup.specs.Profile.{SettledAs}
 use Rattle.engine.specs.declared.Policy.{Policy}
 use Rattle.engine.specs.declared.policies.CodeEffect.{CodeEffect}
 use Rattle.engine.specs.declared.progress.Progress.{Progress}
 use Rattle.engine.specs.Engine.{effect_of, converter}
-use Rattle.engine.specs.Steps.{unit_effect, stopped_by, full_at, taken_by, Took, DecodeSizes, does_alone, does_settled}
+use Rattle.engine.specs.Steps.{unit_effect, stopped_by, full_at, taken_by, Took, does_alone, does_settled}
 use Rattle.engine.proofs.SettledLaws.{settled_does}
 use Rattle.engine.proofs.LoopLaws.{took_stop, took_lacks, took_none, took_writes}
 
@@ -41,21 +40,6 @@ module _ (d : CodeEffect) (n : ℕ) (s : Progress) (out : List ℕ) (h : s.writt
   pub units_full : d.stops ≡ false → (d.count ≡ 0 → ⊥) → length out ≤ s.written → Took (unit_effect d) n s out (full_at s) out
   unfolding unit_effect
   units_full e c f = took_lacks (unit_effect d) n s out h (d.value ∷ []) e (rw (ne_eqb _ _ c)) (omega arith)
-
--- only a class that is there is a lead's
-lead_there : (classes : List ℕ) (byte : ℕ) → is_lead (entry_at classes byte) ≡ true → byte < length classes
-unfolding is_lead
-lead_there [] byte e = let z : ◌≡◌ {A = ℕ} 0 1 = cc in omega arith
-lead_there (c ∷ classes) zero e = omega arith
-lead_there (c ∷ classes) (suc byte) e = omega (arith, lead_there classes byte e)
-
--- a lead is a byte: it is below 256
-pub lead_below : (classes : List ℕ) (byte : ℕ) → length classes ≡ 256 → is_lead (entry_at classes byte) ≡ true → byte < 256
-lead_below classes byte h e = omega (arith, lead_there classes byte e)
-
--- a lead's block is there
-pub pair_room : (classes singles pairs : List ℕ) (lead : ℕ) → DecodeSizes classes singles pairs → is_lead (entry_at classes lead) ≡ true → 256 * leads_below classes lead + 256 ≤ length pairs
-pair_room classes singles pairs lead h e = omega (arith, block_there classes lead (lead_there classes lead e) e, h.all_pairs)
 
 -- the effects of the converter
 module _ (classes singles pairs : List ℕ) (policy : Policy) (default : ℕ) (d : CodeEffect) (found : Lookup) where

@@ -9,7 +9,7 @@ use lib.ListN.{length}
 use Rattle.codepage.specs.CodePage.{CodePage, pick}
 use Rattle.codepage.specs.Reading.{lookup, is_surrogate, unit_code, unit_alone, bytes_of, encoder, Reader, Code}
 use Rattle.codepage.specs.declared.Kind.TheVariants.{UndefinedSingle, Invalid}
-use Rattle.codepage.specs.declared.Lookup.TheVariants.{Found, Lacking}
+use Rattle.std.specs.Prelude.{Ok, Err}
 use Rattle.codepage.proofs.ReadingLaws.{by_units}
 use Rattle.engine.specs.declared.Direction.TheVariants.{Encoding}
 use Rattle.engine.specs.declared.Policy.{Policy}
@@ -60,7 +60,7 @@ module _ (policy other : Policy) (default unit : ℕ) (e₁ : policy.single ≡ 
   unfolding effect_of lookup
   found_digits value = by_value (eqb value 0xFFFF)
     where
-      by_value : (t : Bool) → effect_of bytes_of policy default unit (pick t (Lacking UndefinedSingle) (Found value)) ≡ effect_of bytes_of other default unit (pick t (Lacking UndefinedSingle) (Found value))
+      by_value : (t : Bool) → effect_of bytes_of policy default unit (pick t (Err UndefinedSingle) (Ok value)) ≡ effect_of bytes_of other default unit (pick t (Err UndefinedSingle) (Ok value))
       by_value true = ap (λ (digit : ℕ). acted 1 (action_of digit default unit)) e₁
       by_value false = refl
 
@@ -68,7 +68,7 @@ module _ (policy other : Policy) (default unit : ℕ) (e₁ : policy.single ≡ 
   unfolding effect_of unit_alone unit_code
   unit_digits index blocks = by_unit (is_surrogate unit)
     where
-      by_unit : (t : Bool) → effect_of bytes_of policy default unit (pick t (Lacking Invalid) (unit_code index blocks unit)) ≡ effect_of bytes_of other default unit (pick t (Lacking Invalid) (unit_code index blocks unit))
+      by_unit : (t : Bool) → effect_of bytes_of policy default unit (pick t (Err Invalid) (unit_code index blocks unit)) ≡ effect_of bytes_of other default unit (pick t (Err Invalid) (unit_code index blocks unit))
       by_unit true = ap (λ (digit : ℕ). acted 4 (action_of digit default unit)) e₃
       by_unit false = found_digits _
 

@@ -8,7 +8,7 @@ use borrow.Author.Tests.{leb-true, le-leb, lt-leb}
 use Rattle.codepage.specs.Reading.{unit_of, bytes_of}
 use Rattle.codepage.specs.declared.Kind.{Kind}
 use Rattle.codepage.specs.declared.Kind.TheVariants.{UndefinedSingle, UndefinedPair, Invalid}
-use Rattle.codepage.specs.declared.Lookup.TheVariants.{Found, Lacking}
+use Rattle.std.specs.Prelude.{Ok, Err}
 use Rattle.codepage.proofs.ShapeLaws.{and_left, and_right}
 use Rattle.engine.specs.declared.Direction.TheVariants.{Encoding}
 use Rattle.engine.specs.declared.Policy.{Policy}
@@ -27,7 +27,7 @@ unit_acted flag (Write value) = refl
 
 -- decoding: what a digit does about a code without a character, in numbers
 pub unit_lacking : (policy : Policy) (default byte : ℕ) (kind : Kind) (d : CodeEffect) → d ≡ acted_as (flag_of kind) (action_of (digit_of policy kind) default byte)
-    → unit_effect d ≡ effect_of unit_of policy default byte (Lacking kind)
+    → unit_effect d ≡ effect_of unit_of policy default byte (Err kind)
 unfolding effect_of
 unit_lacking policy default byte kind d e = ap unit_effect e ∙ unit_acted (flag_of kind) (action_of (digit_of policy kind) default byte)
 
@@ -52,13 +52,13 @@ digit_low policy Invalid h = leb-true _ _ (and_right (leb policy.pair 5) _ (and_
 
 -- encoding: the same, under digits that are allowed there
 pub byte_lacking : (policy : Policy) (default unit : ℕ) (kind : Kind) → policy_allowed Encoding policy ≡ true → default < 256
-    → byte_effect (acted_as (flag_of kind) (action_of (digit_of policy kind) default 0)) ≡ effect_of bytes_of policy default unit (Lacking kind)
+    → byte_effect (acted_as (flag_of kind) (action_of (digit_of policy kind) default 0)) ≡ effect_of bytes_of policy default unit (Err kind)
 unfolding effect_of
 byte_lacking policy default unit kind h d = byte_acted (digit_of policy kind) default unit (flag_of kind) (digit_low policy kind h) d
 
 -- a unit whose code is up to 00FF writes one byte
 pub byte_one : (policy : Policy) (default unit code : ℕ) → code ≤ 0xFF
-    → byte_effect (record { flag = 0; count = 1; value = code; stops = false }) ≡ effect_of bytes_of policy default unit (Found code)
+    → byte_effect (record { flag = 0; count = 1; value = code; stops = false }) ≡ effect_of bytes_of policy default unit (Ok code)
 unfolding byte_effect effect_of bytes_of
 byte_one policy default unit code h =
     let e : code % 256 ≡ code = omega arith in
@@ -66,6 +66,6 @@ byte_one policy default unit code h =
 
 -- a unit whose code is larger writes two bytes
 pub byte_two : (policy : Policy) (default unit code : ℕ) → 0xFF < code
-    → byte_effect (record { flag = 0; count = 2; value = code; stops = false }) ≡ effect_of bytes_of policy default unit (Found code)
+    → byte_effect (record { flag = 0; count = 2; value = code; stops = false }) ≡ effect_of bytes_of policy default unit (Ok code)
 unfolding byte_effect effect_of bytes_of
 byte_two policy default unit code h = rw (lt-leb code 0xFF h)

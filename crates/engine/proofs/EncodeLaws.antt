@@ -8,7 +8,7 @@ use native.Mathlib.Omega.{arith}
 use lib.ListN.{length, set}
 use borrow.Author.Tests.{eq-eqb, ne_eqb}
 use Rattle.codepage.specs.Reading.{is_high, unit_alone, bytes_of, encoder, settled}
-use Rattle.codepage.specs.declared.Lookup.{Lookup}
+use Rattle.codepage.specs.Reading.{Lookup}
 use Rattle.codepage_lookup.specs.declared.SettledCode.{SettledCode}
 use Rattle.codepage_lookup.specs.Profile.{SettledAs}
 use Rattle.engine.specs.declared.Policy.{Policy}

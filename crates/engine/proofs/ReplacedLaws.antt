@@ -8,8 +8,8 @@ use native.Mathlib.Omega.{arith}
 use lib.ListN.{length, length-append}
 use Rattle.codepage.specs.Reading.{Reader, Code, codes}
 use Rattle.codepage.specs.declared.Kind.TheVariants.{UndefinedSingle, UndefinedPair, Invalid}
-use Rattle.codepage.specs.declared.Lookup.{Lookup}
-use Rattle.codepage.specs.declared.Lookup.TheVariants.{Found, Lacking}
+use Rattle.codepage.specs.Reading.{Lookup}
+use Rattle.std.specs.Prelude.{Ok, Err}
 use Rattle.engine.specs.Policies.{action_of, replacing, skipping}
 use Rattle.engine.specs.Engine.{Effect, effect_of, converter, endless, fits, room_left, Fed, halt, after, take_when, take_code, take_codes, whole, lacks, lacking_in}
 
@@ -22,10 +22,10 @@ record Replaced (found : Lookup) (k m : Effect) : Type 0 where
 module _ (r : Reader) (default : ℕ) where
   replaced_one : (first : ℕ) (found : Lookup) → Replaced found (effect_of r.writes replacing default first found) (effect_of r.writes skipping default first found)
   unfolding effect_of action_of
-  replaced_one first (Found value) = record { goes = refl; skips = refl; size = omega arith }
-  replaced_one first (Lacking UndefinedSingle) = record { goes = refl; skips = refl; size = refl }
-  replaced_one first (Lacking UndefinedPair) = record { goes = refl; skips = refl; size = refl }
-  replaced_one first (Lacking Invalid) = record { goes = refl; skips = refl; size = refl }
+  replaced_one first (Ok value) = record { goes = refl; skips = refl; size = omega arith }
+  replaced_one first (Err UndefinedSingle) = record { goes = refl; skips = refl; size = refl }
+  replaced_one first (Err UndefinedPair) = record { goes = refl; skips = refl; size = refl }
+  replaced_one first (Err Invalid) = record { goes = refl; skips = refl; size = refl }
 
   -- a code that does not stop, with endless room: what it writes comes before what the rest does
   take_size : (n : ℕ) (k : Effect) (f : Fed) → k.stops ≡ false → length (take_code endless n k f).output ≡ length k.writes + length f.output

@@ -6,8 +6,8 @@ use Rattle.std.proofs.Math.Option.{Option, none, some}
 use Rattle.std.specs.Int.Bits.{bit_or}
 use Rattle.codepage.specs.CodePage.{CodePage}
 use Rattle.codepage.specs.Reading.{Reader, decoder, encoder, Code, size_of, call_codes, left_pending, codes}
-use Rattle.codepage.specs.declared.Lookup.{Lookup}
-use Rattle.codepage.specs.declared.Lookup.TheVariants.{Found, Lacking}
+use Rattle.codepage.specs.Reading.{Lookup}
+use Rattle.std.specs.Prelude.{Ok, Err}
 use Rattle.engine.specs.declared.Direction.{Direction}
 use Rattle.engine.specs.declared.Direction.TheVariants.{Decoding, Encoding}
 use Rattle.engine.specs.declared.Policy.{Policy}
@@ -29,8 +29,8 @@ acted flag (Write value) = record { flag = flag; writes = value ∷ []; stops = 
 
 -- what was found is written; else the policy's digit for its kind decides
 unfoldable pub effect_of : (writes : ℕ → List ℕ) → Policy → (default first : ℕ) → Lookup → Effect
-effect_of writes policy default first (Found value) = record { flag = 0; writes = writes value; stops = false }
-effect_of writes policy default first (Lacking kind) = acted (flag_of kind) (action_of (digit_of policy kind) default first)
+effect_of writes policy default first (Ok value) = record { flag = 0; writes = writes value; stops = false }
+effect_of writes policy default first (Err kind) = acted (flag_of kind) (action_of (digit_of policy kind) default first)
 
 -- A reader under a policy: what each code does.
 pub record Converter : Type 0 where
@@ -112,8 +112,8 @@ whole r policy default text = take_codes (converter r policy default) endless (c
 
 -- How many of some codes have no character.
 abbrev pub lacks : Lookup → ℕ
-lacks (Found value) = 0
-lacks (Lacking kind) = 1
+lacks (Ok value) = 0
+lacks (Err kind) = 1
 
 -- the codes without a character in a list, counted
 unfoldable pub lacking_in : List Code → ℕ

@@ -1,3 +1,5 @@
 pub mod Policies
 pub mod Engine
 pub mod Steps
+pub mod Converters
+pub mod Pending

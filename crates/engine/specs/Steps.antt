@@ -1,10 +1,8 @@
 -- Definitions that the contracts of the loops cite, and that no promise does: how the program's numbers stand for the effects
 -- and feedings of Engine.
-use Rattle.std.specs.Prelude.{Bool, true, false, List, [], ◌∷◌, ◌≡◌, ℕ, ◌+◌, ◌-◌, ◌*◌, ◌/◌, ◌%◌, ◌≤◌, eqb, length, take, drop}
+use Rattle.std.specs.Prelude.{Bool, true, false, List, [], ◌∷◌, ◌≡◌, ℕ, ◌+◌, ◌-◌, ◌/◌, ◌%◌, ◌≤◌, eqb, length, take, drop}
 use Rattle.std.proofs.Math.Option.{Option, none, some}
-use Rattle.codepage.specs.CodePage.{pick, leads}
-use Rattle.codepage.specs.Marks.{NoLowLead}
-use Rattle.codepage_lookup.specs.Profile.{KnownClasses}
+use Rattle.codepage.specs.CodePage.{pick}
 use Rattle.engine.specs.declared.policies.Action.{Action}
 use Rattle.engine.specs.declared.policies.Action.TheVariants.{Stop, Skip, Write}
 use Rattle.engine.specs.declared.policies.CodeEffect.{CodeEffect}
@@ -90,14 +88,6 @@ pub record Ends (F : Fed) (out₀ out : List ℕ) (r : Progress) : Type 0 where
   pub result : r ≡ summary F
   pub laid : out ≡ over out₀ F.output
   pub same : length out ≡ length out₀
-
--- the sizes that decoding needs, that every class is known, and that no lead is below 80
-pub record DecodeSizes (classes singles pairs : List ℕ) : Type 0 where
-  pub all_classes : length classes ≡ 256
-  pub all_singles : length singles ≡ 256
-  pub all_pairs : length pairs ≡ 256 * leads classes
-  pub known : KnownClasses classes
-  pub no_low_lead : NoLowLead classes
 
 -- a pending unit as a flag and a number; and how many units that is
 abbrev pub optional : Bool → ℕ → Option ℕ

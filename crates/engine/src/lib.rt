@@ -6,18 +6,19 @@
 ghost use Rattle.std.specs.Prelude.{◌≡◌};
 ghost use Rattle.engine.specs.Policies.{digits, standard, replacing, skipping};
 
+pub mod converters;
 pub mod policies;
 pub mod progress;
 
 // Decoding turns bytes into units, encoding units into bytes.
-#[derive(Clone, Copy)]
+#[derive(Clone, Copy, Debug, PartialEq, Eq)]
 pub enum Direction {
     Decoding,
     Encoding,
 }
 
 // What is done about a code without a character: a digit for an undefined single, an undefined pair, an invalid code.
-#[derive(Clone, Copy)]
+#[derive(Clone, Copy, Debug, PartialEq, Eq)]
 pub struct Policy {
     pub single: u8,
     pub pair: u8,

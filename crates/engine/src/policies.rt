@@ -1,11 +1,14 @@
 // What a policy does about a code: one function from its kind to the digit to the action, for both directions.
-ghost use Rattle.std.specs.Prelude.{◌≡◌, true, ℕ, ◌≤◌};
-ghost use Rattle.codepage.specs.Reading.{unit_of, bytes_of};
+ghost use Rattle.std.specs.Prelude.{◌≡◌, true, ℕ, ◌≤◌, length};
+ghost use Rattle.codepage.specs.Reading.{unit_of, bytes_of, is_high, settled};
+ghost use Rattle.codepage_lookup.specs.Tables.{LeadOf};
 ghost use Rattle.engine.specs.declared.Direction.TheVariants.{Encoding};
 ghost use Rattle.engine.specs.Policies.{digit_of, flag_of, action_of, highest_single, policy_allowed};
 ghost use Rattle.engine.specs.Engine.{effect_of};
-ghost use Rattle.engine.specs.Steps.{acted_as, unit_effect, byte_effect};
+ghost use Rattle.engine.specs.Steps.{acted_as, unit_effect, byte_effect, does_alone, does_settled};
+ghost use Rattle.engine.specs.Converters.{by_bytes, by_leads, by_units};
 
+use crate::converters::{ByteConverter, LeadConverter, UnitConverter};
 use crate::{Direction, Policy};
 use codepage::{Kind, Lookup};
 
@@ -137,13 +140,13 @@ pub fn decoded(policy: Policy, default: u16, byte: u8, lookup: Lookup) -> CodeEf
     ensures { unit_effect result ≡ effect_of unit_of policy default byte lookup }
 {
     match lookup {
-        Lookup::Found(value) => CodeEffect {
+        Ok(value) => CodeEffect {
             flag: 0,
             count: 1,
             value,
             stops: false,
         },
-        Lookup::Lacking(kind) => lacking(policy, default, byte, kind),
+        Err(kind) => lacking(policy, default, byte, kind),
     }
 }
 
@@ -153,14 +156,14 @@ pub fn encoded(policy: Policy, default: u8, lookup: Lookup) -> CodeEffect
     ensures { (unit : ℕ) → byte_effect result ≡ effect_of bytes_of policy default unit lookup }
 {
     match lookup {
-        Lookup::Found(value) => found_code(value),
-        Lookup::Lacking(kind) => lacking(policy, default as u16, 0, kind),
+        Ok(value) => found_code(value),
+        Err(kind) => lacking(policy, default as u16, 0, kind),
     }
 }
 
 // The bytes of a code.
 fn found_code(code: u16) -> CodeEffect
-    ensures { (policy : Policy) (default unit : ℕ) → byte_effect result ≡ effect_of bytes_of policy default unit (Lookup.Found code) }
+    ensures { (policy : Policy) (default unit : ℕ) → byte_effect result ≡ effect_of bytes_of policy default unit (Ok code) }
 {
     if code <= 0xFF {
         return CodeEffect {
@@ -175,5 +178,88 @@ fn found_code(code: u16) -> CodeEffect
         count: 2,
         value: code,
         stops: false,
+    }
+}
+
+impl<'a> ByteConverter<'a> {
+    // What a byte does that is a code by itself.
+    pub fn alone(&self, byte: u8) -> CodeEffect
+        ensures { unit_effect result ≡ does_alone (by_bytes self.now) byte }
+    {
+        let code = self.tables.byte_alone(byte);
+        decoded(self.policy, self.default, byte, code)
+    }
+
+    // The same, with the lead bytes found.
+    pub fn with_leads(&self) -> LeadConverter<'a>
+        ensures { (result.tables.tables ≡ self.now.tables) × (result.policy ≡ self.now.policy) × (result.default ≡ self.now.default) }
+    {
+        let tables = self.tables.with_leads();
+        LeadConverter {
+            tables,
+            policy: self.policy,
+            default: self.default,
+        }
+    }
+}
+
+// A code of two units or of the first alone: what it does, and how many units it takes after the first.
+#[derive(Clone, Copy)]
+pub struct SettledEffect {
+    pub effect: CodeEffect,
+    pub more: usize,
+}
+
+impl<'a> LeadConverter<'a> {
+    // The converter of bytes that this one goes by.
+    pub fn bytes(&self) -> ByteConverter<'a>
+        ensures { by_bytes result ≡ by_leads self.now }
+    {
+        let tables = self.tables;
+        ByteConverter {
+            tables: tables.tables,
+            policy: self.policy,
+            default: self.default,
+        }
+    }
+
+    // What a lead byte does, settled by the byte after it.
+    pub fn settled(&self, lead: u8, byte: u8) -> SettledEffect
+        requires { LeadOf self.now.tables.tables lead }
+        ensures effect { unit_effect result.effect ≡ does_settled (by_leads self.now) lead byte }
+        ensures more { (result.more ≤ 1) × (result.more ≡ length (settled (by_leads self.now).reader lead byte).more) }
+    {
+        let code = self.tables.settle(lead, byte);
+        let means = code.means;
+        let effect = decoded(self.policy, self.default, lead, means);
+        SettledEffect {
+            effect,
+            more: code.more,
+        }
+    }
+}
+
+impl UnitConverter<'_> {
+    // What a unit does that is a code by itself.
+    pub fn alone(&self, unit: u16) -> CodeEffect
+        ensures { byte_effect result ≡ does_alone (by_units self.now) unit }
+    {
+        let code = self.tables.unit_alone(unit);
+        encoded(self.policy, self.default, code)
+    }
+
+    // What a high surrogate does, settled by the unit after it.
+    pub fn settled(&self, high: u16, unit: u16) -> SettledEffect
+        requires { is_high high ≡ true }
+        ensures effect { byte_effect result.effect ≡ does_settled (by_units self.now) high unit }
+        ensures more { (result.more ≤ 1) × (result.more ≡ length (settled (by_units self.now).reader high unit).more) }
+    {
+        let code = codepage_lookup::settle_high(unit);
+        let means = code.means;
+        let effect = encoded(self.policy, self.default, means);
+        SettledEffect {
+            effect,
+            more: code.more,
+        }
     }
 }

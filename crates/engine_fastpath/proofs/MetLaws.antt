@@ -9,13 +9,13 @@ use lib.ListN.{length, get_or, drop, length-append}
 use lib.Bits.{or_zero_l}
 use Rattle.codepage.specs.CodePage.{entry_at, is_lead}
 use Rattle.codepage.specs.Reading.{Reader, byte_alone, byte_pair, unit_alone, bytes_of, decoder, encoder}
-use Rattle.codepage.specs.declared.Lookup.TheVariants.{Found}
+use Rattle.std.specs.Prelude.{Ok}
 use Rattle.codepage.proofs.ReadingLaws.{pair_joins, found_no_wait}
 use Rattle.engine.specs.declared.Policy.{Policy}
 use Rattle.engine.specs.Engine.{converter, endless, fits, room_left, after, take_code, feed_from}
 use Rattle.engine.proofs.EngineLaws.{after_none, after_after, take_fits}
 use Rattle.engine_fastpath.specs.Counts.{Met}
-use Rattle.engine_fastpath.specs.Words.{PlainPage}
+use Rattle.codepage_lookup.specs.Profile.{PlainPage}
 use Rattle.engine_fastpath.proofs.RunLaws.{written, one_found, two_found, one_byte, two_bytes}
 use Rattle.engine_fastpath.proofs.PlainLaws.{Same, plain_same}
 
@@ -73,11 +73,11 @@ module _ {R : Reader} {text : List ℕ} {i : ℕ} where
             step policy default ∙ take_fits endless n (written ys) F refl refl ∙ ap (λ (m : ℕ). after m ys 0 F) used;
       }
 
-  pub met_one : (value : ℕ) → i < length text → R.waits (get_or text i 0) ≡ false → R.one (get_or text i 0) ≡ Found value → length (R.writes value) ≤ 2
+  pub met_one : (value : ℕ) → i < length text → R.waits (get_or text i 0) ≡ false → R.one (get_or text i 0) ≡ Ok value → length (R.writes value) ≤ 2
       → Met R text i (i + 1) (length (R.writes value))
   met_one value h e q f = met_code 1 (R.writes value) (λ policy default. one_found R text i value h e q policy default true endless) (omega arith) (omega arith) f
 
-  pub met_two : (value : ℕ) → i + 1 < length text → R.waits (get_or text i 0) ≡ true → R.joins (get_or text i 0) (get_or text (i + 1) 0) ≡ true → R.two (get_or text i 0) (get_or text (i + 1) 0) ≡ Found value
+  pub met_two : (value : ℕ) → i + 1 < length text → R.waits (get_or text i 0) ≡ true → R.joins (get_or text i 0) (get_or text (i + 1) 0) ≡ true → R.two (get_or text i 0) (get_or text (i + 1) 0) ≡ Ok value
       → length (R.writes value) ≤ 2 → Met R text i (i + 2) (length (R.writes value))
   met_two value h e j q f = met_code 2 (R.writes value) (λ policy default. two_found R text i value h e j q policy default true endless) (omega arith) (omega arith) f
 
@@ -103,13 +103,13 @@ met_whole text all =
 -- ---- a code of decoding
 module _ (classes singles pairs : List ℕ) {text : List ℕ} {i n i₁ : ℕ} (m : Met (decoder classes singles pairs) text i i₁ n) (unit : ℕ) where
   -- one more byte that is a code alone and has a character
-  pub met_single : i₁ < length text → is_lead (entry_at classes (get_or text i₁ 0)) ≡ false → byte_alone classes singles (get_or text i₁ 0) ≡ Found unit
+  pub met_single : i₁ < length text → is_lead (entry_at classes (get_or text i₁ 0)) ≡ false → byte_alone classes singles (get_or text i₁ 0) ≡ Ok unit
       → Met (decoder classes singles pairs) text i (i₁ + 1) (n + 1)
   unfolding decoder
   met_single h e q = met_join m (met_one unit h e q (omega arith))
 
   -- one more lead and second byte that have a character
-  pub met_pair : i₁ + 1 < length text → is_lead (entry_at classes (get_or text i₁ 0)) ≡ true → byte_pair classes pairs (get_or text i₁ 0) (get_or text (i₁ + 1) 0) ≡ Found unit
+  pub met_pair : i₁ + 1 < length text → is_lead (entry_at classes (get_or text i₁ 0)) ≡ true → byte_pair classes pairs (get_or text i₁ 0) (get_or text (i₁ + 1) 0) ≡ Ok unit
       → Met (decoder classes singles pairs) text i (i₁ + 2) (n + 1)
   unfolding decoder
   met_pair h e q = met_join m (met_two unit h e (pair_joins classes pairs _ _ unit q) q (omega arith))
@@ -123,7 +123,7 @@ met_plain classes singles pairs page {text} {i} n h all =
     plain_same classes singles pairs (entry_at text (i + k)) p.0 p.1)
 
 -- ---- a unit of encoding
-module _ (index blocks : List ℕ) {text : List ℕ} {i n i₁ : ℕ} (m : Met (encoder index blocks) text i i₁ n) (code : ℕ) (h : i₁ < length text) (q : unit_alone index blocks (get_or text i₁ 0) ≡ Found code) where
+module _ (index blocks : List ℕ) {text : List ℕ} {i n i₁ : ℕ} (m : Met (encoder index blocks) text i i₁ n) (code : ℕ) (h : i₁ < length text) (q : unit_alone index blocks (get_or text i₁ 0) ≡ Ok code) where
   -- one more unit that has a code, of so many bytes
   pub met_unit : (count : ℕ) → count ≡ length (bytes_of code) → Met (encoder index blocks) text i (i₁ + 1) (n + count)
   unfolding encoder

@@ -13,13 +13,14 @@ use lib.Count.{count_trailing_zeros, trailing_le}
 use borrow.Author.Tests.{leb-true, leb-false}
 use Rattle.codepage.specs.CodePage.{entry_at, is_lead, is_single}
 use Rattle.codepage.specs.Reading.{byte_alone, decoder}
-use Rattle.codepage.specs.declared.Lookup.TheVariants.{Found, Lacking}
+use Rattle.std.specs.Prelude.{Ok, Err}
 use Rattle.codepage.specs.declared.Kind.TheVariants.{Invalid}
 use Rattle.codepage_lookup.proofs.ProfileLaws.{single_no_lead}
 use Rattle.engine_fastpath.specs.Runs.{Ran}
 use Rattle.codepage_lookup.specs.Words.{word_in, WordAt}
 use Rattle.codepage_lookup.proofs.WordLaws.{word_first}
-use Rattle.engine_fastpath.specs.Words.{PlainPage, Laid}
+use Rattle.codepage_lookup.specs.Profile.{PlainPage}
+use Rattle.engine_fastpath.specs.Words.{Laid}
 use Rattle.engine_fastpath.proofs.RunLaws.{ran_start, ran_at, ran_single}
 
 -- ---- zeros at a number's end
@@ -224,14 +225,14 @@ module _ (classes singles pairs : List ℕ) (page : PlainPage classes singles) {
       subst (λ (l : List ℕ). Ran (decoder classes singles pairs) piece out i w l (i + n) (w + n)) (laid_one (lays_laid piece i out w n f) a) (ran_lays n h f all)
 
 -- ---- bytes alone
-pub alone_no_lead : (classes singles : List ℕ) (byte unit : ℕ) → byte_alone classes singles byte ≡ Found unit → is_lead (entry_at classes byte) ≡ false
+pub alone_no_lead : (classes singles : List ℕ) (byte unit : ℕ) → byte_alone classes singles byte ≡ Ok unit → is_lead (entry_at classes byte) ≡ false
 unfolding byte_alone
 alone_no_lead classes singles byte unit e = by_single (is_single (entry_at classes byte)) refl
   where
     by_single : (t : Bool) → is_single (entry_at classes byte) ≡ t → is_lead (entry_at classes byte) ≡ false
     by_single true q = single_no_lead (entry_at classes byte) q
     by_single false q =
-        let lacks : Lacking Invalid ≡ Found unit = rw q at e in
+        let lacks : Err Invalid ≡ Ok unit = rw q at e in
         absurd (let z : ◌≡◌ {A = ℕ} 0 1 = cc in omega arith)
 
 -- ---- the room for as many units as there are bytes

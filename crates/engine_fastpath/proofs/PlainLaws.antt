@@ -13,7 +13,7 @@ use lib.Bits.{bit_or, or_zero_l, or_add_and, and_le_l, and_le_r}
 use borrow.Author.Tests.{le-leb, leb-true, leb-false}
 use Rattle.codepage.specs.CodePage.{entry_at, is_lead}
 use Rattle.codepage.specs.Reading.{Reader, byte_alone, bytes_of, unit_alone, decoder, encoder}
-use Rattle.codepage.specs.declared.Lookup.TheVariants.{Found}
+use Rattle.std.specs.Prelude.{Ok}
 use Rattle.codepage.proofs.ReadingLaws.{found_no_wait}
 use Rattle.engine.specs.declared.Policy.{Policy}
 use Rattle.codepage.specs.Lent.{over}
@@ -74,7 +74,7 @@ copied_all piece before out c = sym (take-append-drop (length piece) out) ∙ ap
 -- ---- feeding
 -- a unit that is a code of its own, written as it is
 abbrev pub Same : Reader → ℕ → Type 0
-Same R a = (R.waits a ≡ false) × (R.one a ≡ Found a) × (R.writes a ≡ a ∷ [])
+Same R a = (R.waits a ≡ false) × (R.one a ≡ Ok a) × (R.writes a ≡ a ∷ [])
 
 one_more : (a : ℕ) (l : List ℕ) → after 1 (a ∷ []) 0 (all_taken l) ≡ all_taken (a ∷ l)
 unfolding after
@@ -102,12 +102,12 @@ plain_fed R policy default last room (a ∷ piece) h all =
     (plain_fed R policy default last (room - 1) piece (omega arith) (λ k b. all (suc k) (omega arith)))
 
 -- ---- the two directions
-pub plain_same : (classes singles pairs : List ℕ) (byte : ℕ) → is_lead (entry_at classes byte) ≡ false → byte_alone classes singles byte ≡ Found byte → Same (decoder classes singles pairs) byte
+pub plain_same : (classes singles pairs : List ℕ) (byte : ℕ) → is_lead (entry_at classes byte) ≡ false → byte_alone classes singles byte ≡ Ok byte → Same (decoder classes singles pairs) byte
 unfolding decoder
 plain_same classes singles pairs byte e q = (e, q, refl)
 
 -- a unit below 80 that is its own code is written as it is
-pub plain_unit : (index blocks : List ℕ) (unit : ℕ) → unit < 0x80 → unit_alone index blocks unit ≡ Found unit → Same (encoder index blocks) unit
+pub plain_unit : (index blocks : List ℕ) (unit : ℕ) → unit < 0x80 → unit_alone index blocks unit ≡ Ok unit → Same (encoder index blocks) unit
 unfolding encoder bytes_of
 plain_unit index blocks unit h q = (found_no_wait index blocks unit unit q, q, rw (le-leb unit 0xFF (omega arith)))
 

@@ -12,7 +12,7 @@ use lib.Bits.{bit_or, or_zero_r}
 use borrow.Author.Tests.{le-leb, leb-true, ne_eqb}
 use Rattle.codepage.specs.CodePage.{pick, entry_at, is_single, is_lead}
 use Rattle.codepage.specs.Reading.{Reader, Code, together, settled, lookup, byte_alone, byte_pair, unit_alone, bytes_of, decoder, encoder}
-use Rattle.codepage.specs.declared.Lookup.TheVariants.{Found}
+use Rattle.std.specs.Prelude.{Ok}
 use Rattle.engine.specs.declared.Policy.{Policy}
 use Rattle.engine.specs.declared.progress.Progress.{Progress}
 use Rattle.engine.specs.Engine.{Effect, effect_of, converter, Room, limit, room_left, Fed, after, take_code, feed_from}
@@ -31,7 +31,7 @@ written ys = record { flag = 0; writes = ys; stops = false }
 -- ---- a code that has a character, in any room
 module _ (R : Reader) (piece : List ℕ) (i value : ℕ) where
   -- a unit that is a code of its own
-  pub one_found : i < length piece → R.waits (get_or piece i 0) ≡ false → R.one (get_or piece i 0) ≡ Found value
+  pub one_found : i < length piece → R.waits (get_or piece i 0) ≡ false → R.one (get_or piece i 0) ≡ Ok value
       → (policy : Policy) (default : ℕ) (last : Bool) (room : Room)
       → feed_from (converter R policy default) last room none (drop i piece)
       ≡ take_code room 1 (written (R.writes value)) (feed_from (converter R policy default) last (room_left room (length (R.writes value))) none (drop (i + 1) piece))
@@ -40,7 +40,7 @@ module _ (R : Reader) (piece : List ℕ) (i value : ℕ) where
       one_step (converter R policy default) last piece i (written (R.writes value)) h false 0 refl e (sym (ap (effect_of R.writes policy default (get_or piece i 0)) q)) room
 
   -- a unit that waits, and the one after it
-  pub two_found : i + 1 < length piece → R.waits (get_or piece i 0) ≡ true → R.joins (get_or piece i 0) (get_or piece (i + 1) 0) ≡ true → R.two (get_or piece i 0) (get_or piece (i + 1) 0) ≡ Found value
+  pub two_found : i + 1 < length piece → R.waits (get_or piece i 0) ≡ true → R.joins (get_or piece i 0) (get_or piece (i + 1) 0) ≡ true → R.two (get_or piece i 0) (get_or piece (i + 1) 0) ≡ Ok value
       → (policy : Policy) (default : ℕ) (last : Bool) (room : Room)
       → feed_from (converter R policy default) last room none (drop i piece)
       ≡ take_code room 2 (written (R.writes value)) (feed_from (converter R policy default) last (room_left room (length (R.writes value))) none (drop (i + 2) piece))
@@ -130,11 +130,11 @@ module _ {R : Reader} {piece out : List ℕ} {i w : ℕ} where
       }
 
   module _ {out₁ : List ℕ} {i₁ w₁ : ℕ} (r : Ran R piece out i w out₁ i₁ w₁) where
-    pub ran_one : (value : ℕ) → i₁ < length piece → R.waits (get_or piece i₁ 0) ≡ false → R.one (get_or piece i₁ 0) ≡ Found value
+    pub ran_one : (value : ℕ) → i₁ < length piece → R.waits (get_or piece i₁ 0) ≡ false → R.one (get_or piece i₁ 0) ≡ Ok value
         → w₁ + length (R.writes value) ≤ length out₁ → Ran R piece out i w (sets out₁ w₁ (R.writes value)) (i₁ + 1) (w₁ + length (R.writes value))
     ran_one value h e q f = ran_more 1 (R.writes value) r (one_found R piece i₁ value h e q) (omega arith) f
 
-    pub ran_two : (value : ℕ) → i₁ + 1 < length piece → R.waits (get_or piece i₁ 0) ≡ true → R.joins (get_or piece i₁ 0) (get_or piece (i₁ + 1) 0) ≡ true → R.two (get_or piece i₁ 0) (get_or piece (i₁ + 1) 0) ≡ Found value
+    pub ran_two : (value : ℕ) → i₁ + 1 < length piece → R.waits (get_or piece i₁ 0) ≡ true → R.joins (get_or piece i₁ 0) (get_or piece (i₁ + 1) 0) ≡ true → R.two (get_or piece i₁ 0) (get_or piece (i₁ + 1) 0) ≡ Ok value
         → w₁ + length (R.writes value) ≤ length out₁ → Ran R piece out i w (sets out₁ w₁ (R.writes value)) (i₁ + 2) (w₁ + length (R.writes value))
     ran_two value h e j q f = ran_more 2 (R.writes value) r (two_found R piece i₁ value h e j q) (omega arith) f
 
@@ -179,19 +179,19 @@ some_bytes code = by_size (leb code 0xFF)
 -- ---- a code of decoding
 module _ (classes singles pairs : List ℕ) {piece out : List ℕ} {i w : ℕ} {out₁ : List ℕ} {i₁ w₁ : ℕ} (r : Ran (decoder classes singles pairs) piece out i w out₁ i₁ w₁) (unit : ℕ) (f : w₁ < length out₁) where
   -- one more byte that is a code alone and has a character
-  pub ran_single : i₁ < length piece → is_lead (entry_at classes (get_or piece i₁ 0)) ≡ false → byte_alone classes singles (get_or piece i₁ 0) ≡ Found unit
+  pub ran_single : i₁ < length piece → is_lead (entry_at classes (get_or piece i₁ 0)) ≡ false → byte_alone classes singles (get_or piece i₁ 0) ≡ Ok unit
       → Ran (decoder classes singles pairs) piece out i w (set out₁ w₁ unit) (i₁ + 1) (w₁ + 1)
   unfolding decoder
   ran_single h e q = ran_one r unit h e q (omega arith)
 
   -- one more lead and second byte that have a character
-  pub ran_pair : i₁ + 1 < length piece → is_lead (entry_at classes (get_or piece i₁ 0)) ≡ true → byte_pair classes pairs (get_or piece i₁ 0) (get_or piece (i₁ + 1) 0) ≡ Found unit
+  pub ran_pair : i₁ + 1 < length piece → is_lead (entry_at classes (get_or piece i₁ 0)) ≡ true → byte_pair classes pairs (get_or piece i₁ 0) (get_or piece (i₁ + 1) 0) ≡ Ok unit
       → Ran (decoder classes singles pairs) piece out i w (set out₁ w₁ unit) (i₁ + 2) (w₁ + 1)
   unfolding decoder
   ran_pair h e q = ran_two r unit h e (pair_joins classes pairs _ _ unit q) q (omega arith)
 
 -- ---- a unit of encoding
-module _ (index blocks : List ℕ) {piece out : List ℕ} {i w : ℕ} {out₁ : List ℕ} {i₁ w₁ : ℕ} (r : Ran (encoder index blocks) piece out i w out₁ i₁ w₁) (code : ℕ) (h : i₁ < length piece) (q : unit_alone index blocks (get_or piece i₁ 0) ≡ Found code) where
+module _ (index blocks : List ℕ) {piece out : List ℕ} {i w : ℕ} {out₁ : List ℕ} {i₁ w₁ : ℕ} (r : Ran (encoder index blocks) piece out i w out₁ i₁ w₁) (code : ℕ) (h : i₁ < length piece) (q : unit_alone index blocks (get_or piece i₁ 0) ≡ Ok code) where
   -- one more unit whose code is one byte
   pub ran_byte : code ≤ 0xFF → w₁ < length out₁ → Ran (encoder index blocks) piece out i w (set out₁ w₁ code) (i₁ + 1) (w₁ + 1)
   unfolding encoder
@@ -208,7 +208,7 @@ module _ (index blocks : List ℕ) {piece out : List ℕ} {i w : ℕ} {out₁ : 
       rw (laid, many) (ran_one r code h (found_no_wait index blocks (get_or piece i₁ 0) code q) q (omega (arith, two_bytes code)))
 
 -- ---- singles
-pub single_found : (classes singles : List ℕ) (byte : ℕ) → is_single (entry_at classes byte) ≡ true → (entry_at singles byte ≡ 0xFFFF → ⊥) → byte_alone classes singles byte ≡ Found (entry_at singles byte)
+pub single_found : (classes singles : List ℕ) (byte : ℕ) → is_single (entry_at classes byte) ≡ true → (entry_at singles byte ≡ 0xFFFF → ⊥) → byte_alone classes singles byte ≡ Ok (entry_at singles byte)
 unfolding byte_alone lookup
 single_found classes singles byte e n = rw (e, ne_eqb (entry_at singles byte) 0xFFFF n)
 
@@ -283,7 +283,7 @@ eight_bytes a b c d e = omega (arith, e, length-append (bytes_of a ++ bytes_of b
 
 -- two more units of any codes, whose bytes are laid
 ran_both : (index blocks : List ℕ) {piece out : List ℕ} {i w : ℕ} {out₁ : List ℕ} {i₁ w₁ : ℕ} (r : Ran (encoder index blocks) piece out i w out₁ i₁ w₁) (a b : ℕ) → i₁ + 2 ≤ length piece
-    → unit_alone index blocks (get_or piece i₁ 0) ≡ Found a → unit_alone index blocks (get_or piece (i₁ + 1) 0) ≡ Found b → w₁ + 4 ≤ length out₁
+    → unit_alone index blocks (get_or piece i₁ 0) ≡ Ok a → unit_alone index blocks (get_or piece (i₁ + 1) 0) ≡ Ok b → w₁ + 4 ≤ length out₁
     → Ran (encoder index blocks) piece out i w (sets out₁ w₁ (bytes_of a ++ bytes_of b)) (i₁ + 2) (w₁ + length (bytes_of a ++ bytes_of b))
 ran_both index blocks {piece} {out} {i} {w} {out₁} {i₁} {w₁} r a b h qa qb f =
     let one = ran_unit index blocks r a (omega arith) qa (sets out₁ w₁ (bytes_of a)) (length (bytes_of a)) refl refl (omega arith) in
@@ -294,8 +294,8 @@ ran_both index blocks {piece} {out} {i} {w} {out₁} {i₁} {w₁} r a b h qa qb
 
 -- four more units of any codes, whose bytes are laid
 pub ran_four : (index blocks : List ℕ) {piece out : List ℕ} {i w : ℕ} {out₁ : List ℕ} {i₁ w₁ : ℕ} (r : Ran (encoder index blocks) piece out i w out₁ i₁ w₁) (a b c d : ℕ) → i₁ + 4 ≤ length piece
-    → unit_alone index blocks (get_or piece i₁ 0) ≡ Found a → unit_alone index blocks (get_or piece (i₁ + 1) 0) ≡ Found b
-    → unit_alone index blocks (get_or piece (i₁ + 2) 0) ≡ Found c → unit_alone index blocks (get_or piece (i₁ + 3) 0) ≡ Found d → w₁ + 8 ≤ length out₁
+    → unit_alone index blocks (get_or piece i₁ 0) ≡ Ok a → unit_alone index blocks (get_or piece (i₁ + 1) 0) ≡ Ok b
+    → unit_alone index blocks (get_or piece (i₁ + 2) 0) ≡ Ok c → unit_alone index blocks (get_or piece (i₁ + 3) 0) ≡ Ok d → w₁ + 8 ≤ length out₁
     → (out₂ : List ℕ) (count : ℕ) → (count ≡ length (bytes_of_four a b c d)) × (out₂ ≡ sets out₁ w₁ (bytes_of_four a b c d)) → Ran (encoder index blocks) piece out i w out₂ (i₁ + 4) (w₁ + count)
 ran_four index blocks {piece} {out} {i} {w} {out₁} {i₁} {w₁} r a b c d h qa qb qc qd f out₂ count laid =
     let xs = bytes_of a ++ bytes_of b in

@@ -1,89 +1,73 @@
 // Counting by runs of codes that have characters: the quick loops of converting, with nothing written.
 ghost use Rattle.std.specs.Prelude.{◌≡◌, true, List, ℕ, ◌+◌, ◌*◌, ◌≤◌, ◌<◌, length};
-ghost use Rattle.codepage.specs.CodePage.{entry_at, is_single, is_lead, leads_below};
-ghost use Rattle.codepage.specs.Reading.{decoder, encoder};
-ghost use Rattle.codepage_lookup.specs.Profile.{LeadsAt, NoCodes};
-ghost use Rattle.engine.specs.Steps.{DecodeSizes};
-ghost use Rattle.engine_fastpath.specs.Words.{PlainPage};
+ghost use Rattle.codepage.specs.CodePage.{entry_at, is_single};
+ghost use Rattle.codepage.specs.Reading.{decoder};
+ghost use Rattle.codepage_lookup.specs.Profile.{PlainPage, NoCodes};
+ghost use Rattle.codepage_lookup.specs.Tables.{byte_reader, unit_reader};
 ghost use Rattle.engine_fastpath.specs.Counts.{Met};
 
 use crate::runs::Place;
 use crate::{mixed, plain, runs};
-use codepage_lookup::profile::Leads;
+use codepage_lookup::tables::{ByteTables, LeadTables, UnitTables};
 use codepage_lookup::words;
 
 // A run of fewer codes is short.
 const FEW: usize = 16;
 
 // Whether a whole text is plain bytes that the page keeps as they are: each is one unit.
-pub fn all_plain_bytes(classes: &[u8], singles: &[u16], text: &[u8]) -> bool
-    requires { (length classes.now ≡ 256) × (length singles.now ≡ 256) }
-    ensures { result ≡ true → (pairs : List ℕ) → Met (decoder classes.now singles.now pairs) text.now 0 (length text.now) (length text.now) }
+pub fn all_plain_bytes(tables: &ByteTables<'_>, text: &[u8]) -> bool
+    ensures { result ≡ true → (pairs : List ℕ) → Met (decoder tables.now.classes.now tables.now.singles.now pairs) text.now 0 (length text.now) (length text.now) }
 {
     if !plain::bytes_below_80(text) {
         return false;
     }
-    codepage_lookup::profile::plain_bytes(classes, singles)
+    tables.keeps_plain()
 }
 
 // Whether a whole text is plain units that the page keeps as they are: each is one byte. No unit is over `bound`.
-pub fn all_plain_units(bound: u16, index: &[u8], blocks: &[u16], text: &[u16]) -> bool
-    requires index_len { length index.now ≡ 256 }
-    requires by_index { (high : ℕ) → 256 * entry_at index.now high + 256 ≤ length blocks.now }
-    requires by_index_2 { (k : ℕ) → entry_at text.now k ≤ bound }
-    ensures { result ≡ true → Met (encoder index.now blocks.now) text.now 0 (length text.now) (length text.now) }
+pub fn all_plain_units(tables: &UnitTables<'_>, bound: u16, text: &[u16]) -> bool
+    requires { (k : ℕ) → entry_at text.now k ≤ bound }
+    ensures { result ≡ true → Met (unit_reader tables.now) text.now 0 (length text.now) (length text.now) }
 {
     if 0x80 <= bound {
         return false;
     }
-    codepage_lookup::profile::plain_units(index, blocks)
+    tables.keeps_plain()
 }
 
 // Bytes of a page that has only singles, up to the first without a character: how many.
-pub fn met_singles(singles: &[u16], text: &[u8], from: usize) -> usize
-    requires { (length singles.now ≡ 256) × (from ≤ length text.now) }
-    ensures { (classes pairs : List ℕ) → ((byte : ℕ) → byte < 256 → is_single (entry_at classes byte) ≡ true) → Met (decoder classes singles.now pairs) text.now from (from + result) result }
+pub fn met_singles(tables: &ByteTables<'_>, text: &[u8], from: usize) -> usize
+    requires { from ≤ length text.now }
+    ensures { (classes pairs : List ℕ) → ((byte : ℕ) → byte < 256 → is_single (entry_at classes byte) ≡ true) → Met (decoder classes tables.now.singles.now pairs) text.now from (from + result) result }
 {
+    let singles = tables.singles;
     let n = text.len() - from;
-    let mut k = 0;
-    while k < n {
+    for k in 0..n {
         let at = text[from + k] as usize;
         if singles[at] == 0xFFFF {
             return k;
         }
-        k += 1;
     }
-    k
+    n
 }
 
 // Pairs that have characters, in `n` bytes at most: how many.
-fn met_pairs(
-    leads: Leads,
-    classes: &[u8],
-    pairs: &[u16],
-    text: &[u8],
-    from: usize,
-    n: usize,
-) -> usize
-    requires classes_len { (length classes.now ≡ 256) × LeadsAt classes.now leads }
-    requires by_index { (lead : ℕ) → is_lead (entry_at classes.now lead) ≡ true → 256 * leads_below classes.now lead + 256 ≤ length pairs.now }
-    requires n_in_bounds { from + n ≤ length text.now }
-    ensures { (2 * result ≤ n) × ((singles : List ℕ) → Met (decoder classes.now singles pairs.now) text.now from (from + 2 * result) result) }
+fn met_pairs(tables: &LeadTables<'_>, text: &[u8], from: usize, n: usize) -> usize
+    requires { from + n ≤ length text.now }
+    ensures { (2 * result ≤ n) × Met (byte_reader tables.now.tables) text.now from (from + 2 * result) result }
 {
     let most = n / 2;
-    let mut k = 0;
-    while k < most {
+    for k in 0..most {
         let lead = text[from + 2 * k];
-        if !codepage_lookup::is_lead(classes, lead) {
+        if !tables.tables.is_lead(lead) {
             return k;
         }
-        let unit = codepage_lookup::pair_unit(classes, pairs, leads, lead, text[from + 2 * k + 1]);
+        let unit = tables.pair_unit(lead, text[from + 2 * k + 1]);
         if unit == 0xFFFF {
             return k;
         }
-        k += 1;
     }
-    k
+    most
 }
 
 // Plain bytes, `n` at most, up to eight at a time, where the page keeps them as they are: how many. Of the last seven none is met.
@@ -106,38 +90,26 @@ fn met_plain(plain: bool, text: &[u8], from: usize, n: usize) -> usize
 }
 
 // Bytes alone that have characters, `n` at most: how many.
-fn met_alone(classes: &[u8], singles: &[u16], text: &[u8], from: usize, n: usize) -> usize
-    requires { (length classes.now ≡ 256) × (length singles.now ≡ 256) × (from + n ≤ length text.now) }
-    ensures { (result ≤ n) × ((pairs : List ℕ) → Met (decoder classes.now singles.now pairs) text.now from (from + result) result) }
+fn met_alone(tables: &ByteTables<'_>, text: &[u8], from: usize, n: usize) -> usize
+    requires { from + n ≤ length text.now }
+    ensures { (result ≤ n) × Met (byte_reader tables.now) text.now from (from + result) result }
 {
-    let mut k = 0;
-    while k < n {
-        let unit = codepage_lookup::single_unit(classes, singles, text[from + k]);
+    for k in 0..n {
+        let unit = tables.single_unit(text[from + k]);
         if unit == 0xFFFF {
             return k;
         }
-        k += 1;
     }
-    k
+    n
 }
 
 // Pairs and the plain bytes behind them; if there are none, bytes alone.
-fn met_mixed(
-    plain: bool,
-    leads: Leads,
-    classes: &[u8],
-    singles: &[u16],
-    pairs: &[u16],
-    text: &[u8],
-    from: usize,
-    n: usize,
-) -> Place
-    requires decode_sizes { DecodeSizes classes.now singles.now pairs.now × (plain ≡ true → PlainPage classes.now singles.now) }
-    requires leads_at { LeadsAt classes.now leads }
+fn met_mixed(plain: bool, tables: &LeadTables<'_>, text: &[u8], from: usize, n: usize) -> Place
+    requires plain_page { plain ≡ true → PlainPage tables.now.tables.classes.now tables.now.tables.singles.now }
     requires n_in_bounds { from + n ≤ length text.now }
-    ensures { Met (decoder classes.now singles.now pairs.now) text.now from result.read result.written }
+    ensures { Met (byte_reader tables.now.tables) text.now from result.read result.written }
 {
-    let count = met_pairs(leads, classes, pairs, text, from, n);
+    let count = met_pairs(tables, text, from, n);
     let i = from + 2 * count;
     let kept = met_plain(plain, text, i, n - 2 * count);
     if 0 < count + kept {
@@ -146,7 +118,7 @@ fn met_mixed(
             written: count + kept,
         };
     }
-    let alone = met_alone(classes, singles, text, from, n);
+    let alone = met_alone(&tables.tables, text, from, n);
     Place {
         read: from + alone,
         written: alone,
@@ -154,26 +126,17 @@ fn met_mixed(
 }
 
 // The first few codes of a run, one after the other, which costs less where runs are short.
-fn met_few(
-    leads: Leads,
-    classes: &[u8],
-    singles: &[u16],
-    pairs: &[u16],
-    text: &[u8],
-    from: usize,
-) -> Place
-    requires decode_sizes { DecodeSizes classes.now singles.now pairs.now }
-    requires leads_at { LeadsAt classes.now leads }
-    requires from_in_bounds { from ≤ length text.now }
-    ensures { Met (decoder classes.now singles.now pairs.now) text.now from result.read result.written }
+fn met_few(tables: &LeadTables<'_>, text: &[u8], from: usize) -> Place
+    requires { from ≤ length text.now }
+    ensures { Met (byte_reader tables.now.tables) text.now from result.read result.written }
 {
     let n = runs::smaller(FEW, (text.len() - from) / 2);
     let mut i = from;
     let mut k = 0;
     while k < n {
         let byte = text[i];
-        if codepage_lookup::is_lead(classes, byte) {
-            let unit = codepage_lookup::pair_unit(classes, pairs, leads, byte, text[i + 1]);
+        if tables.tables.is_lead(byte) {
+            let unit = tables.pair_unit(byte, text[i + 1]);
             if unit == 0xFFFF {
                 return Place {
                     read: i,
@@ -183,7 +146,7 @@ fn met_few(
             i += 2;
             k += 1;
         } else {
-            let unit = codepage_lookup::single_unit(classes, singles, byte);
+            let unit = tables.tables.single_unit(byte);
             if unit == 0xFFFF {
                 return Place {
                     read: i,
@@ -201,33 +164,15 @@ fn met_few(
 }
 
 // The codes of a long run, many at a time.
-fn met_long(
-    plain: bool,
-    leads: Leads,
-    classes: &[u8],
-    singles: &[u16],
-    pairs: &[u16],
-    text: &[u8],
-    from: usize,
-) -> Place
-    requires decode_sizes { DecodeSizes classes.now singles.now pairs.now × (plain ≡ true → PlainPage classes.now singles.now) }
-    requires leads_at { LeadsAt classes.now leads }
+fn met_long(plain: bool, tables: &LeadTables<'_>, text: &[u8], from: usize) -> Place
+    requires plain_page { plain ≡ true → PlainPage tables.now.tables.classes.now tables.now.tables.singles.now }
     requires from_in_bounds { from ≤ length text.now }
-    ensures { Met (decoder classes.now singles.now pairs.now) text.now from result.read result.written }
+    ensures { Met (byte_reader tables.now.tables) text.now from result.read result.written }
 {
     let mut i = from;
     let mut w = 0;
     while i < text.len() {
-        let place = met_mixed(
-            plain,
-            leads,
-            classes,
-            singles,
-            pairs,
-            text,
-            i,
-            text.len() - i,
-        );
+        let place = met_mixed(plain, tables, text, i, text.len() - i);
         if place.read <= i {
             return Place {
                 read: i,
@@ -244,26 +189,17 @@ fn met_long(
 }
 
 // Codes of one or two bytes that have characters: where they end, and how many units they write.
-pub fn met_codes(
-    plain: bool,
-    leads: Leads,
-    classes: &[u8],
-    singles: &[u16],
-    pairs: &[u16],
-    text: &[u8],
-    from: usize,
-) -> Place
-    requires decode_sizes { DecodeSizes classes.now singles.now pairs.now × (plain ≡ true → PlainPage classes.now singles.now) }
-    requires leads_at { LeadsAt classes.now leads }
+pub fn met_codes(plain: bool, tables: &LeadTables<'_>, text: &[u8], from: usize) -> Place
+    requires plain_page { plain ≡ true → PlainPage tables.now.tables.classes.now tables.now.tables.singles.now }
     requires from_in_bounds { from ≤ length text.now }
-    ensures { Met (decoder classes.now singles.now pairs.now) text.now from result.read result.written }
+    ensures { Met (byte_reader tables.now.tables) text.now from result.read result.written }
 {
-    let few = met_few(leads, classes, singles, pairs, text, from);
+    let few = met_few(tables, text, from);
     if few.written < FEW {
         return few;
     }
     let at = few.read;
-    let rest = met_long(plain, leads, classes, singles, pairs, text, at);
+    let rest = met_long(plain, tables, text, at);
     Place {
         read: rest.read,
         written: few.written + rest.written,
@@ -271,35 +207,28 @@ pub fn met_codes(
 }
 
 // Units whose codes are one byte: how many.
-fn met_bytes(index: &[u8], blocks: &[u16], text: &[u16], from: usize) -> usize
-    requires index_len { length index.now ≡ 256 }
-    requires by_index { (high : ℕ) → 256 * entry_at index.now high + 256 ≤ length blocks.now }
-    requires from_in_bounds { (from ≤ length text.now) × NoCodes index.now blocks.now text.now }
-    ensures { Met (encoder index.now blocks.now) text.now from (from + result) result }
+fn met_bytes(tables: &UnitTables<'_>, text: &[u16], from: usize) -> usize
+    requires from_in_bounds { (from ≤ length text.now) × NoCodes tables.now.index.now tables.now.blocks.now text.now }
+    ensures { Met (unit_reader tables.now) text.now from (from + result) result }
 {
     let n = text.len() - from;
-    let mut k = 0;
-    while k < n {
-        let code = codepage_lookup::code_of(index, blocks, text[from + k]);
+    for k in 0..n {
+        let code = tables.code_of(text[from + k]);
         if 0x100 <= code {
             return k;
         }
-        k += 1;
     }
-    k
+    n
 }
 
 // Units that have codes, of one byte or two.
-fn met_units(index: &[u8], blocks: &[u16], text: &[u16], from: usize) -> Place
-    requires index_len { length index.now ≡ 256 }
-    requires by_index { (high : ℕ) → 256 * entry_at index.now high + 256 ≤ length blocks.now }
-    requires from_in_bounds { (from ≤ length text.now) × NoCodes index.now blocks.now text.now }
-    ensures { Met (encoder index.now blocks.now) text.now from result.read result.written }
+fn met_units(tables: &UnitTables<'_>, text: &[u16], from: usize) -> Place
+    requires from_in_bounds { (from ≤ length text.now) × NoCodes tables.now.index.now tables.now.blocks.now text.now }
+    ensures { Met (unit_reader tables.now) text.now from result.read result.written }
 {
-    let mut i = from;
     let mut w = 0;
-    while i < text.len() {
-        let code = codepage_lookup::code_of(index, blocks, text[i]);
+    for i in from..text.len() {
+        let code = tables.code_of(text[i]);
         if code == 0xFFFF {
             return Place {
                 read: i,
@@ -307,21 +236,18 @@ fn met_units(index: &[u8], blocks: &[u16], text: &[u16], from: usize) -> Place
             };
         }
         w += runs::byte_count(code);
-        i += 1;
     }
     Place {
-        read: i,
+        read: text.len(),
         written: w,
     }
 }
 
 // Units that have codes: first those of one byte, which ask less. None are met where codes may not be asked.
-pub fn met_coded(asked: bool, index: &[u8], blocks: &[u16], text: &[u16], from: usize) -> Place
-    requires index_len { length index.now ≡ 256 }
-    requires by_index { (high : ℕ) → 256 * entry_at index.now high + 256 ≤ length blocks.now }
+pub fn met_coded(asked: bool, tables: &UnitTables<'_>, text: &[u16], from: usize) -> Place
     requires from_in_bounds { from ≤ length text.now }
-    requires no_codes { asked ≡ true → NoCodes index.now blocks.now text.now }
-    ensures { Met (encoder index.now blocks.now) text.now from result.read result.written }
+    requires no_codes { asked ≡ true → NoCodes tables.now.index.now tables.now.blocks.now text.now }
+    ensures { Met (unit_reader tables.now) text.now from result.read result.written }
 {
     if !asked {
         return Place {
@@ -329,8 +255,8 @@ pub fn met_coded(asked: bool, index: &[u8], blocks: &[u16], text: &[u16], from: 
             written: 0,
         };
     }
-    let count = met_bytes(index, blocks, text, from);
-    let units = met_units(index, blocks, text, from + count);
+    let count = met_bytes(tables, text, from);
+    let units = met_units(tables, text, from + count);
     Place {
         read: units.read,
         written: count + units.written,

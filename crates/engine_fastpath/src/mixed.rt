@@ -1,17 +1,17 @@
 // Text that mixes plain text and codes of two bytes. Eight bytes are read as one word, and up to eight plain ones are copied at
 // once.
 ghost use Rattle.std.specs.Prelude.{◌≡◌, true, List, ℕ, ◌+◌, ◌-◌, ◌*◌, ◌%◌, ◌≤◌, ◌<◌, length};
-ghost use Rattle.codepage.specs.CodePage.{entry_at, is_lead, leads_below};
+ghost use Rattle.codepage.specs.CodePage.{entry_at};
 ghost use Rattle.codepage.specs.Reading.{decoder};
-ghost use Rattle.codepage_lookup.specs.Profile.{LeadsAt, KnownClasses};
+ghost use Rattle.codepage_lookup.specs.Profile.{PlainPage, MixedPage};
+ghost use Rattle.codepage_lookup.specs.Tables.{byte_reader};
 ghost use Rattle.codepage_lookup.specs.Words.{WordAt};
-ghost use Rattle.engine.specs.Steps.{DecodeSizes};
 ghost use Rattle.engine_fastpath.specs.Runs.{Ran};
-ghost use Rattle.engine_fastpath.specs.Words.{PlainPage, MixedPage, Laid};
+ghost use Rattle.engine_fastpath.specs.Words.{Laid};
 
 use crate::runs;
 use crate::runs::Place;
-use codepage_lookup::profile::Leads;
+use codepage_lookup::tables::LeadTables;
 use codepage_lookup::words;
 
 // The first byte of a word.
@@ -102,56 +102,45 @@ fn run_of_plain(piece: &[u8], from: usize, at: usize, n: usize, out: &mut [u16])
 
 // Pairs that have characters, in `n` bytes at most: how many were taken.
 fn run_of_pairs(
-    leads: Leads,
-    classes: &[u8],
-    pairs: &[u16],
+    tables: &LeadTables<'_>,
     piece: &[u8],
     from: usize,
     at: usize,
     n: usize,
     out: &mut [u16],
 ) -> usize
-    requires classes_len { (length classes.now ≡ 256) × LeadsAt classes.now leads × KnownClasses classes.now }
-    requires by_index { (lead : ℕ) → is_lead (entry_at classes.now lead) ≡ true → 256 * leads_below classes.now lead + 256 ≤ length pairs.now }
-    requires n_in_bounds { (from + n ≤ length piece.now) × (at + n ≤ length out.old) }
-    ensures { (2 * result ≤ n) × ((singles : List ℕ) → Ran (decoder classes.now singles pairs.now) piece.now out.old from at out.new (from + 2 * result) (at + result)) }
+    requires { (from + n ≤ length piece.now) × (at + n ≤ length out.old) }
+    ensures { (2 * result ≤ n) × Ran (byte_reader tables.now.tables) piece.now out.old from at out.new (from + 2 * result) (at + result) }
 {
     let most = n / 2;
-    let mut k = 0;
-    while k < most {
+    for k in 0..most {
         let lead = piece[from + 2 * k];
-        let class = codepage_lookup::class_of(classes, lead);
-        if !codepage_lookup::known_lead(class) {
+        if !tables.tables.is_known_lead(lead) {
             return k;
         }
-        let unit = codepage_lookup::pair_unit(classes, pairs, leads, lead, piece[from + 2 * k + 1]);
+        let unit = tables.pair_unit(lead, piece[from + 2 * k + 1]);
         if unit == 0xFFFF {
             return k;
         }
         out[at + k] = unit;
-        k += 1;
     }
-    k
+    most
 }
 
 // Pairs and the plain bytes behind them; if there are none, bytes alone.
 fn take_mixed(
-    leads: Leads,
-    classes: &[u8],
-    singles: &[u16],
-    pairs: &[u16],
+    tables: &LeadTables<'_>,
     piece: &[u8],
     from: usize,
     at: usize,
     n: usize,
     out: &mut [u16],
 ) -> Place
-    requires decode_sizes { DecodeSizes classes.now singles.now pairs.now × MixedPage classes.now singles.now }
-    requires leads_at { LeadsAt classes.now leads }
+    requires mixed_page { MixedPage tables.now.tables.classes.now tables.now.tables.singles.now }
     requires n_in_bounds { (from + n ≤ length piece.now) × (at + n ≤ length out.old) }
-    ensures { (result.read ≤ from + n) × (result.written + (from + n - result.read) ≤ at + n) × Ran (decoder classes.now singles.now pairs.now) piece.now out.old from at out.new result.read result.written }
+    ensures { (result.read ≤ from + n) × (result.written + (from + n - result.read) ≤ at + n) × Ran (byte_reader tables.now.tables) piece.now out.old from at out.new result.read result.written }
 {
-    let count = run_of_pairs(leads, classes, pairs, piece, from, at, n, out);
+    let count = run_of_pairs(tables, piece, from, at, n, out);
     let i = from + 2 * count;
     let plain = run_of_plain(piece, i, at + count, n - 2 * count, out);
     if 0 < count + plain {
@@ -160,7 +149,7 @@ fn take_mixed(
             written: at + count + plain,
         };
     }
-    let alone = runs::run_of_alone(singles, piece, from, at, n, out);
+    let alone = runs::run_of_alone(&tables.tables, piece, from, at, n, out);
     Place {
         read: from + alone,
         written: at + alone,
@@ -169,25 +158,21 @@ fn take_mixed(
 
 // Codes of one or two bytes on a page whose mixed text goes by these loops.
 pub fn run_of_mixed(
-    leads: Leads,
-    classes: &[u8],
-    singles: &[u16],
-    pairs: &[u16],
+    tables: &LeadTables<'_>,
     piece: &[u8],
     from: usize,
     at: usize,
     out: &mut [u16],
 ) -> Place
-    requires decode_sizes { DecodeSizes classes.now singles.now pairs.now × MixedPage classes.now singles.now }
-    requires leads_at { LeadsAt classes.now leads }
+    requires mixed_page { MixedPage tables.now.tables.classes.now tables.now.tables.singles.now }
     requires from_in_bounds { (from ≤ length piece.now) × (at ≤ length out.old) }
-    ensures { Ran (decoder classes.now singles.now pairs.now) piece.now out.old from at out.new result.read result.written }
+    ensures { Ran (byte_reader tables.now.tables) piece.now out.old from at out.new result.read result.written }
 {
     let end = from + runs::smaller(piece.len() - from, out.len() - at);
     let mut i = from;
     let mut w = at;
     while i < end {
-        let place = take_mixed(leads, classes, singles, pairs, piece, i, w, end - i, out);
+        let place = take_mixed(tables, piece, i, w, end - i, out);
         if place.read <= i {
             return place;
         }
@@ -204,23 +189,18 @@ pub fn run_of_mixed(
 // the loops for mixed text; else code by code, which costs less where runs are short.
 pub fn run_of(
     long: bool,
-    leads: Leads,
-    classes: &[u8],
-    singles: &[u16],
-    pairs: &[u16],
+    tables: &LeadTables<'_>,
     piece: &[u8],
     from: usize,
     at: usize,
     out: &mut [u16],
 ) -> Place
-    requires decode_sizes { DecodeSizes classes.now singles.now pairs.now }
-    requires mixed_page { long ≡ true → MixedPage classes.now singles.now }
-    requires leads_at { LeadsAt classes.now leads }
+    requires mixed_page { long ≡ true → MixedPage tables.now.tables.classes.now tables.now.tables.singles.now }
     requires from_in_bounds { (from ≤ length piece.now) × (at ≤ length out.old) }
-    ensures { Ran (decoder classes.now singles.now pairs.now) piece.now out.old from at out.new result.read result.written }
+    ensures { Ran (byte_reader tables.now.tables) piece.now out.old from at out.new result.read result.written }
 {
     if long {
-        return run_of_mixed(leads, classes, singles, pairs, piece, from, at, out);
+        return run_of_mixed(tables, piece, from, at, out);
     }
-    runs::run_of_codes(leads, classes, singles, pairs, piece, from, at, out)
+    runs::run_of_codes(tables, piece, from, at, out)
 }

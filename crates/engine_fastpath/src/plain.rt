@@ -1,8 +1,11 @@
 // Text that a page maps to itself: found out for a whole piece, and copied many units at a time.
 ghost use Rattle.std.specs.Prelude.{◌≡◌, true, false, List, ℕ, ◌+◌, ◌*◌, ◌≤◌, ◌<◌, length};
 ghost use Rattle.codepage.specs.CodePage.{entry_at};
-ghost use Rattle.codepage.specs.Reading.{decoder, encoder};
+ghost use Rattle.codepage.specs.Reading.{decoder};
+ghost use Rattle.codepage_lookup.specs.Tables.{unit_reader};
 ghost use Rattle.engine_fastpath.specs.Runs.{EachBelow, Copied, Plain};
+
+use codepage_lookup::tables::{ByteTables, UnitTables};
 
 // The larger of two bytes.
 fn larger(a: u8, b: u8) -> u8
@@ -19,10 +22,8 @@ fn largest_byte(piece: &[u8]) -> u8
     ensures { (k : ℕ) → k < length piece.now → entry_at piece.now k ≤ result }
 {
     let mut most: u8 = 0;
-    let mut i: usize = 0;
-    while i < piece.len() {
+    for i in 0..piece.len() {
         most = larger(most, piece[i]);
-        i += 1;
     }
     most
 }
@@ -32,10 +33,8 @@ fn largest_unit(piece: &[u16]) -> u16
     ensures { (k : ℕ) → k < length piece.now → entry_at piece.now k ≤ result }
 {
     let mut most: u16 = 0;
-    let mut i: usize = 0;
-    while i < piece.len() {
+    for i in 0..piece.len() {
         most = most | piece[i];
-        i += 1;
     }
     most
 }
@@ -70,10 +69,8 @@ fn widen_block(piece: &[u8], from: usize, out: &mut [u16])
     requires { (from + 64 ≤ length piece.now) × (length piece.now ≤ length out.old) }
     ensures { (before : List ℕ) → Copied piece.now before out.old from → Copied piece.now before out.new (from + 64) }
 {
-    let mut i: usize = 0;
-    while i < 64 {
+    for i in 0..64 {
         out[from + i] = piece[from + i] as u16;
-        i += 1;
     }
 }
 
@@ -82,10 +79,8 @@ fn widen_rest(piece: &[u8], from: usize, out: &mut [u16])
     requires { (from ≤ length piece.now) × (length piece.now ≤ length out.old) }
     ensures { (before : List ℕ) → Copied piece.now before out.old from → Copied piece.now before out.new (length piece.now) }
 {
-    let mut i = from;
-    while i < piece.len() {
+    for i in from..piece.len() {
         out[i] = piece[i] as u16;
-        i += 1;
     }
 }
 
@@ -107,10 +102,8 @@ fn narrow_block(piece: &[u16], from: usize, out: &mut [u8])
     requires { (from + 64 ≤ length piece.now) × (length piece.now ≤ length out.old) × EachBelow 0x80 piece.now }
     ensures { (before : List ℕ) → Copied piece.now before out.old from → Copied piece.now before out.new (from + 64) }
 {
-    let mut i: usize = 0;
-    while i < 64 {
+    for i in 0..64 {
         out[from + i] = piece[from + i] as u8;
-        i += 1;
     }
 }
 
@@ -119,10 +112,8 @@ fn narrow_rest(piece: &[u16], from: usize, out: &mut [u8])
     requires { (from ≤ length piece.now) × (length piece.now ≤ length out.old) × EachBelow 0x80 piece.now }
     ensures { (before : List ℕ) → Copied piece.now before out.old from → Copied piece.now before out.new (length piece.now) }
 {
-    let mut i = from;
-    while i < piece.len() {
+    for i in from..piece.len() {
         out[i] = piece[i] as u8;
-        i += 1;
     }
 }
 
@@ -140,9 +131,8 @@ fn narrow(piece: &[u16], out: &mut [u8])
 }
 
 // Decodes a piece of plain bytes whole, if it is one and fits.
-pub fn decode_plain(classes: &[u8], singles: &[u16], piece: &[u8], out: &mut [u16]) -> bool
-    requires { (length classes.now ≡ 256) × (length singles.now ≡ 256) }
-    ensures { (pairs : List ℕ) → Plain (decoder classes.now singles.now pairs) piece.now out.old result out.new }
+pub fn decode_plain(tables: &ByteTables<'_>, piece: &[u8], out: &mut [u16]) -> bool
+    ensures { (pairs : List ℕ) → Plain (decoder tables.now.classes.now tables.now.singles.now pairs) piece.now out.old result out.new }
 {
     if out.len() < piece.len() {
         return false;
@@ -150,7 +140,7 @@ pub fn decode_plain(classes: &[u8], singles: &[u16], piece: &[u8], out: &mut [u1
     if !bytes_below_80(piece) {
         return false;
     }
-    if !codepage_lookup::profile::plain_bytes(classes, singles) {
+    if !tables.keeps_plain() {
         return false;
     }
     widen(piece, out);
@@ -158,11 +148,9 @@ pub fn decode_plain(classes: &[u8], singles: &[u16], piece: &[u8], out: &mut [u1
 }
 
 // Encodes a piece of plain units whole, if it is one and fits. No unit is over `bound`.
-pub fn encode_plain(bound: u16, index: &[u8], blocks: &[u16], piece: &[u16], out: &mut [u8]) -> bool
-    requires index_len { length index.now ≡ 256 }
-    requires by_index { (high : ℕ) → 256 * entry_at index.now high + 256 ≤ length blocks.now }
-    requires by_index_2 { (k : ℕ) → entry_at piece.now k ≤ bound }
-    ensures { Plain (encoder index.now blocks.now) piece.now out.old result out.new }
+pub fn encode_plain(tables: &UnitTables<'_>, bound: u16, piece: &[u16], out: &mut [u8]) -> bool
+    requires { (k : ℕ) → entry_at piece.now k ≤ bound }
+    ensures { Plain (unit_reader tables.now) piece.now out.old result out.new }
 {
     if out.len() < piece.len() {
         return false;
@@ -170,7 +158,7 @@ pub fn encode_plain(bound: u16, index: &[u8], blocks: &[u16], piece: &[u16], out
     if 0x80 <= bound {
         return false;
     }
-    if !codepage_lookup::profile::plain_units(index, blocks) {
+    if !tables.keeps_plain() {
         return false;
     }
     narrow(piece, out);

@@ -1,13 +1,12 @@
 // Runs of codes that have characters: as many as come one after the other and fit, in loops that ask little of each.
 ghost use Rattle.std.specs.Prelude.{◌≡◌, true, ◌++◌, ℕ, ◌+◌, ◌*◌, ◌≤◌, ◌<◌, length};
 ghost use Rattle.std.proofs.lemmas.List.Edits.{sets};
-ghost use Rattle.codepage.specs.CodePage.{entry_at};
-ghost use Rattle.codepage_lookup.specs.Profile.{LeadsAt, NoCodes};
-ghost use Rattle.codepage.specs.Reading.{bytes_of, decoder, encoder};
-ghost use Rattle.engine.specs.Steps.{DecodeSizes};
+ghost use Rattle.codepage_lookup.specs.Profile.{NoCodes};
+ghost use Rattle.codepage_lookup.specs.Tables.{byte_reader, unit_reader};
+ghost use Rattle.codepage.specs.Reading.{bytes_of};
 ghost use Rattle.engine_fastpath.specs.Runs.{Ran, SinglesTaken};
 
-use codepage_lookup::profile::Leads;
+use codepage_lookup::tables::{ByteTables, LeadTables, UnitTables};
 
 // A run of fewer units is short.
 const FEW: usize = 8;
@@ -30,12 +29,12 @@ pub fn smaller(a: usize, b: usize) -> usize
 }
 
 // The next byte alone, if it has a character: how many bytes were taken, 0 or 1.
-fn take_one(singles: &[u16], piece: &[u8], i: usize, out: &mut [u16], w: usize) -> usize
-    requires { (length singles.now ≡ 256) × (i + 1 ≤ length piece.now) × (w + 1 ≤ length out.old) }
-    ensures { (result ≤ 1) × SinglesTaken singles.now piece.now out.old i w out.new result }
+fn take_one(tables: &ByteTables<'_>, piece: &[u8], i: usize, out: &mut [u16], w: usize) -> usize
+    requires { (i + 1 ≤ length piece.now) × (w + 1 ≤ length out.old) }
+    ensures { (result ≤ 1) × SinglesTaken tables.now.singles.now piece.now out.old i w out.new result }
 {
     let at = piece[i] as usize;
-    let unit = singles[at];
+    let unit = tables.singles[at];
     if unit == 0xFFFF {
         return 0;
     }
@@ -44,139 +43,132 @@ fn take_one(singles: &[u16], piece: &[u8], i: usize, out: &mut [u16], w: usize) 
 }
 
 // The next two bytes: how many were taken.
-fn take_two(singles: &[u16], piece: &[u8], i: usize, out: &mut [u16], w: usize) -> usize
-    requires { (length singles.now ≡ 256) × (i + 2 ≤ length piece.now) × (w + 2 ≤ length out.old) }
-    ensures { (result ≤ 2) × SinglesTaken singles.now piece.now out.old i w out.new result }
+fn take_two(tables: &ByteTables<'_>, piece: &[u8], i: usize, out: &mut [u16], w: usize) -> usize
+    requires { (i + 2 ≤ length piece.now) × (w + 2 ≤ length out.old) }
+    ensures { (result ≤ 2) × SinglesTaken tables.now.singles.now piece.now out.old i w out.new result }
 {
-    let taken = take_one(singles, piece, i, out, w);
+    let taken = take_one(tables, piece, i, out, w);
     if taken < 1 {
         return taken;
     }
-    1 + take_one(singles, piece, i + 1, out, w + 1)
+    1 + take_one(tables, piece, i + 1, out, w + 1)
 }
 
 // The next four bytes: how many were taken.
-fn take_four(singles: &[u16], piece: &[u8], i: usize, out: &mut [u16], w: usize) -> usize
-    requires { (length singles.now ≡ 256) × (i + 4 ≤ length piece.now) × (w + 4 ≤ length out.old) }
-    ensures { (result ≤ 4) × SinglesTaken singles.now piece.now out.old i w out.new result }
+fn take_four(tables: &ByteTables<'_>, piece: &[u8], i: usize, out: &mut [u16], w: usize) -> usize
+    requires { (i + 4 ≤ length piece.now) × (w + 4 ≤ length out.old) }
+    ensures { (result ≤ 4) × SinglesTaken tables.now.singles.now piece.now out.old i w out.new result }
 {
-    let taken = take_two(singles, piece, i, out, w);
+    let taken = take_two(tables, piece, i, out, w);
     if taken < 2 {
         return taken;
     }
-    2 + take_two(singles, piece, i + 2, out, w + 2)
+    2 + take_two(tables, piece, i + 2, out, w + 2)
 }
 
 // The next eight bytes: how many were taken.
-fn take_eight(singles: &[u16], piece: &[u8], i: usize, out: &mut [u16], w: usize) -> usize
-    requires { (length singles.now ≡ 256) × (i + 8 ≤ length piece.now) × (w + 8 ≤ length out.old) }
-    ensures { (result ≤ 8) × SinglesTaken singles.now piece.now out.old i w out.new result }
+fn take_eight(tables: &ByteTables<'_>, piece: &[u8], i: usize, out: &mut [u16], w: usize) -> usize
+    requires { (i + 8 ≤ length piece.now) × (w + 8 ≤ length out.old) }
+    ensures { (result ≤ 8) × SinglesTaken tables.now.singles.now piece.now out.old i w out.new result }
 {
-    let taken = take_four(singles, piece, i, out, w);
+    let taken = take_four(tables, piece, i, out, w);
     if taken < 4 {
         return taken;
     }
-    4 + take_four(singles, piece, i + 4, out, w + 4)
+    4 + take_four(tables, piece, i + 4, out, w + 4)
 }
 
 // The next sixteen bytes: how many were taken.
-fn take_sixteen(singles: &[u16], piece: &[u8], i: usize, out: &mut [u16], w: usize) -> usize
-    requires { (length singles.now ≡ 256) × (i + 16 ≤ length piece.now) × (w + 16 ≤ length out.old) }
-    ensures { (result ≤ 16) × SinglesTaken singles.now piece.now out.old i w out.new result }
+fn take_sixteen(tables: &ByteTables<'_>, piece: &[u8], i: usize, out: &mut [u16], w: usize) -> usize
+    requires { (i + 16 ≤ length piece.now) × (w + 16 ≤ length out.old) }
+    ensures { (result ≤ 16) × SinglesTaken tables.now.singles.now piece.now out.old i w out.new result }
 {
-    let taken = take_eight(singles, piece, i, out, w);
+    let taken = take_eight(tables, piece, i, out, w);
     if taken < 8 {
         return taken;
     }
-    8 + take_eight(singles, piece, i + 8, out, w + 8)
+    8 + take_eight(tables, piece, i + 8, out, w + 8)
 }
 
 // Bytes alone, `n` at most, one after the other: how many were taken.
 fn run_of_few(
-    singles: &[u16],
+    tables: &ByteTables<'_>,
     piece: &[u8],
     from: usize,
     at: usize,
     n: usize,
     out: &mut [u16],
 ) -> usize
-    requires { (length singles.now ≡ 256) × (from + n ≤ length piece.now) × (at + n ≤ length out.old) }
-    ensures { (result ≤ n) × SinglesTaken singles.now piece.now out.old from at out.new result }
+    requires { (from + n ≤ length piece.now) × (at + n ≤ length out.old) }
+    ensures { (result ≤ n) × SinglesTaken tables.now.singles.now piece.now out.old from at out.new result }
 {
-    let mut k = 0;
-    while k < n {
-        let taken = take_one(singles, piece, from + k, out, at + k);
+    for k in 0..n {
+        let taken = take_one(tables, piece, from + k, out, at + k);
         if taken < 1 {
             return k;
         }
-        k += 1;
     }
-    k
+    n
 }
 
 // Bytes alone, `n` at most, four in a turn: how many were taken.
 pub fn run_of_alone(
-    singles: &[u16],
+    tables: &ByteTables<'_>,
     piece: &[u8],
     from: usize,
     at: usize,
     n: usize,
     out: &mut [u16],
 ) -> usize
-    requires { (length singles.now ≡ 256) × (from + n ≤ length piece.now) × (at + n ≤ length out.old) }
-    ensures { (result ≤ n) × SinglesTaken singles.now piece.now out.old from at out.new result }
+    requires { (from + n ≤ length piece.now) × (at + n ≤ length out.old) }
+    ensures { (result ≤ n) × SinglesTaken tables.now.singles.now piece.now out.old from at out.new result }
 {
     let mut k = 0;
     while 4 <= n - k {
-        let taken = take_four(singles, piece, from + k, out, at + k);
+        let taken = take_four(tables, piece, from + k, out, at + k);
         if taken < 4 {
             return k + taken;
         }
         k += 4;
     }
-    k + run_of_few(singles, piece, from + k, at + k, n - k, out)
+    k + run_of_few(tables, piece, from + k, at + k, n - k, out)
 }
 
 // Bytes of a page that has only singles, sixteen in a turn: how many were taken. So large a turn, with two callers, stays a function
 // of its own, whose loop has what it needs in registers.
 pub fn run_of_singles(
-    singles: &[u16],
+    tables: &ByteTables<'_>,
     piece: &[u8],
     from: usize,
     at: usize,
     out: &mut [u16],
 ) -> usize
-    requires { (length singles.now ≡ 256) × (from ≤ length piece.now) × (at ≤ length out.old) }
-    ensures { SinglesTaken singles.now piece.now out.old from at out.new result }
+    requires { (from ≤ length piece.now) × (at ≤ length out.old) }
+    ensures { SinglesTaken tables.now.singles.now piece.now out.old from at out.new result }
 {
     let n = smaller(piece.len() - from, out.len() - at);
     let mut k = 0;
     while 16 <= n - k {
-        let taken = take_sixteen(singles, piece, from + k, out, at + k);
+        let taken = take_sixteen(tables, piece, from + k, out, at + k);
         if taken < 16 {
             return k + taken;
         }
         k += 16;
     }
-    k + run_of_few(singles, piece, from + k, at + k, n - k, out)
+    k + run_of_few(tables, piece, from + k, at + k, n - k, out)
 }
 
 // Codes of one or two bytes. The classes of the two bytes behind a code's first are read before it is told what the code is: where
 // that was guessed wrongly, the next code's class is there. Of the last two bytes none is taken.
 pub fn run_of_codes(
-    leads: Leads,
-    classes: &[u8],
-    singles: &[u16],
-    pairs: &[u16],
+    tables: &LeadTables<'_>,
     piece: &[u8],
     from: usize,
     at: usize,
     out: &mut [u16],
 ) -> Place
-    requires decode_sizes { DecodeSizes classes.now singles.now pairs.now }
-    requires leads_at { LeadsAt classes.now leads }
-    requires from_in_bounds { (from ≤ length piece.now) × (at ≤ length out.old) }
-    ensures { Ran (decoder classes.now singles.now pairs.now) piece.now out.old from at out.new result.read result.written }
+    requires { (from ≤ length piece.now) × (at ≤ length out.old) }
+    ensures { Ran (byte_reader tables.now.tables) piece.now out.old from at out.new result.read result.written }
 {
     let end = from + smaller(piece.len() - from, out.len() - at);
     let mut i = from;
@@ -187,14 +179,15 @@ pub fn run_of_codes(
             written: w,
         };
     }
-    let mut class = codepage_lookup::class_of(classes, piece[i]);
+    let bytes = tables.tables;
+    let mut class = bytes.class_of(piece[i]);
     while 3 <= end - i {
         let byte = piece[i];
         let second = piece[i + 1];
-        let next = codepage_lookup::class_of(classes, second);
-        let after = codepage_lookup::class_of(classes, piece[i + 2]);
+        let next = bytes.class_of(second);
+        let after = bytes.class_of(piece[i + 2]);
         if codepage_lookup::known_lead(class) {
-            let unit = codepage_lookup::known_pair_unit(next, classes, pairs, leads, byte, second);
+            let unit = tables.known_pair_unit(next, byte, second);
             if unit == 0xFFFF {
                 return Place {
                     read: i,
@@ -206,7 +199,7 @@ pub fn run_of_codes(
             w += 1;
             class = after;
         } else {
-            let unit = codepage_lookup::known_single_unit(class, singles, byte);
+            let unit = bytes.known_single_unit(class, byte);
             if unit == 0xFFFF {
                 return Place {
                     read: i,
@@ -226,20 +219,11 @@ pub fn run_of_codes(
 }
 
 // The next unit, if its code is one byte: how many units were taken, 0 or 1.
-fn one_byte(
-    index: &[u8],
-    blocks: &[u16],
-    piece: &[u16],
-    i: usize,
-    out: &mut [u8],
-    w: usize,
-) -> usize
-    requires index_len { length index.now ≡ 256 }
-    requires by_index { (high : ℕ) → 256 * entry_at index.now high + 256 ≤ length blocks.now }
-    requires i_in_bounds { (i + 1 ≤ length piece.now) × (w + 1 ≤ length out.old) × NoCodes index.now blocks.now piece.now }
-    ensures { (result ≤ 1) × Ran (encoder index.now blocks.now) piece.now out.old i w out.new (i + result) (w + result) }
+fn one_byte(tables: &UnitTables<'_>, piece: &[u16], i: usize, out: &mut [u8], w: usize) -> usize
+    requires i_in_bounds { (i + 1 ≤ length piece.now) × (w + 1 ≤ length out.old) × NoCodes tables.now.index.now tables.now.blocks.now piece.now }
+    ensures { (result ≤ 1) × Ran (unit_reader tables.now) piece.now out.old i w out.new (i + result) (w + result) }
 {
-    let code = codepage_lookup::code_of(index, blocks, piece[i]);
+    let code = tables.code_of(piece[i]);
     if 0x100 <= code {
         return 0;
     }
@@ -248,66 +232,45 @@ fn one_byte(
 }
 
 // The next two units: how many were taken.
-fn two_bytes(
-    index: &[u8],
-    blocks: &[u16],
-    piece: &[u16],
-    i: usize,
-    out: &mut [u8],
-    w: usize,
-) -> usize
-    requires index_len { length index.now ≡ 256 }
-    requires by_index { (high : ℕ) → 256 * entry_at index.now high + 256 ≤ length blocks.now }
-    requires i_in_bounds { (i + 2 ≤ length piece.now) × (w + 2 ≤ length out.old) × NoCodes index.now blocks.now piece.now }
-    ensures { (result ≤ 2) × Ran (encoder index.now blocks.now) piece.now out.old i w out.new (i + result) (w + result) }
+fn two_bytes(tables: &UnitTables<'_>, piece: &[u16], i: usize, out: &mut [u8], w: usize) -> usize
+    requires i_in_bounds { (i + 2 ≤ length piece.now) × (w + 2 ≤ length out.old) × NoCodes tables.now.index.now tables.now.blocks.now piece.now }
+    ensures { (result ≤ 2) × Ran (unit_reader tables.now) piece.now out.old i w out.new (i + result) (w + result) }
 {
-    let taken = one_byte(index, blocks, piece, i, out, w);
+    let taken = one_byte(tables, piece, i, out, w);
     if taken < 1 {
         return taken;
     }
-    1 + one_byte(index, blocks, piece, i + 1, out, w + 1)
+    1 + one_byte(tables, piece, i + 1, out, w + 1)
 }
 
 // The next four units: how many were taken.
-fn four_bytes(
-    index: &[u8],
-    blocks: &[u16],
-    piece: &[u16],
-    i: usize,
-    out: &mut [u8],
-    w: usize,
-) -> usize
-    requires index_len { length index.now ≡ 256 }
-    requires by_index { (high : ℕ) → 256 * entry_at index.now high + 256 ≤ length blocks.now }
-    requires i_in_bounds { (i + 4 ≤ length piece.now) × (w + 4 ≤ length out.old) × NoCodes index.now blocks.now piece.now }
-    ensures { (result ≤ 4) × Ran (encoder index.now blocks.now) piece.now out.old i w out.new (i + result) (w + result) }
+fn four_bytes(tables: &UnitTables<'_>, piece: &[u16], i: usize, out: &mut [u8], w: usize) -> usize
+    requires i_in_bounds { (i + 4 ≤ length piece.now) × (w + 4 ≤ length out.old) × NoCodes tables.now.index.now tables.now.blocks.now piece.now }
+    ensures { (result ≤ 4) × Ran (unit_reader tables.now) piece.now out.old i w out.new (i + result) (w + result) }
 {
-    let taken = two_bytes(index, blocks, piece, i, out, w);
+    let taken = two_bytes(tables, piece, i, out, w);
     if taken < 2 {
         return taken;
     }
-    2 + two_bytes(index, blocks, piece, i + 2, out, w + 2)
+    2 + two_bytes(tables, piece, i + 2, out, w + 2)
 }
 
 // Units whose codes are one byte, four in a turn: how many were taken. Of the last three none is.
 fn run_of_bytes(
-    index: &[u8],
-    blocks: &[u16],
+    tables: &UnitTables<'_>,
     piece: &[u16],
     from: usize,
     at: usize,
     out: &mut [u8],
 ) -> usize
-    requires index_len { length index.now ≡ 256 }
-    requires by_index { (high : ℕ) → 256 * entry_at index.now high + 256 ≤ length blocks.now }
     requires from_in_bounds { (from ≤ length piece.now) × (at ≤ length out.old) }
-    requires no_codes { NoCodes index.now blocks.now piece.now }
-    ensures { Ran (encoder index.now blocks.now) piece.now out.old from at out.new (from + result) (at + result) }
+    requires no_codes { NoCodes tables.now.index.now tables.now.blocks.now piece.now }
+    ensures { Ran (unit_reader tables.now) piece.now out.old from at out.new (from + result) (at + result) }
 {
     let n = smaller(piece.len() - from, out.len() - at);
     let mut k = 0;
     while 4 <= n - k {
-        let taken = four_bytes(index, blocks, piece, from + k, out, at + k);
+        let taken = four_bytes(tables, piece, from + k, out, at + k);
         if taken < 4 {
             return k + taken;
         }
@@ -375,24 +338,20 @@ fn all_coded(a: u16, b: u16, c: u16, d: u16) -> bool
 // Units that have codes, `most` at most, one after the other.
 fn run_of_some(
     most: usize,
-    index: &[u8],
-    blocks: &[u16],
+    tables: &UnitTables<'_>,
     piece: &[u16],
     from: usize,
     at: usize,
     out: &mut [u8],
 ) -> Place
-    requires index_len { length index.now ≡ 256 }
-    requires by_index { (high : ℕ) → 256 * entry_at index.now high + 256 ≤ length blocks.now }
     requires from_in_bounds { (from ≤ length piece.now) × (at ≤ length out.old) }
-    requires no_codes { NoCodes index.now blocks.now piece.now }
-    ensures { Ran (encoder index.now blocks.now) piece.now out.old from at out.new result.read result.written }
+    requires no_codes { NoCodes tables.now.index.now tables.now.blocks.now piece.now }
+    ensures { Ran (unit_reader tables.now) piece.now out.old from at out.new result.read result.written }
 {
     let n = smaller(most, smaller(piece.len() - from, (out.len() - at) / 2));
-    let mut k = 0;
     let mut w = at;
-    while k < n {
-        let code = codepage_lookup::code_of(index, blocks, piece[from + k]);
+    for k in 0..n {
+        let code = tables.code_of(piece[from + k]);
         if code == 0xFFFF {
             return Place {
                 read: from + k,
@@ -400,10 +359,9 @@ fn run_of_some(
             };
         }
         w += lay_code(code, out, w);
-        k += 1;
     }
     Place {
-        read: from + k,
+        read: from + n,
         written: w,
     }
 }
@@ -411,53 +369,47 @@ fn run_of_some(
 // Units that have codes, four in a turn: their codes are looked up before one is laid. Where one of the four has none, those before it
 // are taken one after the other.
 fn run_of_units(
-    index: &[u8],
-    blocks: &[u16],
+    tables: &UnitTables<'_>,
     piece: &[u16],
     from: usize,
     at: usize,
     out: &mut [u8],
 ) -> Place
-    requires index_len { length index.now ≡ 256 }
-    requires by_index { (high : ℕ) → 256 * entry_at index.now high + 256 ≤ length blocks.now }
     requires from_in_bounds { (from ≤ length piece.now) × (at ≤ length out.old) }
-    requires no_codes { NoCodes index.now blocks.now piece.now }
-    ensures { Ran (encoder index.now blocks.now) piece.now out.old from at out.new result.read result.written }
+    requires no_codes { NoCodes tables.now.index.now tables.now.blocks.now piece.now }
+    ensures { Ran (unit_reader tables.now) piece.now out.old from at out.new result.read result.written }
 {
     let n = smaller(piece.len() - from, (out.len() - at) / 2);
     let mut k = 0;
     let mut w = at;
     while 4 <= n - k {
         let i = from + k;
-        let a = codepage_lookup::code_of(index, blocks, piece[i]);
-        let b = codepage_lookup::code_of(index, blocks, piece[i + 1]);
-        let c = codepage_lookup::code_of(index, blocks, piece[i + 2]);
-        let d = codepage_lookup::code_of(index, blocks, piece[i + 3]);
+        let a = tables.code_of(piece[i]);
+        let b = tables.code_of(piece[i + 1]);
+        let c = tables.code_of(piece[i + 2]);
+        let d = tables.code_of(piece[i + 3]);
         if !all_coded(a, b, c, d) {
             break;
         }
         w += lay_four(a, b, c, d, out, w);
         k += 4;
     }
-    run_of_some(4, index, blocks, piece, from + k, w, out)
+    run_of_some(4, tables, piece, from + k, w, out)
 }
 
 // Units that have codes. The first few are taken one after the other, which costs less where runs are short; then, in larger turns,
 // those of one byte, which ask less, and those behind them. None are taken where codes may not be asked.
 pub fn run_of_coded(
     asked: bool,
-    index: &[u8],
-    blocks: &[u16],
+    tables: &UnitTables<'_>,
     piece: &[u16],
     from: usize,
     at: usize,
     out: &mut [u8],
 ) -> Place
-    requires index_len { length index.now ≡ 256 }
-    requires by_index { (high : ℕ) → 256 * entry_at index.now high + 256 ≤ length blocks.now }
     requires from_in_bounds { (from ≤ length piece.now) × (at ≤ length out.old) }
-    requires no_codes { asked ≡ true → NoCodes index.now blocks.now piece.now }
-    ensures { Ran (encoder index.now blocks.now) piece.now out.old from at out.new result.read result.written }
+    requires no_codes { asked ≡ true → NoCodes tables.now.index.now tables.now.blocks.now piece.now }
+    ensures { Ran (unit_reader tables.now) piece.now out.old from at out.new result.read result.written }
 {
     if !asked {
         return Place {
@@ -465,12 +417,12 @@ pub fn run_of_coded(
             written: at,
         };
     }
-    let few = run_of_some(FEW, index, blocks, piece, from, at, out);
+    let few = run_of_some(FEW, tables, piece, from, at, out);
     let i = few.read;
     let w = few.written;
     if i - from < FEW {
         return few;
     }
-    let count = run_of_bytes(index, blocks, piece, i, w, out);
-    run_of_units(index, blocks, piece, i + count, w + count, out)
+    let count = run_of_bytes(tables, piece, i, w, out);
+    run_of_units(tables, piece, i + count, w + count, out)
 }

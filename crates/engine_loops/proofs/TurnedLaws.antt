@@ -18,12 +18,16 @@ use Rattle.engine.specs.declared.Policy.{Policy}
 use Rattle.engine.specs.declared.progress.Progress.{Progress}
 use Rattle.engine.specs.Engine.{Effect, Converter, converter, Room, limit, room_left, Fed, halt, after, take_code, feed_from}
 use Rattle.engine.specs.Steps.{sofar, ended, summary, Took, Ends, optional, one_if, does_alone, does_settled}
+use Rattle.engine.specs.Pending.{waiting}
+use Rattle.std.proofs.Common as std
+use Rattle.std.proofs.Common.{Some, None}
+use Rattle.std.specs.Option.{is_some}
 use Rattle.engine.proofs.EngineLaws.{after_none, feed_end, feed_last, feed_stays}
 use Rattle.engine.proofs.LoopLaws.{later}
 use Rattle.engine.proofs.TurnLaws.{one_step, settled_step, wait_step, no_more}
 use Rattle.engine_fastpath.specs.Runs.{Ran}
 use Rattle.engine_loops.specs.declared.turns.Turn.{Turn}
-use Rattle.engine_loops.specs.Turns.{start_turn, moved_turn, past_turn, wait_turn, stays_pending, steps_left, Ready, rest_of, Turned, Advanced, Settled, Closed, Loop}
+use Rattle.engine_loops.specs.Turns.{start_turn, first_turn, moved_turn, past_turn, wait_turn, stays_pending, steps_left, Ready, rest_of, Turned, Advanced, Settled, Closed, Loop}
 
 -- `Took` holds of an equal effect too
 pub took_as : {k k' : Effect} {n : ℕ} {s : Progress} {out : List ℕ} {r : Progress} {out' : List ℕ} → k ≡ k' → Took k n s out r out' → Took k' n s out r out'
@@ -308,6 +312,12 @@ loop_start v last waits first piece out w q =
       kept = refl;
     })
 
+-- the same, by what is pending
+pub loop_first : (v : Converter) (last : Bool) (pending : std.Option ℕ) (piece out : List ℕ) {t : Turn} → ((first : ℕ) → pending ≡ Some first → v.reader.waits first ≡ true) → t ≡ first_turn pending
+    → Loop v last (feed_from v last (limit (length out)) (waiting pending) piece) out piece out t
+loop_first v last None piece out w q = loop_start v last false 0 piece out (λ e. absurd (false≢true e)) q
+loop_first v last (Some first) piece out w q = loop_start v last true first piece out (λ e. w first refl) q
+
 -- the turn that a call begins with
 pub start_ready : {piece out : List ℕ} {waits : Bool} {first : ℕ} {t : Turn} → t ≡ start_turn waits first → Ready piece out t
 start_ready {piece} {out} {waits} q =
@@ -370,10 +380,15 @@ pub ends_from : (v : Converter) (last : Bool) (p : Option ℕ) (piece : List ℕ
 ends_from v last p piece {out = out} {r = r} e h = subst (λ (l : List ℕ). Ends (feed_from v last (limit (length l)) p piece) l out r) e h
 
 -- a call gives the same where the test for a pending unit found none
-pub ends_none : (v : Converter) (last waits : Bool) (first : ℕ) (room : Room) (piece : List ℕ) {out₀ out : List ℕ} {r : Progress} → waits ≡ false → Ends (feed_from v last room none piece) out₀ out r
-    → Ends (feed_from v last room (optional waits first) piece) out₀ out r
-ends_none v last waits first room piece {out₀} {out} {r} e h =
-    subst (λ (b : Bool). Ends (feed_from v last room (optional b first) piece) out₀ out r) (sym e) h
+pub ends_none : (v : Converter) (last : Bool) (pending : std.Option ℕ) (room : Room) (piece : List ℕ) {out₀ out : List ℕ} {r : Progress} → pending ≡ None → Ends (feed_from v last room none piece) out₀ out r
+    → Ends (feed_from v last room (waiting pending) piece) out₀ out r
+ends_none v last pending room piece {out₀} {out} {r} e h =
+    subst (λ (p : std.Option ℕ). Ends (feed_from v last room (waiting p) piece) out₀ out r) (sym e) h
+
+-- none is pending where the test found none
+pub none_pending : (pending : std.Option ℕ) → is_some pending ≡ false → pending ≡ None
+none_pending None e = refl
+none_pending (Some first) e = absurd (false≢true (sym e))
 
 -- the numbers that a call answers, and its lent output
 pub ends_both : {F : Fed} {out₀ out : List ℕ} {r : Progress} → Ends F out₀ out r → (r ≡ summary F) × (out ≡ over out₀ F.output)

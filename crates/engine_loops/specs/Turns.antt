@@ -1,5 +1,5 @@
 -- Definitions that the contracts of the loops' turns cite, and that no promise does.
-use Rattle.std.specs.Prelude.{Bool, true, false, List, [], ◌≡◌, ℕ, ◌+◌, ◌-◌, ◌<◌, ◌≤◌, length, drop}
+use Rattle.std.specs.Prelude.{Bool, true, false, Option, Some, None, List, [], ◌≡◌, ℕ, ◌+◌, ◌-◌, ◌<◌, ◌≤◌, length, drop}
 use Rattle.engine.specs.declared.progress.Progress.{Progress}
 use Rattle.engine.specs.Engine.{Converter, Fed, limit, feed_from}
 use Rattle.engine.specs.Steps.{sofar, ended, moved_to, optional, one_if}
@@ -10,6 +10,11 @@ use Rattle.engine_loops.specs.declared.turns.Turn.{Turn}
 -- the beginning of a call: nothing is read, and the unit that is pending waits
 abbrev pub start_turn : (waits : Bool) → (first : ℕ) → Turn
 start_turn waits first = record { progress = record { answer = 0; used = 0; written = 0; flags = 0 }; at = 0; waits = waits; first = first }
+
+-- the first turn of a call, by what is pending
+abbrev pub first_turn : Option ℕ → Turn
+first_turn None = start_turn false 0
+first_turn (Some first) = start_turn true first
 
 -- past codes that have characters, up to an index of the piece and a place of the output
 abbrev pub moved_turn : Turn → (at written : ℕ) → Turn

@@ -1,23 +1,21 @@
 // The loops of counting: as the loops of converting, with room that never ends and nothing written. They go by the same quick runs.
-ghost use Rattle.std.specs.Prelude.{◌≡◌, true, false, List, ℕ, ◌+◌, ◌*◌, ◌≤◌, ◌<◌, ◌^◌, length};
+ghost use Rattle.std.specs.Prelude.{◌≡◌, true, false, ℕ, ◌+◌, ◌≤◌, ◌<◌, ◌^◌, length};
 ghost use Rattle.std.proofs.Math.Option.{none};
-ghost use Rattle.codepage.specs.CodePage.{pick, entry_at, is_single};
-ghost use Rattle.codepage.specs.Reading.{decoder, encoder};
-ghost use Rattle.codepage_lookup.specs.Profile.{LeadsAt, NoCodes};
-ghost use Rattle.engine.specs.declared.Direction.TheVariants.{Encoding};
-ghost use Rattle.engine.specs.Policies.{policy_allowed};
-ghost use Rattle.engine.specs.Engine.{converter, endless, feed_from};
-ghost use Rattle.engine.specs.Steps.{does_alone, unit_effect, byte_effect, stopped_by, taken_by, summary, DecodeSizes};
-ghost use Rattle.engine_fastpath.specs.Words.{PlainPage};
+ghost use Rattle.codepage.specs.CodePage.{pick, entry_at};
+ghost use Rattle.codepage_lookup.specs.Profile.{PlainPage, NoCodes};
+ghost use Rattle.codepage_lookup.specs.Tables.{OnlySingles};
+ghost use Rattle.engine.specs.Engine.{endless, feed_from};
+ghost use Rattle.engine.specs.Steps.{does_alone, unit_effect, byte_effect, stopped_by, taken_by, summary};
+ghost use Rattle.engine.specs.Converters.{by_bytes, by_leads, by_units};
 ghost use Rattle.engine_loops.specs.Turns.{steps_left};
 ghost use Rattle.engine_loops.specs.Counts.{Came, Counting, CountTurn};
 
 use crate::turns;
 use crate::turns::Turn;
-use codepage_lookup::profile::Leads;
+use engine::converters::{ByteConverter, LeadConverter, UnitConverter};
 use engine::policies::CodeEffect;
+use engine::progress;
 use engine::progress::Progress;
-use engine::{Policy, policies, progress};
 use engine_fastpath::{counted, plain};
 
 // How many units a code writes, 0 or 1.
@@ -57,199 +55,120 @@ fn count_code(d: CodeEffect, size: usize, count: usize, s: Progress) -> Progress
 // ---- decoding
 
 // Counts a byte that is a code by itself.
-fn alone_decoded(
-    policy: Policy,
-    default: u16,
-    classes: &[u8],
-    singles: &[u16],
-    byte: u8,
-    s: Progress,
-) -> Progress
-    requires classes_len { (length classes.now ≡ 256) × (length singles.now ≡ 256) }
-    requires used_bound { (s.used + 1 < 2 ^ 64) × (s.written + 2 < 2 ^ 64) }
-    ensures { (pairs : List ℕ) → Came (does_alone (converter (decoder classes.now singles.now pairs) policy default) byte) 1 s result }
+fn alone_decoded(v: &ByteConverter<'_>, byte: u8, s: Progress) -> Progress
+    requires { (s.used + 1 < 2 ^ 64) × (s.written + 2 < 2 ^ 64) }
+    ensures { Came (does_alone (by_bytes v.now) byte) 1 s result }
 {
-    let code = codepage_lookup::byte_alone(classes, singles, byte);
-    let d = policies::decoded(policy, default, byte, code);
+    let d = v.alone(byte);
     count_code(d, 1, units_written(d), s)
 }
 
-// Settles the lead byte that waits, by the byte behind it. The singles are asked nothing: they stand in the promise.
-fn settle_decoded(
-    policy: Policy,
-    default: u16,
-    classes: &[u8],
-    singles: &[u16],
-    pairs: &[u16],
-    leads: Leads,
-    text: &[u8],
-    t: Turn,
-) -> Turn
-    requires decode_sizes { DecodeSizes classes.now singles.now pairs.now × LeadsAt classes.now leads }
-    requires counting { Counting (converter (decoder classes.now singles.now pairs.now) policy default) text.now t × (t.at < length text.now) × (t.waits ≡ true) }
-    ensures { CountTurn (converter (decoder classes.now singles.now pairs.now) policy default) text.now t result × (steps_left text.now result < steps_left text.now t) }
+// Settles the lead byte that waits, by the byte behind it.
+fn settle_decoded(v: &LeadConverter<'_>, text: &[u8], t: Turn) -> Turn
+    requires { Counting (by_leads v.now) text.now t × (t.at < length text.now) × (t.waits ≡ true) }
+    ensures { CountTurn (by_leads v.now) text.now t result × (steps_left text.now result < steps_left text.now t) }
 {
     let at = t.at;
     let s = t.progress;
     let lead = t.first as u8;
     let byte = text[at];
-    let code = codepage_lookup::settle(classes, pairs, leads, lead, byte);
-    let means = code.means;
-    let d = policies::decoded(policy, default, lead, means);
+    let code = v.settled(lead, byte);
+    let d = code.effect;
     let counted = count_code(d, 1 + code.more, units_written(d), s);
     turns::past(t, code.more, counted)
 }
 
 // The code at a place, if the text goes on. A lead byte is settled at once; at the text's end it waits.
-fn next_decoded(
-    policy: Policy,
-    default: u16,
-    classes: &[u8],
-    singles: &[u16],
-    pairs: &[u16],
-    leads: Leads,
-    text: &[u8],
-    t: Turn,
-) -> Turn
-    requires decode_sizes { DecodeSizes classes.now singles.now pairs.now × LeadsAt classes.now leads }
-    requires counting { Counting (converter (decoder classes.now singles.now pairs.now) policy default) text.now t × (t.waits ≡ false) }
-    ensures { CountTurn (converter (decoder classes.now singles.now pairs.now) policy default) text.now t result × (t.at < length text.now → steps_left text.now result < steps_left text.now t) }
+fn next_decoded(v: &LeadConverter<'_>, text: &[u8], t: Turn) -> Turn
+    requires { Counting (by_leads v.now) text.now t × (t.waits ≡ false) }
+    ensures { CountTurn (by_leads v.now) text.now t result × (t.at < length text.now → steps_left text.now result < steps_left text.now t) }
 {
     let at = t.at;
     if text.len() <= at {
         return t;
     }
     let byte = text[at];
-    if !codepage_lookup::is_lead(classes, byte) {
+    if !v.tables.tables.is_lead(byte) {
         let s = t.progress;
-        let counted = alone_decoded(policy, default, classes, singles, byte, s);
+        let counted = alone_decoded(&v.bytes(), byte, s);
         return turns::past(t, 1, counted);
     }
     let pending = turns::wait(t, byte as u16);
     if text.len() <= pending.at {
         return pending;
     }
-    settle_decoded(
-        policy, default, classes, singles, pairs, leads, text, pending,
-    )
+    settle_decoded(v, text, pending)
 }
 
 // A turn on a page with lead bytes: codes that have characters, and the code behind them.
-fn turn_decoded(
-    policy: Policy,
-    default: u16,
-    classes: &[u8],
-    singles: &[u16],
-    pairs: &[u16],
-    plain: bool,
-    leads: Leads,
-    text: &[u8],
-    t: Turn,
-) -> Turn
-    requires decode_sizes { DecodeSizes classes.now singles.now pairs.now × LeadsAt classes.now leads }
-    requires plain_page { plain ≡ true → PlainPage classes.now singles.now }
-    requires counting { Counting (converter (decoder classes.now singles.now pairs.now) policy default) text.now t × (t.at < length text.now) × (t.waits ≡ false) }
-    ensures { CountTurn (converter (decoder classes.now singles.now pairs.now) policy default) text.now t result × (steps_left text.now result < steps_left text.now t) }
+fn turn_decoded(v: &LeadConverter<'_>, plain: bool, text: &[u8], t: Turn) -> Turn
+    requires plain_page { plain ≡ true → PlainPage v.now.tables.tables.classes.now v.now.tables.tables.singles.now }
+    requires counting { Counting (by_leads v.now) text.now t × (t.at < length text.now) × (t.waits ≡ false) }
+    ensures { CountTurn (by_leads v.now) text.now t result × (steps_left text.now result < steps_left text.now t) }
 {
     let at = t.at;
     let s = t.progress;
-    let place = counted::met_codes(plain, leads, classes, singles, pairs, text, at);
+    let place = counted::met_codes(plain, &v.tables, text, at);
     let next = turns::moved(t, place.read, s.written + place.written);
-    next_decoded(policy, default, classes, singles, pairs, leads, text, next)
+    next_decoded(v, text, next)
 }
 
 // The end of a text: a lead byte that waits is a code by itself.
-fn end_decoded(
-    policy: Policy,
-    default: u16,
-    classes: &[u8],
-    singles: &[u16],
-    pairs: &[u16],
-    text: &[u8],
-    t: Turn,
-) -> Progress
-    requires classes_len { (length classes.now ≡ 256) × (length singles.now ≡ 256) }
-    requires counting { Counting (converter (decoder classes.now singles.now pairs.now) policy default) text.now t × (length text.now ≤ t.at) }
-    ensures { result ≡ summary (feed_from (converter (decoder classes.now singles.now pairs.now) policy default) true endless none text.now) }
+fn end_decoded(v: &ByteConverter<'_>, text: &[u8], t: Turn) -> Progress
+    requires { Counting (by_bytes v.now) text.now t × (length text.now ≤ t.at) }
+    ensures { result ≡ summary (feed_from (by_bytes v.now) true endless none text.now) }
 {
     let s = t.progress;
     if !t.waits {
         return s;
     }
-    alone_decoded(policy, default, classes, singles, t.first as u8, s)
+    alone_decoded(v, t.first as u8, s)
 }
 
 // Pages with lead bytes.
-fn count_codes(
-    policy: Policy,
-    default: u16,
-    classes: &[u8],
-    singles: &[u16],
-    pairs: &[u16],
-    text: &[u8],
-) -> Progress
-    requires { DecodeSizes classes.now singles.now pairs.now }
-    ensures { result ≡ summary (feed_from (converter (decoder classes.now singles.now pairs.now) policy default) true endless none text.now) }
+fn count_codes(v: &ByteConverter<'_>, text: &[u8]) -> Progress
+    ensures { result ≡ summary (feed_from (by_bytes v.now) true endless none text.now) }
 {
-    let leads = codepage_lookup::profile::leads_of(classes);
-    let plain = codepage_lookup::profile::plain_bytes(classes, singles);
-    let mut t = turns::start(false, 0);
+    let leads = v.with_leads();
+    let plain = v.tables.keeps_plain();
+    let mut t = turns::start(None);
     while t.at < text.len() {
-        t = turn_decoded(
-            policy, default, classes, singles, pairs, plain, leads, text, t,
-        );
+        t = turn_decoded(&leads, plain, text, t);
         let s = t.progress;
         if s.answer != 0 {
             return s;
         }
     }
-    end_decoded(policy, default, classes, singles, pairs, text, t)
+    end_decoded(v, text, t)
 }
 
 // A turn on a page that has only singles: those that have characters, and the byte behind them.
-fn turn_singles(
-    policy: Policy,
-    default: u16,
-    classes: &[u8],
-    singles: &[u16],
-    pairs: &[u16],
-    text: &[u8],
-    t: Turn,
-) -> Turn
-    requires classes_len { (length classes.now ≡ 256) × (length singles.now ≡ 256) }
-    requires by_index { (byte : ℕ) → byte < 256 → is_single (entry_at classes.now byte) ≡ true }
-    requires counting { Counting (converter (decoder classes.now singles.now pairs.now) policy default) text.now t × (t.at < length text.now) × (t.waits ≡ false) }
-    ensures { CountTurn (converter (decoder classes.now singles.now pairs.now) policy default) text.now t result × (steps_left text.now result < steps_left text.now t) × (result.waits ≡ false) }
+fn turn_singles(v: &ByteConverter<'_>, text: &[u8], t: Turn) -> Turn
+    requires only_singles { OnlySingles v.now.tables }
+    requires counting { Counting (by_bytes v.now) text.now t × (t.at < length text.now) × (t.waits ≡ false) }
+    ensures { CountTurn (by_bytes v.now) text.now t result × (steps_left text.now result < steps_left text.now t) × (result.waits ≡ false) }
 {
     let at = t.at;
     let s = t.progress;
-    let count = counted::met_singles(singles, text, at);
+    let count = counted::met_singles(&v.tables, text, at);
     let next = turns::moved(t, at + count, s.written + count);
     let end = next.at;
     if text.len() <= end {
         return next;
     }
     let after = next.progress;
-    let counted = alone_decoded(policy, default, classes, singles, text[end], after);
+    let counted = alone_decoded(v, text[end], after);
     turns::past(next, 1, counted)
 }
 
-// Pages that have only singles. Their pairs are asked nothing: they stand in the promise.
-fn count_singles(
-    policy: Policy,
-    default: u16,
-    classes: &[u8],
-    singles: &[u16],
-    pairs: &[u16],
-    text: &[u8],
-) -> Progress
-    requires classes_len { (length classes.now ≡ 256) × (length singles.now ≡ 256) }
-    requires by_index { (byte : ℕ) → byte < 256 → is_single (entry_at classes.now byte) ≡ true }
-    ensures { result ≡ summary (feed_from (converter (decoder classes.now singles.now pairs.now) policy default) true endless none text.now) }
+// Pages that have only singles.
+fn count_singles(v: &ByteConverter<'_>, text: &[u8]) -> Progress
+    requires only_singles { OnlySingles v.now.tables }
+    ensures { result ≡ summary (feed_from (by_bytes v.now) true endless none text.now) }
 {
-    let mut t = turns::start(false, 0);
+    let mut t = turns::start(None);
     while t.at < text.len() {
-        t = turn_singles(policy, default, classes, singles, pairs, text, t);
+        t = turn_singles(v, text, t);
         let s = t.progress;
         if s.answer != 0 {
             return s;
@@ -259,18 +178,10 @@ fn count_singles(
 }
 
 // What decoding a whole text would give in numbers, with room for all.
-pub fn count_decoded(
-    policy: Policy,
-    default: u16,
-    classes: &[u8],
-    singles: &[u16],
-    pairs: &[u16],
-    text: &[u8],
-) -> Progress
-    requires { DecodeSizes classes.now singles.now pairs.now }
-    ensures { result ≡ summary (feed_from (converter (decoder classes.now singles.now pairs.now) policy default) true endless none text.now) }
+pub fn count_decoded(v: &ByteConverter<'_>, text: &[u8]) -> Progress
+    ensures { result ≡ summary (feed_from (by_bytes v.now) true endless none text.now) }
 {
-    if counted::all_plain_bytes(classes, singles, text) {
+    if counted::all_plain_bytes(&v.tables, text) {
         return Progress {
             answer: 0,
             used: text.len(),
@@ -278,70 +189,40 @@ pub fn count_decoded(
             flags: 0,
         };
     }
-    if codepage_lookup::profile::only_singles(classes) {
-        return count_singles(policy, default, classes, singles, pairs, text);
+    if v.tables.only_singles() {
+        return count_singles(v, text);
     }
-    count_codes(policy, default, classes, singles, pairs, text)
+    count_codes(v, text)
 }
 
 // ---- encoding
 
 // Counts a unit that is a code by itself.
-fn alone_encoded(
-    policy: Policy,
-    default: u8,
-    index: &[u8],
-    blocks: &[u16],
-    unit: u16,
-    s: Progress,
-) -> Progress
-    requires policy_value { policy_allowed Encoding policy ≡ true }
-    requires index_len { length index.now ≡ 256 }
-    requires by_index { (high : ℕ) → 256 * entry_at index.now high + 256 ≤ length blocks.now }
-    requires used_bound { (s.used + 1 < 2 ^ 64) × (s.written + 2 < 2 ^ 64) }
-    ensures { Came (does_alone (converter (encoder index.now blocks.now) policy default) unit) 1 s result }
+fn alone_encoded(v: &UnitConverter<'_>, unit: u16, s: Progress) -> Progress
+    requires { (s.used + 1 < 2 ^ 64) × (s.written + 2 < 2 ^ 64) }
+    ensures { Came (does_alone (by_units v.now) unit) 1 s result }
 {
-    let code = codepage_lookup::unit_alone(index, blocks, unit);
-    let d = policies::encoded(policy, default, code);
+    let d = v.alone(unit);
     count_code(d, 1, bytes_written(d), s)
 }
 
-// Settles the high surrogate that waits, by the unit behind it. The tables are asked nothing: they stand in the promise.
-fn settle_encoded(
-    policy: Policy,
-    default: u8,
-    index: &[u8],
-    blocks: &[u16],
-    text: &[u16],
-    t: Turn,
-) -> Turn
-    requires policy_value { policy_allowed Encoding policy ≡ true }
-    requires counting { Counting (converter (encoder index.now blocks.now) policy default) text.now t × (t.at < length text.now) × (t.waits ≡ true) }
-    ensures { CountTurn (converter (encoder index.now blocks.now) policy default) text.now t result × (steps_left text.now result < steps_left text.now t) }
+// Settles the high surrogate that waits, by the unit behind it.
+fn settle_encoded(v: &UnitConverter<'_>, text: &[u16], t: Turn) -> Turn
+    requires { Counting (by_units v.now) text.now t × (t.at < length text.now) × (t.waits ≡ true) }
+    ensures { CountTurn (by_units v.now) text.now t result × (steps_left text.now result < steps_left text.now t) }
 {
     let at = t.at;
     let s = t.progress;
-    let code = codepage_lookup::settle_high(text[at]);
-    let means = code.means;
-    let d = policies::encoded(policy, default, means);
+    let code = v.settled(t.first, text[at]);
+    let d = code.effect;
     let counted = count_code(d, 1 + code.more, bytes_written(d), s);
     turns::past(t, code.more, counted)
 }
 
 // The code at a place, if the text goes on. A high surrogate is settled at once; at the text's end it waits.
-fn next_encoded(
-    policy: Policy,
-    default: u8,
-    index: &[u8],
-    blocks: &[u16],
-    text: &[u16],
-    t: Turn,
-) -> Turn
-    requires policy_value { policy_allowed Encoding policy ≡ true }
-    requires index_len { length index.now ≡ 256 }
-    requires by_index { (high : ℕ) → 256 * entry_at index.now high + 256 ≤ length blocks.now }
-    requires counting { Counting (converter (encoder index.now blocks.now) policy default) text.now t × (t.waits ≡ false) }
-    ensures { CountTurn (converter (encoder index.now blocks.now) policy default) text.now t result × (t.at < length text.now → steps_left text.now result < steps_left text.now t) }
+fn next_encoded(v: &UnitConverter<'_>, text: &[u16], t: Turn) -> Turn
+    requires { Counting (by_units v.now) text.now t × (t.waits ≡ false) }
+    ensures { CountTurn (by_units v.now) text.now t result × (t.at < length text.now → steps_left text.now result < steps_left text.now t) }
 {
     let at = t.at;
     if text.len() <= at {
@@ -350,104 +231,64 @@ fn next_encoded(
     let unit = text[at];
     if !codepage_lookup::is_high(unit) {
         let s = t.progress;
-        let counted = alone_encoded(policy, default, index, blocks, unit, s);
+        let counted = alone_encoded(v, unit, s);
         return turns::past(t, 1, counted);
     }
     let pending = turns::wait(t, unit);
     if text.len() <= pending.at {
         return pending;
     }
-    settle_encoded(policy, default, index, blocks, text, pending)
+    settle_encoded(v, text, pending)
 }
 
 // A turn of counting bytes: units that have codes, and the code behind them.
-fn turn_encoded(
-    policy: Policy,
-    default: u8,
-    index: &[u8],
-    blocks: &[u16],
-    asked: bool,
-    text: &[u16],
-    t: Turn,
-) -> Turn
-    requires policy_value { policy_allowed Encoding policy ≡ true }
-    requires index_len { length index.now ≡ 256 }
-    requires by_index { (high : ℕ) → 256 * entry_at index.now high + 256 ≤ length blocks.now }
-    requires counting { Counting (converter (encoder index.now blocks.now) policy default) text.now t × (t.at < length text.now) × (t.waits ≡ false) }
-    requires no_codes { asked ≡ true → NoCodes index.now blocks.now text.now }
-    ensures { CountTurn (converter (encoder index.now blocks.now) policy default) text.now t result × (steps_left text.now result < steps_left text.now t) }
+fn turn_encoded(v: &UnitConverter<'_>, asked: bool, text: &[u16], t: Turn) -> Turn
+    requires counting { Counting (by_units v.now) text.now t × (t.at < length text.now) × (t.waits ≡ false) }
+    requires no_codes { asked ≡ true → NoCodes v.now.tables.index.now v.now.tables.blocks.now text.now }
+    ensures { CountTurn (by_units v.now) text.now t result × (steps_left text.now result < steps_left text.now t) }
 {
     let at = t.at;
     let s = t.progress;
-    let place = counted::met_coded(asked, index, blocks, text, at);
+    let place = counted::met_coded(asked, &v.tables, text, at);
     let next = turns::moved(t, place.read, s.written + place.written);
-    next_encoded(policy, default, index, blocks, text, next)
+    next_encoded(v, text, next)
 }
 
 // The end of a text: a high surrogate that waits is a code by itself.
-fn end_encoded(
-    policy: Policy,
-    default: u8,
-    index: &[u8],
-    blocks: &[u16],
-    text: &[u16],
-    t: Turn,
-) -> Progress
-    requires policy_value { policy_allowed Encoding policy ≡ true }
-    requires index_len { length index.now ≡ 256 }
-    requires by_index { (high : ℕ) → 256 * entry_at index.now high + 256 ≤ length blocks.now }
-    requires counting { Counting (converter (encoder index.now blocks.now) policy default) text.now t × (length text.now ≤ t.at) }
-    ensures { result ≡ summary (feed_from (converter (encoder index.now blocks.now) policy default) true endless none text.now) }
+fn end_encoded(v: &UnitConverter<'_>, text: &[u16], t: Turn) -> Progress
+    requires { Counting (by_units v.now) text.now t × (length text.now ≤ t.at) }
+    ensures { result ≡ summary (feed_from (by_units v.now) true endless none text.now) }
 {
     let s = t.progress;
     if !t.waits {
         return s;
     }
-    alone_encoded(policy, default, index, blocks, t.first, s)
+    alone_encoded(v, t.first, s)
 }
 
 // Texts that are not all plain. No unit is over `bound`.
-fn count_units(
-    policy: Policy,
-    default: u8,
-    index: &[u8],
-    blocks: &[u16],
-    bound: u16,
-    text: &[u16],
-) -> Progress
-    requires policy_value { policy_allowed Encoding policy ≡ true }
-    requires index_len { length index.now ≡ 256 }
-    requires by_index { (high : ℕ) → 256 * entry_at index.now high + 256 ≤ length blocks.now }
-    requires by_index_2 { (k : ℕ) → entry_at text.now k ≤ bound }
-    ensures { result ≡ summary (feed_from (converter (encoder index.now blocks.now) policy default) true endless none text.now) }
+fn count_units(v: &UnitConverter<'_>, bound: u16, text: &[u16]) -> Progress
+    requires by_index { (k : ℕ) → entry_at text.now k ≤ bound }
+    ensures { result ≡ summary (feed_from (by_units v.now) true endless none text.now) }
 {
-    let asked = codepage_lookup::profile::codes_asked(bound, index, blocks, text);
-    let mut t = turns::start(false, 0);
+    let asked = v.tables.may_ask(bound, text);
+    let mut t = turns::start(None);
     while t.at < text.len() {
-        t = turn_encoded(policy, default, index, blocks, asked, text, t);
+        t = turn_encoded(v, asked, text, t);
         let s = t.progress;
         if s.answer != 0 {
             return s;
         }
     }
-    end_encoded(policy, default, index, blocks, text, t)
+    end_encoded(v, text, t)
 }
 
 // What encoding a whole text would give in numbers, with room for all.
-pub fn count_encoded(
-    policy: Policy,
-    default: u8,
-    index: &[u8],
-    blocks: &[u16],
-    text: &[u16],
-) -> Progress
-    requires policy_value { policy_allowed Encoding policy ≡ true }
-    requires index_len { length index.now ≡ 256 }
-    requires by_index { (high : ℕ) → 256 * entry_at index.now high + 256 ≤ length blocks.now }
-    ensures { result ≡ summary (feed_from (converter (encoder index.now blocks.now) policy default) true endless none text.now) }
+pub fn count_encoded(v: &UnitConverter<'_>, text: &[u16]) -> Progress
+    ensures { result ≡ summary (feed_from (by_units v.now) true endless none text.now) }
 {
     let bound = plain::bound_of_units(text);
-    if counted::all_plain_units(bound, index, blocks, text) {
+    if counted::all_plain_units(&v.tables, bound, text) {
         return Progress {
             answer: 0,
             used: text.len(),
@@ -455,5 +296,5 @@ pub fn count_encoded(
             flags: 0,
         };
     }
-    count_units(policy, default, index, blocks, bound, text)
+    count_units(v, bound, text)
 }

@@ -1,6 +1,6 @@
 // A turn of a loop: where it comes to in the piece, and how far the call is there.
 ghost use Rattle.std.specs.Prelude.{◌≡◌, ℕ, ◌+◌, ◌-◌, ◌≤◌, ◌<◌, ◌^◌};
-ghost use Rattle.engine_loops.specs.Turns.{start_turn, moved_turn, past_turn, wait_turn, stays_pending};
+ghost use Rattle.engine_loops.specs.Turns.{first_turn, moved_turn, past_turn, wait_turn, stays_pending};
 
 use engine::progress;
 use engine::progress::Progress;
@@ -16,8 +16,8 @@ pub struct Turn {
 }
 
 // The turn that a call begins with: nothing is read, and the unit that is pending waits.
-pub fn start(waits: bool, first: u16) -> Turn
-    ensures { result ≡ start_turn waits first }
+pub fn start(pending: Option<u16>) -> Turn
+    ensures { result ≡ first_turn pending }
 {
     let progress = Progress {
         answer: 0,
@@ -25,11 +25,19 @@ pub fn start(waits: bool, first: u16) -> Turn
         written: 0,
         flags: 0,
     };
-    Turn {
-        progress,
-        at: 0,
-        waits,
-        first,
+    match pending {
+        Some(first) => Turn {
+            progress,
+            at: 0,
+            waits: true,
+            first,
+        },
+        None => Turn {
+            progress,
+            at: 0,
+            waits: false,
+            first: 0,
+        },
     }
 }
 

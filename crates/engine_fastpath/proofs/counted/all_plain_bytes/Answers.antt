@@ -7,5 +7,5 @@ pub returns : goal.returns
 returns c =
     λ e pairs.
     met_whole c.args.text.now
-    (λ k b. let page = c.plain_bytes.ensures e (entry_at c.args.text.now k) (c.bytes_below_80.ensures c.if-not-bytes_below_80.false k b) in
+    (λ k b. let page = c.keeps_plain.ensures e (entry_at c.args.text.now k) (c.bytes_below_80.ensures c.if-not-bytes_below_80.false k b) in
     plain_same _ _ pairs _ page.0 page.1)

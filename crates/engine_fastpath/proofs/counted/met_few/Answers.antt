@@ -1,14 +1,10 @@
 use mathlib.Core.Path.{sym, ◌∙◌}
-use Rattle.engine.proofs.DecodeLaws.{pair_room}
 use Rattle.engine_fastpath.proofs.MetLaws.{met_start, met_single, met_pair}
 use native.Mathlib.Omega.{arith}
 use Rattle.engine_fastpath.proofs.counted.met_few.Goals as goal
 
 pub loop-k-init : goal.loop-k-init
-loop-k-init c = (omega arith, omega arith, omega arith, met_start c.requires.from_in_bounds)
-
-pub pair_unit-unit-requires : goal.pair_unit-unit-requires
-pair_unit-unit-requires c = let lead = sym c.is_lead.ensures ∙ c.if-is_lead.true in record { classes_len = (c.requires.decode_sizes.all_classes, lead, pair_room _ _ _ _ c.requires.decode_sizes lead); leads_at = c.requires.leads_at }
+loop-k-init c = (omega arith, omega arith, omega arith, met_start c.requires)
 
 pub loop-k-preserved-then-is_lead : goal.loop-k-preserved-then-is_lead
 loop-k-preserved-then-is_lead c =

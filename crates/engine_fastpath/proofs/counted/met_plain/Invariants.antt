@@ -4,7 +4,7 @@ use mathlib.Core.Path.{◌≡◌}
 use Prim.Native.Nat.{ℕ, ◌+◌, ◌-◌, ◌≤◌}
 use Rattle.codepage.specs.Reading.{decoder}
 use Rattle.engine_fastpath.specs.Counts.{Met}
-use Rattle.engine_fastpath.specs.Words.{PlainPage}
+use Rattle.codepage_lookup.specs.Profile.{PlainPage}
 use Rattle.engine_fastpath.proofs.counted.met_plain.Given as goal
 
 abbrev pub invariant-loop-k : goal.invariant-loop-k

@@ -14,8 +14,8 @@ loop-k-preserved c =
     let byte = entry_at c.args.text.now (c.args.from + c.loop-k.k) in (
       omega arith,
       λ classes pairs all.
-          let single = all byte (omega (arith, c.shared_slice_known-1.given (c.args.from + c.loop-k.k))) in
+          let single = all byte (omega (arith, c.type_inv.text (c.args.from + c.loop-k.k))) in
           met_at
-          (met_single _ _ _ (c.loop-k.invariant.1 classes pairs all) (entry_at c.args.singles.now byte) (omega arith) (single_no_lead _ single) (single_found _ _ byte single c.if-singles-at.false))
+          (met_single _ _ _ (c.loop-k.invariant.1 classes pairs all) (entry_at c.args.tables.now.singles.now byte) (omega arith) (single_no_lead _ single) (single_found _ _ byte single c.if-singles-at.false))
           (omega arith) (omega arith),
     )

@@ -1,5 +1,5 @@
 use Rattle.engine_fastpath.specs.Runs.{Ran}
-use Rattle.codepage.specs.Reading.{decoder}
+use Rattle.codepage_lookup.specs.Tables.{byte_reader}
 use mathlib.Core.List.{List}
 use mathlib.Core.Path.{◌≡◌}
 use Prim.Native.Nat.{ℕ, ◌+◌, ◌-◌, ◌*◌, ◌≤◌}
@@ -7,7 +7,4 @@ use lib.ListN.{length}
 use Rattle.engine_fastpath.proofs.mixed.run_of_pairs.Given as goal
 
 abbrev pub invariant-loop-k : goal.invariant-loop-k
-invariant-loop-k l = (l.k ≤ l.most) × (length l.out ≡ length l.initial.out) × ((singles : List ℕ) → Ran (decoder l.classes singles l.pairs) l.piece l.initial.out l.from l.at l.out (l.from + 2 * l.k) (l.at + l.k))
-
-abbrev pub decreases-loop-k : goal.decreases-loop-k
-decreases-loop-k l = l.most - l.k
+invariant-loop-k l = (l.k ≤ l.most) × (length l.out ≡ length l.initial.out) × Ran (byte_reader l.tables.tables) l.piece l.initial.out l.from l.at l.out (l.from + 2 * l.k) (l.at + l.k)

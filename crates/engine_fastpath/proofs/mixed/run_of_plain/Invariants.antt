@@ -1,4 +1,4 @@
-use Rattle.engine_fastpath.specs.Words.{PlainPage}
+use Rattle.codepage_lookup.specs.Profile.{PlainPage}
 use Rattle.engine_fastpath.specs.Runs.{Ran}
 use Rattle.codepage.specs.Reading.{decoder}
 use mathlib.Core.List.{List}

@@ -5,6 +5,3 @@ use Rattle.engine_fastpath.proofs.plain.largest_byte.Given as goal
 
 abbrev pub invariant-loop-i : goal.invariant-loop-i
 invariant-loop-i l = (l.i ≤ length l.piece) × ((k : ℕ) → k < l.i → entry_at l.piece k ≤ l.most)
-
-abbrev pub decreases-loop-i : goal.decreases-loop-i
-decreases-loop-i l = length l.piece - l.i

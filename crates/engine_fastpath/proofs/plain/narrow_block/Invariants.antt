@@ -7,6 +7,3 @@ use Rattle.engine_fastpath.proofs.plain.narrow_block.Given as goal
 
 abbrev pub invariant-loop-i : goal.invariant-loop-i
 invariant-loop-i l = (l.i ≤ 64) × (length l.out ≡ length l.initial.out) × ((before : List ℕ) → Copied l.piece before l.initial.out l.from → Copied l.piece before l.out (l.from + l.i))
-
-abbrev pub decreases-loop-i : goal.decreases-loop-i
-decreases-loop-i l = 64 - l.i

@@ -1,5 +1,4 @@
 use Rattle.engine_fastpath.proofs.RunLaws.{ran_start, ran_single, ran_pair}
-use Rattle.engine.proofs.DecodeLaws.{pair_room}
 use Rattle.codepage.specs.CodePage.{is_lead}
 use lib.ListN.{length-set}
 use native.Mathlib.Omega.{arith}
@@ -7,14 +6,14 @@ use mathlib.Core.Path.{refl, sym, ap, ◌∙◌}
 use Rattle.engine_fastpath.proofs.runs.run_of_codes.Goals as goal
 
 pub returns-then-end-i-lt3 : goal.returns-then-end-i-lt3
-returns-then-end-i-lt3 c = ran_start c.requires.from_in_bounds.0 c.requires.from_in_bounds.1
+returns-then-end-i-lt3 c = ran_start c.requires.0 c.requires.1
 
 pub loop-i-init : goal.loop-i-init
 loop-i-init c =
-    (refl, omega arith, omega arith, omega arith, c.class_of-class.ensures, ran_start c.requires.from_in_bounds.0 c.requires.from_in_bounds.1)
+    (refl, omega arith, omega arith, omega arith, c.class_of-class.ensures, ran_start c.requires.0 c.requires.1)
 
 pub known_pair_unit-unit-requires : goal.known_pair_unit-unit-requires
-known_pair_unit-unit-requires c = let lead = ap is_lead (sym c.loop-i.invariant.4) ∙ sym c.known_lead.ensures ∙ c.if-known_lead.true in record { classes_len = (c.requires.decode_sizes.all_classes, lead, pair_room _ _ _ _ c.requires.decode_sizes lead); leads_at = (c.requires.leads_at, c.class_of-next.ensures) }
+known_pair_unit-unit-requires c = let lead = ap is_lead (sym c.loop-i.invariant.4) ∙ sym c.known_lead.ensures ∙ c.if-known_lead.true in record { is_lead = lead; class_value = c.class_of-next.ensures }
 
 pub loop-i-preserved-then-known_lead : goal.loop-i-preserved-then-known_lead
 loop-i-preserved-then-known_lead c =

@@ -10,7 +10,7 @@ loop-k-init c =
 pub overflow_add-w : goal.overflow_add-w
 overflow_add-w c =
     let count = eight_bytes c.code_of-a.result c.code_of-b.result c.code_of-c.result c.code_of-d.result c.lay_four-w.ensures.0 in
-    omega (arith, c.loop-k.invariant.1, c.loop-k.invariant.2, c.loop-k-test.true, c.well_formed.1.1.1.1.1.0.0, count)
+    omega (arith, c.loop-k.invariant.1, c.loop-k.invariant.2, c.loop-k-test.true, c.well_formed.1.1.1.1.0.0, count)
 
 pub loop-k-preserved : goal.loop-k-preserved
 loop-k-preserved c =

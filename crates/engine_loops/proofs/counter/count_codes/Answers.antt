@@ -7,4 +7,4 @@ use Rattle.engine_loops.proofs.counter.count_codes.Goals as goal
 
 pub loop-t-init : goal.loop-t-init
 loop-t-init c =
-    (count_start _ _ (omega (arith, c.well_formed.1.1.1.1.1.0)) c.start-t.ensures, λ w. absurd (false≢true (sym (ap (λ (x : Turn). x.waits) c.start-t.ensures) ∙ w)))
+    (count_start _ _ (omega (arith, c.well_formed.1.0)) c.start-t.ensures, λ w. absurd (false≢true (sym (ap (λ (x : Turn). x.waits) c.start-t.ensures) ∙ w)))

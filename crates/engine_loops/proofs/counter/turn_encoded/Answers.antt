@@ -4,4 +4,4 @@ use Rattle.engine_loops.proofs.CountLaws.{count_met}
 use Rattle.engine_loops.proofs.counter.turn_encoded.Goals as goal
 
 pub next_encoded-requires : goal.next_encoded-requires
-next_encoded-requires c = record { policy_value = c.requires.policy_value; index_len = c.requires.index_len; by_index = c.requires.by_index; counting = (count_met _ _ c.requires.counting.0 c.requires.counting.2 c.met_coded-place.ensures c.moved-next.ensures, ap (λ (x : Turn). x.waits) c.moved-next.ensures) }
+next_encoded-requires c = (count_met _ _ c.requires.counting.0 c.requires.counting.2 c.met_coded-place.ensures c.moved-next.ensures, ap (λ (x : Turn). x.waits) c.moved-next.ensures)

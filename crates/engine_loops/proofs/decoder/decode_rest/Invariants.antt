@@ -3,19 +3,19 @@ use lib.ListN.{length}
 use mathlib.Core.Bool.{true}
 use mathlib.Core.List.{List}
 use mathlib.Core.Path.{◌≡◌}
-use Rattle.codepage.specs.Reading.{decoder}
-use Rattle.engine.specs.Engine.{Fed, converter}
-use Rattle.engine_fastpath.specs.Words.{MixedPage}
+use Rattle.engine.specs.Engine.{Fed}
+use Rattle.codepage_lookup.specs.Profile.{MixedPage}
+use Rattle.engine.specs.Converters.{by_leads}
 use Rattle.engine_loops.specs.Turns.{steps_left, Ready, Loop}
 use Rattle.engine_loops.proofs.decoder.decode_rest.Given as goal
 
 abbrev pub invariant-loop-t : goal.invariant-loop-t
-invariant-loop-t l = let v = converter (decoder l.classes l.singles l.pairs) l.policy l.default in
+invariant-loop-t l = let v = by_leads l.v in
     Ready l.piece l.out l.t
     × (l.t.waits ≡ true → v.reader.waits l.t.first ≡ true)
     × (length l.out ≡ length l.initial.out)
     × ((F : Fed) (before : List ℕ) → Loop v l.last F before l.piece l.initial.out l.initial.t → Loop v l.last F before l.piece l.out l.t)
-    × (l.long ≡ true → MixedPage l.classes l.singles)
+    × (l.long ≡ true → MixedPage l.v.tables.tables.classes.now l.v.tables.tables.singles.now)
 
 abbrev pub decreases-loop-t : goal.decreases-loop-t
 decreases-loop-t l = steps_left l.piece l.t

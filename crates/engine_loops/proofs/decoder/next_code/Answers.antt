@@ -6,13 +6,13 @@ use Rattle.engine_loops.proofs.decoder.next_code.Goals as goal
 
 pub returns-then-is_lead : goal.returns-then-is_lead
 returns-then-is_lead c = (
-  λ pairs. turned_wait c.requires.ready.0.going c.requires.ready.0.within c.requires.ready.1 c.if-piece-at.false (decoder_waits _ _ pairs _ _ _ _ (sym c.is_lead.ensures ∙ c.if-is_lead.true))
+  turned_wait c.requires.ready.0.going c.requires.ready.0.within c.requires.ready.1 c.if-piece-at.false (decoder_waits _ _ _ _ _ _ _ (sym c.is_lead.ensures ∙ c.if-is_lead.true))
       c.wait.ensures,
   wait_falls c.args.piece.now c.args.t c.wait.ensures,
 )
 
 pub returns : goal.returns
 returns c = (
-  λ pairs. turned_one (c.take_alone-taken.ensures pairs) c.requires.ready.1 c.if-piece-at.false (decoder_waits _ _ pairs _ _ _ _ (sym c.is_lead.ensures ∙ c.if-is_lead.false)) refl c.past.ensures,
+  turned_one c.take_alone-taken.ensures c.requires.ready.1 c.if-piece-at.false (decoder_waits _ _ _ _ _ _ _ (sym c.is_lead.ensures ∙ c.if-is_lead.false)) refl c.past.ensures,
   past_falls c.args.piece.now c.args.t c.past.ensures,
 )

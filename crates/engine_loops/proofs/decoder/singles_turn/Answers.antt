@@ -1,4 +1,3 @@
-use mathlib.Core.List.{[]}
 use lib.ListN.{get_or}
 use mathlib.Core.Path.{refl, ap}
 use native.Mathlib.Omega.{arith}
@@ -11,39 +10,39 @@ use Rattle.engine_loops.proofs.decoder.singles_turn.Goals as goal
 
 pub returns-then-after-ne0 : goal.returns-then-after-ne0
 returns-then-after-ne0 c =
-    let single = single_no_lead _ (c.requires.by_index (get_or c.args.piece.now c.args.t.at 0) (omega (arith, c.shared_slice_known-4-1.given c.args.t.at))) in
-    (λ pairs. advanced_one (c.take_alone-taken.ensures pairs) c.requires.ready.2 c.requires.ready.1 (decoder_waits _ _ pairs _ _ _ _ single) refl c.past-next.ensures, ap (λ (x : Turn). x.waits) c.past-next.ensures)
+    let single = single_no_lead _ (c.requires.only_singles (get_or c.args.piece.now c.args.t.at 0) (omega (arith, c.type_inv.piece c.args.t.at))) in
+    (advanced_one c.take_alone-taken.ensures c.requires.ready.2 c.requires.ready.1 (decoder_waits _ _ _ _ _ _ _ single) refl c.past-next.ensures, ap (λ (x : Turn). x.waits) c.past-next.ensures)
 
 pub run_of_singles-count-requires : goal.run_of_singles-count-requires
 run_of_singles-count-requires c =
-    let single = single_no_lead _ (c.requires.by_index (get_or c.args.piece.now c.args.t.at 0) (omega (arith, c.shared_slice_known-4-1.given c.args.t.at))) in
-    let ready = one_ready (c.take_alone-taken.ensures []) c.requires.ready.1 c.requires.ready.0 c.past-next.ensures c.if-after-ne0.false in
-    (c.requires.classes_len.1, ready.inside, ready.within)
+    let single = single_no_lead _ (c.requires.only_singles (get_or c.args.piece.now c.args.t.at 0) (omega (arith, c.type_inv.piece c.args.t.at))) in
+    let ready = one_ready c.take_alone-taken.ensures c.requires.ready.1 c.requires.ready.0 c.past-next.ensures c.if-after-ne0.false in
+    (ready.inside, ready.within)
 
 pub overflow_add-from : goal.overflow_add-from
 overflow_add-from c =
-    let single = single_no_lead _ (c.requires.by_index (get_or c.args.piece.now c.args.t.at 0) (omega (arith, c.shared_slice_known-4-1.given c.args.t.at))) in
-    let ran = c.run_of_singles-count.ensures.ran c.args.classes.now [] (only_singles_clear c.args.classes.now c.args.singles.now c.requires.by_index) in
-    omega (arith, ran.inside, c.well_formed.1.1.1.1.0)
+    let single = single_no_lead _ (c.requires.only_singles (get_or c.args.piece.now c.args.t.at 0) (omega (arith, c.type_inv.piece c.args.t.at))) in
+    let ran = c.run_of_singles-count.ensures.ran c.args.v.now.tables.classes.now c.args.v.now.tables.pairs.now (only_singles_clear c.args.v.now.tables.classes.now c.args.v.now.tables.singles.now c.requires.only_singles) in
+    omega (arith, ran.inside, c.well_formed.1.0)
 
 pub overflow_add-after : goal.overflow_add-after
 overflow_add-after c =
-    let single = single_no_lead _ (c.requires.by_index (get_or c.args.piece.now c.args.t.at 0) (omega (arith, c.shared_slice_known-4-1.given c.args.t.at))) in
-    let ran = c.run_of_singles-count.ensures.ran c.args.classes.now [] (only_singles_clear c.args.classes.now c.args.singles.now c.requires.by_index) in
-    omega (arith, ran.within, c.run_of_singles-count.ensures.same, (c.take_alone-taken.ensures []).same, c.well_formed.1.1.1.1.1.1.0)
+    let single = single_no_lead _ (c.requires.only_singles (get_or c.args.piece.now c.args.t.at 0) (omega (arith, c.type_inv.piece c.args.t.at))) in
+    let ran = c.run_of_singles-count.ensures.ran c.args.v.now.tables.classes.now c.args.v.now.tables.pairs.now (only_singles_clear c.args.v.now.tables.classes.now c.args.v.now.tables.singles.now c.requires.only_singles) in
+    omega (arith, ran.within, c.run_of_singles-count.ensures.same, c.take_alone-taken.ensures.same, c.well_formed.1.1.1.0.0)
 
 pub moved-requires : goal.moved-requires
 moved-requires c =
-    let single = single_no_lead _ (c.requires.by_index (get_or c.args.piece.now c.args.t.at 0) (omega (arith, c.shared_slice_known-4-1.given c.args.t.at))) in
-    let ready = one_ready (c.take_alone-taken.ensures []) c.requires.ready.1 c.requires.ready.0 c.past-next.ensures c.if-after-ne0.false in
-    let ran = c.run_of_singles-count.ensures.ran c.args.classes.now [] (only_singles_clear c.args.classes.now c.args.singles.now c.requires.by_index) in
-    (omega (arith, ran.ahead), omega (arith, ran.inside, ready.few, c.well_formed.1.1.1.1.0))
+    let single = single_no_lead _ (c.requires.only_singles (get_or c.args.piece.now c.args.t.at 0) (omega (arith, c.type_inv.piece c.args.t.at))) in
+    let ready = one_ready c.take_alone-taken.ensures c.requires.ready.1 c.requires.ready.0 c.past-next.ensures c.if-after-ne0.false in
+    let ran = c.run_of_singles-count.ensures.ran c.args.v.now.tables.classes.now c.args.v.now.tables.pairs.now (only_singles_clear c.args.v.now.tables.classes.now c.args.v.now.tables.singles.now c.requires.only_singles) in
+    (omega (arith, ran.ahead), omega (arith, ran.inside, ready.few, c.well_formed.1.0))
 
 pub returns : goal.returns
 returns c =
-    let single = single_no_lead _ (c.requires.by_index (get_or c.args.piece.now c.args.t.at 0) (omega (arith, c.shared_slice_known-4-1.given c.args.t.at))) in
+    let single = single_no_lead _ (c.requires.only_singles (get_or c.args.piece.now c.args.t.at 0) (omega (arith, c.type_inv.piece c.args.t.at))) in
     let waits = ap (λ (x : Turn). x.waits) c.past-next.ensures in
-    let run = c.run_of_singles-count.ensures.ran c.args.classes.now in (
-      λ pairs. advanced_ran _ _ (advanced_one (c.take_alone-taken.ensures pairs) c.requires.ready.2 c.requires.ready.1 (decoder_waits _ _ pairs _ _ _ _ single) refl c.past-next.ensures) c.if-after-ne0.false waits (run pairs (only_singles_clear c.args.classes.now c.args.singles.now c.requires.by_index)) c.moved.ensures,
+    let run = c.run_of_singles-count.ensures.ran c.args.v.now.tables.classes.now in (
+      advanced_ran _ _ (advanced_one c.take_alone-taken.ensures c.requires.ready.2 c.requires.ready.1 (decoder_waits _ _ _ _ _ _ _ single) refl c.past-next.ensures) c.if-after-ne0.false waits (run c.args.v.now.tables.pairs.now (only_singles_clear c.args.v.now.tables.classes.now c.args.v.now.tables.singles.now c.requires.only_singles)) c.moved.ensures,
       ap (λ (x : Turn). x.waits) c.moved.ensures,
     )
