@@ -1,13 +1,12 @@
 -- Laws of a run call.
-use mathlib.Core.Bool.{Bool, true, false, not, ◌&&◌, ◌||◌, true≢false, false≢true}
-use mathlib.Core.List.{List, [], ◌∷◌, ◌++◌}
+use mathlib.Core.Bool.{Bool, true, false, not, ◌&&◌, ◌||◌, false≢true}
+use mathlib.Core.List.{List, [], ◌∷◌, ◌++◌, map}
 use mathlib.Core.Option.{Option, some}
 use mathlib.Core.Path.{◌≡◌, refl, sym, ap, ◌∙◌, subst}
 use Prim.Native.Nat.{ℕ, suc, ◌+◌, ◌-◌, ◌*◌, ◌^◌, ◌<◌, ◌≤◌}
-use native.Mathlib.Numerals.{add-one}
 use native.Mathlib.Omega.{arith}
 use lib.Dec.{leb, ltb, eqb}
-use lib.ListN.{length, get_or, length-append, length-drop, get_or-eq_default}
+use lib.ListN.{length, get_or, length-append, get_or-eq_default}
 use Rattle.codepage.specs.CodePage.{CodePage, pick, entry_at, is_lead, GoodShape, first_fault, is_good}
 use Rattle.codepage.specs.Reading.{is_high, decoder, encoder, as_units}
 use Rattle.codepage.proofs.ShapeLaws.{shape_exact, and_left, and_right}
@@ -21,32 +20,44 @@ use Rattle.engine.specs.declared.Policy.{Policy}
 use Rattle.convert.specs.declared.Run.{Run}
 use borrow.Author.Tests.{eqb-true, eqb-false, leb-true, ltb-true, ltb-false, eq-eqb, ne_eqb, le-leb, not-true}
 use Rattle.engine.specs.Policies.{policy_allowed}
-use Rattle.convert.specs.Runs.{piece_limit, read_limit, is_decoding, is_encoding, most_written, pending_allowed, valid_run}
-use Rattle.engine.specs.Engine.{converter, limit, Fed}
-use Rattle.convert.specs.Calls.{same_direction, lead_in, check, refusal, pending_unit, pending_count, pending_as, final_unit, units_read, pending_after, ended_after, run_after, fed_by, accepted_call, refused_call, run_call, Answered}
+use Rattle.convert.specs.Runs.{piece_limit, read_limit, most_written, pending_allowed, valid_run}
+use Rattle.engine.specs.Engine.{Converter, converter, limit, Fed, feed_from}
+use Rattle.convert.specs.Calls.{refusal_number, number_of, same_direction, lead_in, check, refusal, pending_unit, pending_count, pending_as, final_unit, units_read, pending_after, ended_after, run_after, fed_by, accepted_call, refused_call, run_call, Answered}
 use Rattle.codepage.specs.Lent.{over}
 use Rattle.engine.specs.Engine.{converter_of}
-use Rattle.convert.specs.Steps.{has_pending, pending_byte, pending_high, pending_agrees, most_of_one, run_refusal, rest_refusal, Finished, Refused}
-use Rattle.engine.specs.Steps.{summary, DecodeSizes, optional, decode_fed, encode_fed}
+use Rattle.convert.specs.Steps.{pending_byte, pending_high, run_refusal, Finished, refused_outcome}
+use Rattle.std.specs.Prelude.{Some, slice_get}
+use Rattle.std.proofs.lemmas.List.{length-map}
+use Rattle.engine.proofs.BoundLaws.{kept_from, widest, bounded_of}
+use Rattle.convert.specs.declared.Answer.{Answer}
+use Rattle.convert.specs.declared.Answer.TheVariants.{AllRead, UnitPending, OutputFull, Stopped, Refused}
+use Rattle.convert.specs.declared.Refusal.{Refusal}
+use Rattle.convert.specs.declared.Refusal.TheVariants.{BadShape, PieceTooLong, InvalidRun, OtherRun, PendingNotLead, RunEnded, ReadLimit}
+use Rattle.engine.specs.Steps.{summary}
+use Rattle.engine.specs.Pending.{waiting}
 use Rattle.engine.proofs.EngineLaws.{Waits, Shape, shape_from}
 
 -- ---- the final unit
 module _ (direction : Direction) where
-  -- an empty piece: the final unit is what was pending
-  pub final_empty : (pending : Pending) (piece : List ℕ) → length piece ≡ 0 → pending ≡ final_unit direction pending piece
-  final_empty pending [] e = refl
-  final_empty pending (a ∷ l) e = absurd (omega arith)
-
   final_at : (pending : Pending) (a : ℕ) (l : List ℕ) → pending_as direction (get_or (a ∷ l) (length l) 0) ≡ final_unit direction pending (a ∷ l)
   final_at pending a [] = refl
   final_at pending a (b ∷ l) = final_at (pending_as direction a) b l
 
-  -- a piece that is not empty: the final unit is its last one, at the index one below its length
-  pub final_last : (pending : Pending) (piece : List ℕ) → (length piece ≡ 0 → ⊥) → pending_as direction (get_or piece (length piece - 1) 0) ≡ final_unit direction pending piece
-  final_last pending [] e = absurd (e refl)
-  final_last pending (a ∷ l) e =
+  last_at : {A : Type 0} (unit : A → ℕ) (pending : Pending) (a : A) (l : List A) (x : A) → slice_get (a ∷ l) (length l) ≡ Some x → pending_as direction (unit x) ≡ final_unit direction pending (map unit (a ∷ l))
+  last_at {A} unit pending a [] x e = let z : a ≡ x = cc in ap (λ (y : A). pending_as direction (unit y)) (sym z)
+  last_at unit pending a (b ∷ l) x e = last_at unit (pending_as direction (unit a)) b l x e
+
+  -- the final unit of a piece that has a last one, of units of any type
+  pub final_last : {A : Type 0} (unit : A → ℕ) (pending : Pending) (piece : List A) (units : List ℕ) → map unit piece ≡ units → (x : A) → slice_get piece (length piece - 1) ≡ Some x
+      → pending_as direction (unit x) ≡ final_unit direction pending units
+  final_last unit pending [] units m x e = cc
+  final_last unit pending (a ∷ l) units m x e =
       let z : suc (length l) - 1 ≡ length l = omega arith in
-      rw z (final_at pending a l)
+      last_at unit pending a l x (sym (ap (slice_get (a ∷ l)) z) ∙ e) ∙ ap (final_unit direction pending) m
+
+-- units as numbers are as many
+pub units_count : {A : Type 0} (unit : A → ℕ) (piece : List A) (units : List ℕ) → map unit piece ≡ units → length units ≡ length piece
+units_count unit piece units m = sym (ap length m) ∙ length-map piece unit
 
 -- ---- what is read is of the piece
 -- a call reads no more units than the piece has
@@ -161,11 +172,6 @@ named_check : (number : ℕ) (holds : Bool) (next : ℕ) → 10 ≤ number → n
 named_check number true next l h rest ne = rest ne
 named_check number false next l h rest ne = record { low = l; high = h }
 
--- a shape that is not good is refused with 10, whatever else there is
-pub refusal_shape : (direction : Direction) (run : Run) (p : CodePage) (count : ℕ) → is_good (first_fault p) ≡ false → 10 ≡ refusal direction run p count
-unfolding refusal
-refusal_shape direction run p count e = rw e
-
 -- the number of a refusal is one of 10 to 16
 pub refusal_named : (direction : Direction) (run : Run) (p : CodePage) (count : ℕ) → (refusal direction run p count ≡ 0 → ⊥) → Named (refusal direction run p count)
 unfolding refusal
@@ -179,35 +185,31 @@ refusal_named direction run p count =
     (named_check 16 (leb (run.read + count) read_limit) _ (omega arith) (omega arith)
     (λ ne. absurd (ne refl))))))))
 
--- ---- the checks in two parts
-in_parts : (a b c : Bool) (rest : ℕ) → check 11 a (check 12 b (check 13 c rest)) ≡ pick (eqb (check 11 a (check 12 b (check 13 c 0))) 0) rest (check 11 a (check 12 b (check 13 c 0)))
-in_parts true true true rest = refl
-in_parts true true false rest = refl
-in_parts true false c rest = refl
-in_parts false b c rest = refl
+-- a refusal's number is at least 10
+pub number_from : (refusal' : Refusal) → 10 ≤ refusal_number refusal'
+number_from BadShape = omega arith
+number_from PieceTooLong = omega arith
+number_from InvalidRun = omega arith
+number_from OtherRun = omega arith
+number_from PendingNotLead = omega arith
+number_from RunEnded = omega arith
+number_from ReadLimit = omega arith
 
-module _ (direction : Direction) (run : Run) (p : CodePage) (count first : ℕ) (good : is_good (first_fault p) ≡ true) (e : first ≡ run_refusal direction run p.page count) where
-  refusal_parts : refusal direction run p count ≡ pick (eqb first 0) (rest_refusal run p.classes count) first
-  unfolding refusal
-  refusal_parts = rw (good, e) (in_parts (leb count piece_limit) (valid_run run) (same_direction direction run.direction && eqb run.page p.page) (rest_refusal run p.classes count))
+-- an answer that is neither a stop nor that all was read ends no run
+pub ended_no : (last : Bool) (a : Answer) → (a ≡ Stopped → ⊥) → (a ≡ AllRead → ⊥) → false ≡ ended_after last (number_of a)
+unfolding ended_after
+ended_no last AllRead n m = absurd (m refl)
+ended_no last UnitPending n m = refl
+ended_no last OutputFull n m = refl
+ended_no last Stopped n m = absurd (n refl)
+ended_no last (Refused refusal') n m =
+    rw (ne_eqb (refusal_number refusal') 3 (λ z. omega (arith, number_from refusal')), ne_eqb (refusal_number refusal') 0 (λ z. omega (arith, number_from refusal')))
 
-  -- a number that checks 11 to 13 gave is the call's refusal, if the shape is good
-  pub refusal_first : (first ≡ 0 → ⊥) → first ≡ refusal direction run p count
-  refusal_first n = sym (refusal_parts ∙ rw (ne_eqb first 0 n))
-
-  -- where checks 11 to 13 pass, the call's refusal is what checks 14 to 16 give
-  pub refusal_rest : first ≡ 0 → {number : ℕ} → number ≡ rest_refusal run p.classes count → number ≡ refusal direction run p count
-  refusal_rest z q = q ∙ sym (refusal_parts ∙ rw (eq-eqb first 0 z))
-
-  -- where checks 11 to 13 pass, the piece is within its limit and the run keeps the rules
-  pub refusal_valid : first ≡ 0 → (count ≤ piece_limit) × (valid_run run ≡ true)
-  refusal_valid z = by_checks (leb count piece_limit) (valid_run run) refl refl (sym e ∙ z)
-    where
-      by_checks : (a b : Bool) → leb count piece_limit ≡ a → valid_run run ≡ b → check 11 a (check 12 b (check 13 (same_direction direction run.direction && eqb run.page p.page) 0)) ≡ 0
-          → (count ≤ piece_limit) × (valid_run run ≡ true)
-      by_checks true true x y q = (leb-true _ _ x, y)
-      by_checks true false x y q = absurd (omega arith)
-      by_checks false b x y q = absurd (omega arith)
+-- where checks 11 to 13 pass, the piece is within its limit and the run keeps the rules
+pub run_passes : (direction : Direction) (run : Run) (page count : ℕ) → run_refusal direction run page count ≡ 0 → (count ≤ piece_limit) × (valid_run run ≡ true)
+run_passes direction run page count e =
+    let e₁ = passed 11 (leb count piece_limit) _ (λ z. omega arith) e in
+    (leb-true _ _ e₁.0, (passed 12 (valid_run run) _ (λ z. omega arith) e₁.1).0)
 
 -- ---- what is pending
 -- a pending unit or none, as a list
@@ -268,65 +270,29 @@ final_as Decoding (High unit) [] n i h = absurd i
 final_as Encoding (High unit) [] n i h = let z : n ≡ 0 = omega arith in rw z
 final_as direction pending (a ∷ piece) n i h = sym (final_at direction pending a piece) ∙ ap (pending_as direction) (final_place pending a piece n h)
 
--- ---- the rule of what is pending, in the order of the code
-module _ (direction : Direction) (written read : ℕ) where
-  -- nothing is pending: that is allowed in every run
-  pub allowed_none : (pending : Pending) (ended : Bool) → has_pending pending ≡ false → pending_allowed pending direction ended written read ≡ true
-  allowed_none Nothing ended e = refl
-  allowed_none (Byte byte) ended e = absurd (true≢false e)
-  allowed_none (High unit) ended e = absurd (true≢false e)
-
-  -- what is pending is not of the run's direction: not allowed
-  pub allowed_other : (pending : Pending) (ended : Bool) → pending_agrees pending direction ≡ false → pending_allowed pending direction ended written read ≡ false
-  allowed_other Nothing ended e = absurd (true≢false e)
-  allowed_other (Byte byte) ended e = rw e
-  allowed_other (High unit) ended e = by_direction direction e
-    where
-      by_direction : (d : Direction) → pending_agrees (High unit) d ≡ false → pending_allowed (High unit) d ended written read ≡ false
-      by_direction Decoding q = refl
-      by_direction Encoding q = rw q
-
-  -- something is pending in a run that has ended: not allowed
-  pub allowed_ended : (pending : Pending) → has_pending pending ≡ true → pending_agrees pending direction ≡ true → pending_allowed pending direction true written read ≡ false
-  allowed_ended Nothing e a = absurd (false≢true e)
-  allowed_ended (Byte byte) e a = rw a
-  allowed_ended (High unit) e a = rw (and_left (is_encoding direction) (is_high unit) a, and_right (is_encoding direction) (is_high unit) a)
-
-  -- pending, of the run's direction, in a run that goes on: allowed exactly if what it may write is within what was read
-  pub allowed_room : (pending : Pending) → has_pending pending ≡ true → pending_agrees pending direction ≡ true
-      → pending_allowed pending direction false written read ≡ leb (written + most_of_one direction) (most_written direction read)
-  allowed_room Nothing e a = absurd (false≢true e)
-  allowed_room (Byte byte) e a = by_direction direction a
-    where
-      by_direction : (d : Direction) → is_decoding d ≡ true → (is_decoding d && ltb written read) ≡ leb (written + most_of_one d) (most_written d read)
-      by_direction Decoding q = rw (add-one written)
-      by_direction Encoding q = absurd (false≢true q)
-  allowed_room (High unit) e a = by_direction direction a
-    where
-      by_direction : (d : Direction) → pending_agrees (High unit) d ≡ true → pending_allowed (High unit) d false written read ≡ leb (written + most_of_one d) (most_written d read)
-      by_direction Decoding q = absurd (false≢true q)
-      by_direction Encoding q = rw q
-
 -- ---- what a call feeds
-pub optional_byte : (pending : Pending) → PendingIn Decoding pending → optional (has_pending pending) (pending_byte pending) ≡ pending_unit pending
-optional_byte Nothing i = refl
-optional_byte (Byte byte) i = refl
-optional_byte (High unit) i = absurd i
+-- what is pending, as the loops take it
+pub byte_waits : (pending : Pending) → PendingIn Decoding pending → waiting (pending_byte pending) ≡ pending_unit pending
+byte_waits Nothing i = refl
+byte_waits (Byte byte) i = refl
+byte_waits (High unit) i = absurd i
 
-pub optional_high : (pending : Pending) → PendingIn Encoding pending → optional (has_pending pending) (pending_high pending) ≡ pending_unit pending
-optional_high Nothing i = refl
-optional_high (Byte byte) i = absurd i
-optional_high (High unit) i = refl
+pub high_waits : (pending : Pending) → PendingIn Encoding pending → waiting (pending_high pending) ≡ pending_unit pending
+high_waits Nothing i = refl
+high_waits (Byte byte) i = absurd i
+high_waits (High unit) i = refl
 
-lead_pending : (classes : List ℕ) (pending : Pending) → PendingIn Decoding pending → lead_in classes pending ≡ true → has_pending pending ≡ true → is_lead (entry_at classes (pending_byte pending)) ≡ true
-lead_pending classes Nothing i e h = absurd (false≢true h)
-lead_pending classes (Byte byte) i e h = e
-lead_pending classes (High unit) i e h = absurd i
+-- a pending byte is a lead
+pub byte_leads : (classes : List ℕ) (pending : Pending) → lead_in classes pending ≡ true → (lead : ℕ) → pending_byte pending ≡ Some lead → is_lead (entry_at classes lead) ≡ true
+byte_leads classes Nothing e lead q = cc
+byte_leads classes (Byte byte) e lead q = let z : byte ≡ lead = cc in subst (λ (b : ℕ). is_lead (entry_at classes b) ≡ true) z e
+byte_leads classes (High unit) e lead q = cc
 
-high_pending : (pending : Pending) → PendingIn Encoding pending → has_pending pending ≡ true → is_high (pending_high pending) ≡ true
-high_pending Nothing i h = absurd (false≢true h)
-high_pending (Byte byte) i h = absurd i
-high_pending (High unit) i h = i
+-- a pending unit is a high surrogate
+pub high_is : (pending : Pending) → PendingIn Encoding pending → (high : ℕ) → pending_high pending ≡ Some high → is_high high ≡ true
+high_is Nothing i high q = cc
+high_is (Byte byte) i high q = absurd i
+high_is (High unit) i high q = let z : unit ≡ high = cc in subst (λ (u : ℕ). is_high u ≡ true) z i
 
 decode_waits : (p : CodePage) (policy : Policy) (pending : Pending) → PendingIn Decoding pending → lead_in p.classes pending ≡ true → Waits (converter_of Decoding p policy) (pending_unit pending)
 unfolding converter decoder
@@ -354,11 +320,6 @@ unfolding fed_by
 feed_shape direction run p piece last room a = shape_from (converter_of direction p run.policy) last (limit room) (pending_unit run.pending) piece (call_waits direction run p (length piece) a)
 
 -- ---- the result
--- what is written fits the room
-over_length : (before ys after : List ℕ) → after ≡ over before ys → length after ≡ length before → length ys ≤ length before
-unfolding over
-over_length before ys after e h = omega (arith, simp (length-append, length-drop) at (ap length e))
-
 -- in both directions no more than twice read is written
 pub most_twice : (direction : Direction) (read : ℕ) → most_written direction read ≤ 2 * read
 most_twice Decoding read = omega arith
@@ -368,34 +329,45 @@ module _ (direction : Direction) (run : Run) (p : CodePage) (piece : List ℕ) (
   pub used_le : Accepted direction run p (length piece) → (fed_by direction run p piece last (length before)).used ≤ pending_count run.pending + length piece
   used_le a = omega (arith, (feed_shape direction run p piece last (length before) a).within, length-append (as_units (pending_unit run.pending)) piece)
 
-  -- what `accepted` requires
-  pub finish_needs : (s : Progress) (after : List ℕ) → Accepted direction run p (length piece) → s ≡ summary (fed_by direction run p piece last (length before))
-      → after ≡ over before (fed_by direction run p piece last (length before)).output → length after ≡ length before → length before < 2 ^ 63
-      → (s.answer ≤ 3) × ((s.used ≤ pending_count run.pending + length piece) × (run.read + length piece ≤ read_limit) × (run.written + s.written < 2 ^ 64))
-  unfolding summary
-  finish_needs s after a e f h k = (
-    omega (arith, ap (λ (v : Progress). v.answer) e, (feed_shape direction run p piece last (length before) a).known),
-    (
-      omega (arith, ap (λ (v : Progress). v.used) e, used_le a),
-      a.total,
-      omega (
-        arith,
-        ap (λ (v : Progress). v.written) e,
-        over_length before (fed_by direction run p piece last (length before)).output after f h,
-        a.valid.written,
-        a.valid.read,
-        most_twice run.direction run.read,
-      ),
-    ),
-  )
+  -- what `accepted` requires: an answer of 0 to 3, and totals that fit their numbers
+  pub finish_needs : (count : ℕ) (s : Progress) → length piece ≡ count → refusal direction run p (length piece) ≡ 0 → s ≡ summary (fed_by direction run p piece last (length before))
+      → (s.answer ≤ 3) × ((s.used ≤ pending_count run.pending + count) × (run.read + count ≤ read_limit) × (run.written + s.written < 2 ^ 64))
+  unfolding summary fed_by
+  finish_needs count s n z e =
+      let a = accepted_facts direction run p (length piece) z in (
+        omega (arith, ap (λ (v : Progress). v.answer) e, (feed_shape direction run p piece last (length before) a).known),
+        (
+          omega (arith, ap (λ (v : Progress). v.used) e, used_le a),
+          omega (arith, a.total),
+          omega (
+            arith,
+            ap (λ (v : Progress). v.written) e,
+            output_le,
+            used_le a,
+            a.short,
+            count_le_one run.pending,
+            a.valid.written,
+            a.valid.read,
+            most_twice run.direction run.read,
+          ),
+        ),
+      )
+    where
+      twice : (d : Direction) (k n : ℕ) → k ≤ widest d * n → k ≤ 2 * n
+      twice Decoding k n h = omega arith
+      twice Encoding k n h = omega arith
+
+      output_le : length (fed_by direction run p piece last (length before)).output ≤ 2 * (fed_by direction run p piece last (length before)).used
+      output_le = twice direction _ _ (kept_from (widest direction) (converter_of direction p run.policy) (bounded_of direction p run.policy) last (limit (length before)) (pending_unit run.pending) piece).output
 
   -- An accepted call whose loop gave what the rules give, and whose result was built from that, keeps the promise.
-  pub answered_accepted : (s : Progress) (after : List ℕ) (pending : Pending) (r : Outcome) → refusal direction run p (length piece) ≡ 0
+  pub answered_accepted : (count : ℕ) (s : Progress) (after : List ℕ) (pending : Pending) (r : Outcome) → length piece ≡ count → refusal direction run p (length piece) ≡ 0
       → s ≡ summary (fed_by direction run p piece last (length before)) → after ≡ over before (fed_by direction run p piece last (length before)).output
-      → pending ≡ pending_after direction run.pending piece s.answer s.used → Finished run s pending (length piece) last r
+      → pending ≡ pending_after direction run.pending piece s.answer s.used → Finished run s pending count last r
       → Answered (run_call direction run p piece last (length before)) r before after
   unfolding run_call accepted_call summary
-  answered_accepted s after pending r z e f q w =
+  answered_accepted count s after pending r n z e f q finished =
+      let w : Finished run s pending (length piece) last r = subst (λ (k : ℕ). Finished run s pending k last r) (sym n) finished in
       let accepted : eqb (refusal direction run p (length piece)) 0 ≡ true = eq-eqb _ _ z in
       let answer : s.answer ≡ (fed_by direction run p piece last (length before)).answer = ap (λ (v : Progress). v.answer) e in
       rw accepted
@@ -411,30 +383,23 @@ module _ (direction : Direction) (run : Run) (p : CodePage) (piece : List ℕ) (
         lent = f;
       })
 
-  -- A refused call whose result has the refusal's number and the run it was handed, with the output untouched, keeps the promise.
-  pub answered_refused : (number : ℕ) (r : Outcome) → number ≡ refusal direction run p (length piece) → (number ≡ 0 → ⊥) → Refused number run r
-      → Answered (run_call direction run p piece last (length before)) r before before
+  -- A refused call, with its refusal, the run it was handed and the output untouched, keeps the promise.
+  pub answered_refused : (refusal' : Refusal) → refusal_number refusal' ≡ refusal direction run p (length piece)
+      → Answered (run_call direction run p piece last (length before)) (refused_outcome refusal' run) before before
   unfolding run_call refused_call over
-  answered_refused number r e z w =
-      rw (← e, ne_eqb _ _ z) (record { number = w.number'; read = w.read; written = w.written; run = w.run'; lent = refl })
+  answered_refused refusal' e =
+      rw (← e, ne_eqb (refusal_number refusal') 0 (λ z. omega (arith, number_from refusal'))) (record { number = refl; read = refl; written = refl; run = refl; lent = refl })
+
+-- what the checks of a call gave, with its direction and the count of its units written otherwise
+pub checked_as : {d direction : Direction} (run : Run) (p : CodePage) {n count k : ℕ} → d ≡ direction → count ≡ n → refusal d run p n ≡ k → refusal direction run p count ≡ k
+checked_as run p e f g = rw (← e, f) g
 
 -- ---- the two loops
--- what the decode loop requires, and that it feeds what the call feeds
-pub decode_needs : (run : Run) (p : CodePage) (count : ℕ) (has : Bool) (byte : ℕ) → has ≡ has_pending run.pending → byte ≡ pending_byte run.pending → Accepted Decoding run p count
-    → DecodeSizes p.classes p.singles p.pairs × (has ≡ true → is_lead (entry_at p.classes byte) ≡ true)
-decode_needs run p count has byte e f a = (
-  record { all_classes = a.good.classes; all_singles = a.good.singles; all_pairs = a.good.pairs; known = a.good.class; no_low_lead = a.good.low },
-  λ h. rw f (lead_pending p.classes run.pending (call_in Decoding run p count a) a.lead (sym e ∙ h)),
-)
-
--- the decode loop, given the pending byte as a flag and a number, takes what the call takes
-pub decode_fed_lem : (run : Run) (p : CodePage) (piece : List ℕ) (last : Bool) (room : ℕ) (has : Bool) (byte : ℕ) → has ≡ has_pending run.pending → byte ≡ pending_byte run.pending
-    → Accepted Decoding run p (length piece)
-    → decode_fed p.classes p.singles p.pairs run.policy p.default_unit last room (optional has byte) piece ≡ fed_by Decoding run p piece last room
+-- a loop on what is pending and the piece takes what the call takes
+pub loop_fed : (direction : Direction) (run : Run) (p : CodePage) (piece : List ℕ) (last : Bool) (room : ℕ) {v : Converter} {pending : Option ℕ} → v ≡ converter_of direction p run.policy → pending ≡ pending_unit run.pending
+    → feed_from v last (limit room) pending piece ≡ fed_by direction run p piece last room
 unfolding fed_by
-decode_fed_lem run p piece last room has byte e f a =
-    ap (λ (o : Option ℕ). decode_fed p.classes p.singles p.pairs run.policy p.default_unit last room o piece)
-    (rw (e, f) (optional_byte run.pending (call_in Decoding run p (length piece) a)))
+loop_fed direction run p piece last room e f = rw (e, f)
 
 -- whatever place of the index is asked, also one behind its end, the block that it names is there
 pub index_high : (index : List ℕ) (blocks high : ℕ) → length index ≡ 256 → ((h : ℕ) → h < 256 → 256 * entry_at index h + 256 ≤ blocks) → 256 ≤ blocks → 256 * entry_at index high + 256 ≤ blocks
@@ -443,32 +408,3 @@ index_high index blocks high e h l = by_place (ltb high 256) refl
     by_place : (t : Bool) → ltb high 256 ≡ t → 256 * entry_at index high + 256 ≤ blocks
     by_place true q = h high (ltb-true _ _ q)
     by_place false q = omega (arith, ltb-false high 256 q, get_or-eq_default index 0 {n = high} (omega (arith, ltb-false high 256 q)))
-
--- what the encode loop requires of an accepted call: allowed digits, the index, a block for each of its numbers, and that a
--- pending unit is a high surrogate
-pub encode_needs : (run : Run) (p : CodePage) (count : ℕ) (has : Bool) (unit : ℕ) → has ≡ has_pending run.pending → unit ≡ pending_high run.pending → Accepted Encoding run p count
-    → (policy_allowed Encoding run.policy ≡ true) × ((length p.index ≡ 256) × (((high : ℕ) → 256 * entry_at p.index high + 256 ≤ length p.blocks) × (has ≡ true → is_high unit ≡ true)))
-encode_needs run p count has unit e f a = (
-  rw a.same a.valid.policy,
-  (
-    a.good.index,
-    (
-      λ high. index_high p.index (length p.blocks) high a.good.index a.good.number (omega (arith, a.good.blocks)),
-      λ h. rw f (high_pending run.pending (call_in Encoding run p count a) (sym e ∙ h)),
-    ),
-  ),
-)
-
--- the encode loop, given the pending unit as a flag and a number, takes what the call takes
-pub encode_fed_lem : (run : Run) (p : CodePage) (piece : List ℕ) (last : Bool) (room default : ℕ) (has : Bool) (unit : ℕ) → default ≡ p.default_byte → has ≡ has_pending run.pending → unit ≡ pending_high run.pending
-    → Accepted Encoding run p (length piece)
-    → encode_fed p.index p.blocks run.policy default last room (optional has unit) piece ≡ fed_by Encoding run p piece last room
-unfolding fed_by
-encode_fed_lem run p piece last room default has unit d e f a =
-    rw d
-    (ap (λ (o : Option ℕ). encode_fed p.index p.blocks run.policy p.default_byte last room o piece)
-    (rw (e, f) (optional_high run.pending (call_in Encoding run p (length piece) a))))
-
--- what a loop gives is what the call feeds
-pub loop_gives : (F G : Fed) (s : Progress) (before after : List ℕ) → F ≡ G → s ≡ summary F → after ≡ over before F.output → (s ≡ summary G) × (after ≡ over before G.output)
-loop_gives F G s before after q e f = (e ∙ ap summary q, f ∙ ap (λ (v : Fed). over before v.output) q)

@@ -1,5 +1,4 @@
 pub mod CallLaws
-pub mod CallNeeds
 pub mod RunLaws
 pub mod RuleLaws
 pub mod RefusalLaws

@@ -12,7 +12,7 @@ use Rattle.codepage.specs.CodePage.{CodePage, pick, entry_at, is_single, is_lead
 use Rattle.codepage.specs.Reading.{byte_alone, is_surrogate, bytes_of, Reader, decoder, encoder, Code, units_of, size_of, alone, together, codes_at_end, call_codes, codes, as_units}
 use Rattle.codepage.proofs.ReadingLaws.{codes_wait, codes_one, codes_two, codes_alone, none_waits, joined, covers, found_no_wait, found_no_surrogate}
 use Rattle.codepage.specs.declared.Kind.TheVariants.{Invalid}
-use Rattle.codepage.specs.declared.Lookup.TheVariants.{Found, Lacking}
+use Rattle.std.specs.Prelude.{Ok, Err}
 use Rattle.engine.specs.declared.Direction.TheVariants.{Decoding, Encoding}
 use Rattle.engine.specs.declared.Policy.{Policy}
 use Rattle.engine.specs.Engine.{effect_of, converter, endless, fits, room_left, Fed, halt, after, take_when, take_code, take_codes, whole}
@@ -21,18 +21,18 @@ use Rattle.convert.specs.RoundTrips.{UnitsReturn, CodesReturn, BytesReturn}
 
 -- ---- a code that has a character is read the same before any other bytes
 -- a lead alone has no character
-lead_lacks : (classes singles : List ℕ) (byte : ℕ) → is_lead (entry_at classes byte) ≡ true → byte_alone classes singles byte ≡ Lacking Invalid
+lead_lacks : (classes singles : List ℕ) (byte : ℕ) → is_lead (entry_at classes byte) ≡ true → byte_alone classes singles byte ≡ Err Invalid
 unfolding byte_alone is_single is_lead
 lead_lacks classes singles byte e = by_class (eqb (entry_at classes byte) 2) refl
   where
-    alone_of : (c : ℕ) → entry_at classes byte ≡ c → (eqb c 1 || eqb c 5) ≡ false → byte_alone classes singles byte ≡ Lacking Invalid
+    alone_of : (c : ℕ) → entry_at classes byte ≡ c → (eqb c 1 || eqb c 5) ≡ false → byte_alone classes singles byte ≡ Err Invalid
     alone_of c q f = rw (q, f)
 
-    by_class : (t : Bool) → eqb (entry_at classes byte) 2 ≡ t → byte_alone classes singles byte ≡ Lacking Invalid
+    by_class : (t : Bool) → eqb (entry_at classes byte) 2 ≡ t → byte_alone classes singles byte ≡ Err Invalid
     by_class true q = alone_of 2 (eqb-true _ _ q) refl
     by_class false q = alone_of 6 (eqb-true _ _ (sym (rw q) ∙ e)) refl
 
-lacks_not_found : (unit : ℕ) → Lacking Invalid ≡ Found unit → ⊥
+lacks_not_found : (unit : ℕ) → Err Invalid ≡ Ok unit → ⊥
 lacks_not_found unit e = let z : ◌≡◌ {A = ℕ} 0 1 = cc in omega arith
 
 cons_path : (k m : Code) (ks ms : List Code) → k ∷ ks ≡ m ∷ ms → (k ≡ m) × (ks ≡ ms)
@@ -50,7 +50,7 @@ module _ (classes singles pairs : List ℕ) where
   abbrev r : Reader
   r = decoder classes singles pairs
 
-  one_byte : (b : ℕ) (k : Code) (unit : ℕ) (rest : List ℕ) → call_codes r true none (b ∷ []) ≡ k ∷ [] → k.means ≡ Found unit → (t : Bool) → is_lead (entry_at classes b) ≡ t
+  one_byte : (b : ℕ) (k : Code) (unit : ℕ) (rest : List ℕ) → call_codes r true none (b ∷ []) ≡ k ∷ [] → k.means ≡ Ok unit → (t : Bool) → is_lead (entry_at classes b) ≡ t
       → call_codes r true none (b ∷ rest) ≡ k ∷ call_codes r true none rest
   unfolding decoder call_codes codes_at_end
   one_byte b k unit rest e c true w =
@@ -76,17 +76,17 @@ module _ (classes singles pairs : List ℕ) where
       absurd (codes_some r b (is_lead (entry_at classes b)) refl (cons_path (alone r a) k (call_codes r true none (b ∷ [])) [] (sym (codes_one r true a (b ∷ []) w) ∙ e)).1)
 
   -- a code that reads back as one code by itself is the first code of a text that it begins
-  pub code_first : (code : ℕ) (k : Code) (unit : ℕ) (rest : List ℕ) → codes r (bytes_of code) ≡ k ∷ [] → k.means ≡ Found unit → codes r (bytes_of code ++ rest) ≡ k ∷ codes r rest
+  pub code_first : (code : ℕ) (k : Code) (unit : ℕ) (rest : List ℕ) → codes r (bytes_of code) ≡ k ∷ [] → k.means ≡ Ok unit → codes r (bytes_of code ++ rest) ≡ k ∷ codes r rest
   unfolding codes bytes_of
   code_first code k unit rest = by_size (leb code 0xFF)
     where
-      by_size : (t : Bool) → call_codes r true none (pick t (code ∷ []) (code / 256 ∷ code % 256 ∷ [])) ≡ k ∷ [] → k.means ≡ Found unit
+      by_size : (t : Bool) → call_codes r true none (pick t (code ∷ []) (code / 256 ∷ code % 256 ∷ [])) ≡ k ∷ [] → k.means ≡ Ok unit
           → call_codes r true none (pick t (code ∷ []) (code / 256 ∷ code % 256 ∷ []) ++ rest) ≡ k ∷ call_codes r true none rest
       by_size true e c = one_byte code k unit rest e c (is_lead (entry_at classes code)) refl
       by_size false e c = two_bytes (code / 256) (code % 256) k rest e (is_lead (entry_at classes (code / 256))) refl
 
 -- ---- a code with a character is written, with no flag
-found_taken : (r : Reader) (policy : Policy) (default value : ℕ) (k : Code) (ks : List Code) → k.means ≡ Found value
+found_taken : (r : Reader) (policy : Policy) (default value : ℕ) (k : Code) (ks : List Code) → k.means ≡ Ok value
     → take_codes (converter r policy default) endless (k ∷ ks) none ≡ after (size_of k) (r.writes value) 0 (take_codes (converter r policy default) endless ks none)
 unfolding take_codes converter effect_of take_code take_when fits room_left
 found_taken r policy default value k ks e = rw e
@@ -103,7 +103,7 @@ unfolding take_codes halt
 clear_end r policy default = record { answer = refl; flags = refl; written = refl }
 
 -- one code more that has a character
-pub clear_more : (r : Reader) (policy : Policy) (default value : ℕ) (k : Code) (ks : List Code) (output : List ℕ) → k.means ≡ Found value → Clear (take_codes (converter r policy default) endless ks none) output
+pub clear_more : (r : Reader) (policy : Policy) (default value : ℕ) (k : Code) (ks : List Code) (output : List ℕ) → k.means ≡ Ok value → Clear (take_codes (converter r policy default) endless ks none) output
     → Clear (take_codes (converter r policy default) endless (k ∷ ks) none) (r.writes value ++ output)
 unfolding after
 clear_more r policy default value k ks output e g =

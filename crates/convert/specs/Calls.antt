@@ -10,11 +10,23 @@ use Rattle.convert.specs.declared.Pending.{Pending}
 use Rattle.convert.specs.declared.Pending.TheVariants.{Nothing, Byte, High}
 use Rattle.convert.specs.declared.Run.{Run}
 use Rattle.convert.specs.declared.Answer.{Answer}
-use Rattle.convert.specs.declared.Answer.TheVariants.{AllRead, UnitPending, OutputFull, Stopped, BadShape, PieceTooLong, InvalidRun, OtherRun, PendingNotLead, RunEnded, ReadLimit}
+use Rattle.convert.specs.declared.Answer.TheVariants.{AllRead, UnitPending, OutputFull, Stopped, Refused}
+use Rattle.convert.specs.declared.Refusal.{Refusal}
+use Rattle.convert.specs.declared.Refusal.TheVariants.{BadShape, PieceTooLong, InvalidRun, OtherRun, PendingNotLead, RunEnded, ReadLimit}
 use Rattle.convert.specs.declared.Outcome.{Outcome}
 use Rattle.codepage.specs.Lent.{over}
 use Rattle.engine.specs.Engine.{converter_of, limit, Fed, feed_from}
 use Rattle.convert.specs.Runs.{piece_limit, read_limit, valid_run}
+
+-- The number of each refusal.
+abbrev pub refusal_number : Refusal → ℕ
+refusal_number BadShape = 10
+refusal_number PieceTooLong = 11
+refusal_number InvalidRun = 12
+refusal_number OtherRun = 13
+refusal_number PendingNotLead = 14
+refusal_number RunEnded = 15
+refusal_number ReadLimit = 16
 
 -- The number of each answer.
 abbrev pub number_of : Answer → ℕ
@@ -22,13 +34,7 @@ number_of AllRead = 0
 number_of UnitPending = 1
 number_of OutputFull = 2
 number_of Stopped = 3
-number_of BadShape = 10
-number_of PieceTooLong = 11
-number_of InvalidRun = 12
-number_of OtherRun = 13
-number_of PendingNotLead = 14
-number_of RunEnded = 15
-number_of ReadLimit = 16
+number_of (Refused refusal) = refusal_number refusal
 
 -- whether two directions are the same: the first half of check 13
 abbrev pub same_direction : Direction → Direction → Bool

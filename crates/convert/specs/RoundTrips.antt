@@ -3,17 +3,17 @@
 use Rattle.std.specs.Prelude.{List, [], ◌∷◌, ◌≡◌, ℕ}
 use Rattle.codepage.specs.CodePage.{CodePage}
 use Rattle.codepage.specs.Reading.{bytes_of, Code, units_of, codes}
-use Rattle.codepage.specs.declared.Lookup.TheVariants.{Found}
+use Rattle.std.specs.Prelude.{Ok}
 use Rattle.engine.specs.declared.Direction.TheVariants.{Decoding, Encoding}
 use Rattle.engine.specs.Engine.{reader_of}
 
 -- A unit and a code belong together if the code is the unit's own and, written as bytes, is read by the rules as one code with
 -- that unit as its character.
 pub record RoundTrips (p : CodePage) (unit code : ℕ) : Type 0 where
-  pub own : (reader_of Encoding p).one unit ≡ Found code
+  pub own : (reader_of Encoding p).one unit ≡ Ok code
   pub read : Code
   pub one_code : codes (reader_of Decoding p) (bytes_of code) ≡ read ∷ []
-  pub character : read.means ≡ Found unit
+  pub character : read.means ≡ Ok unit
 
 -- A text of units each of which belongs with its code.
 abbrev pub UnitsReturn : CodePage → List ℕ → Type 0
@@ -24,7 +24,7 @@ UnitsReturn p (unit ∷ text) = ((code : ℕ) × RoundTrips p unit code) × Unit
 pub record CodeReturns (p : CodePage) (k : Code) : Type 0 where
   pub unit : ℕ
   pub code : ℕ
-  pub character : k.means ≡ Found unit
+  pub character : k.means ≡ Ok unit
   pub bytes : units_of k ≡ bytes_of code
   pub belong : RoundTrips p unit code
 

@@ -10,8 +10,9 @@ use Rattle.engine.specs.declared.Policy.{Policy}
 use Rattle.convert.specs.declared.Pending.{Pending}
 use Rattle.convert.specs.declared.Pending.TheVariants.{Nothing, Byte, High}
 use Rattle.convert.specs.declared.Run.{Run}
-use Rattle.convert.specs.declared.Started.{Started}
-use Rattle.convert.specs.declared.Started.TheVariants.{Accepted, Refused}
+use Rattle.convert.specs.declared.StartError.{StartError}
+use Rattle.convert.specs.declared.StartError.TheVariants.{NotAllowed}
+use Rattle.std.specs.Prelude.{Result, Ok, Err}
 use Rattle.engine.specs.Policies.{stopped_flag, highest_single, policy_allowed}
 
 -- The limits of a run: the units of one piece, and of all that it reads.
@@ -110,7 +111,11 @@ unfoldable pub start_of : Direction → ℕ → Policy → Start
 start_of direction page policy =
     pick (not (eqb page 0) && policy_allowed direction policy) (record { number = 0; run = some (fresh direction page policy) }) (record { number = 17; run = none })
 
+-- the number of a refused start
+abbrev pub start_number : StartError → ℕ
+start_number NotAllowed = 17
+
 -- the number and values of each case of the answer
-abbrev pub started_as : Started → Start
-started_as (Accepted run) = record { number = 0; run = some run }
-started_as Refused = record { number = 17; run = none }
+abbrev pub started_as : Result Run StartError → Start
+started_as (Ok run) = record { number = 0; run = some run }
+started_as (Err e) = record { number = start_number e; run = none }

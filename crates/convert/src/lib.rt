@@ -5,8 +5,8 @@
 // whether it is the last one, and room for output, and gives an answer, what was read and written, and the run for the next call.
 // `checkpoint` saves a run as a line of text.
 //
-//     let mut run = ..;                        // Run::start(Direction::Decoding, numbers.page, Policy::standard())
-//     let outcome = convert::decode(run, numbers, classes, singles, pairs, index, blocks, piece, last, out);
+//     let mut run = ..;                        // Run::start(Direction::Decoding, tables.numbers.page, Policy::standard())
+//     let outcome = convert::decode(run, &tables, piece, last, out);
 //     run = outcome.run;                       // outcome.answer.number(), outcome.read, outcome.written
 //
 // With one place of room more than the piece has bytes (encoding: one byte more than twice its units) no answer is 2.
@@ -16,18 +16,18 @@
 mod finish;
 mod refusals;
 pub mod rules;
+mod units;
 
-ghost use Rattle.std.specs.Prelude.{◌≡◌, true, ℕ, length};
-ghost use Rattle.codepage.specs.CodePage.{code_page};
+ghost use Rattle.std.specs.Prelude.{◌≡◌, length};
+ghost use Rattle.codepage.specs.CodePage.{page_of};
 ghost use Rattle.engine.specs.declared.Direction.TheVariants.{Decoding, Encoding};
-ghost use Rattle.engine.specs.Policies.{policy_allowed};
-ghost use Rattle.convert.specs.Runs.{start_of, started_as};
-ghost use Rattle.convert.specs.Calls.{number_of, run_call, Answered};
+ghost use Rattle.convert.specs.Runs.{start_of, start_number, started_as};
+ghost use Rattle.convert.specs.Calls.{refusal_number, number_of, run_call, Answered};
 
-use codepage::Numbers;
+use codepage::TableSet;
 use engine::policies;
 pub use engine::{Direction, Policy};
-use engine_loops::{decoder, encoder};
+pub use units::{Input, byte_converter, unit_converter};
 
 // What was read at the end of a piece and waits for what follows (documents 01 and 02: what is pending), or none.
 #[derive(Clone, Copy)]
@@ -52,24 +52,16 @@ pub struct Run {
     pub ended: bool,
 }
 
-// What a start answers: a fresh run, or 17.
-#[derive(Clone, Copy)]
-pub enum Started {
-    Accepted(Run),
-    Refused,
+// Why a start is refused.
+#[derive(Clone, Copy, Debug, PartialEq, Eq)]
+pub enum StartError {
+    // 17: the page is 0, or a policy digit is not allowed.
+    NotAllowed,
 }
 
-// What a run call answers.
-#[derive(Clone, Copy)]
-pub enum Answer {
-    // 0: all read, nothing pending, not stopped.
-    AllRead,
-    // 1: all read, a lead byte or a high surrogate is pending.
-    UnitPending,
-    // 2: the next code does not fit.
-    OutputFull,
-    // 3: stopped by policy digit 0.
-    Stopped,
+// Why a run call is refused.
+#[derive(Clone, Copy, Debug, PartialEq, Eq)]
+pub enum Refusal {
     // 10: the shape of the tables is not good.
     BadShape,
     // 11: the piece is over the limit.
@@ -86,6 +78,21 @@ pub enum Answer {
     ReadLimit,
 }
 
+// What a run call answers.
+#[derive(Clone, Copy, Debug, PartialEq, Eq)]
+pub enum Answer {
+    // 0: all read, nothing pending, not stopped.
+    AllRead,
+    // 1: all read, a lead byte or a high surrogate is pending.
+    UnitPending,
+    // 2: the next code does not fit.
+    OutputFull,
+    // 3: stopped by policy digit 0.
+    Stopped,
+    // 10 to 16: refused, with nothing read and nothing written.
+    Refused(Refusal),
+}
+
 // The result of a run call: the units of the piece read, the units of output written, and the new run.
 #[derive(Clone, Copy)]
 pub struct Outcome {
@@ -93,6 +100,34 @@ pub struct Outcome {
     pub read: usize,
     pub written: usize,
     pub run: Run,
+}
+
+impl StartError {
+    // The number that document 01 gives the refusal.
+    pub fn number(self) -> u8
+        ensures { result ≡ start_number self }
+    {
+        match self {
+            StartError::NotAllowed => 17,
+        }
+    }
+}
+
+impl Refusal {
+    // The number that document 01 gives the refusal.
+    pub fn number(self) -> u8
+        ensures { result ≡ refusal_number self }
+    {
+        match self {
+            Refusal::BadShape => 10,
+            Refusal::PieceTooLong => 11,
+            Refusal::InvalidRun => 12,
+            Refusal::OtherRun => 13,
+            Refusal::PendingNotLead => 14,
+            Refusal::RunEnded => 15,
+            Refusal::ReadLimit => 16,
+        }
+    }
 }
 
 impl Answer {
@@ -105,13 +140,7 @@ impl Answer {
             Answer::UnitPending => 1,
             Answer::OutputFull => 2,
             Answer::Stopped => 3,
-            Answer::BadShape => 10,
-            Answer::PieceTooLong => 11,
-            Answer::InvalidRun => 12,
-            Answer::OtherRun => 13,
-            Answer::PendingNotLead => 14,
-            Answer::RunEnded => 15,
-            Answer::ReadLimit => 16,
+            Answer::Refused(refusal) => refusal.number(),
         }
     }
 }
@@ -123,16 +152,14 @@ impl Run {
     pub const READ_LIMIT: u64 = 4294967295;
 
     // A fresh run, if the page and the digits are allowed.
-    pub fn start(direction: Direction, page: u16, policy: Policy) -> Started
+    #[tactic(auto, unfolding(crate::specs::Runs::start_of))]
+    pub fn start(direction: Direction, page: u16, policy: Policy) -> Result<Run, StartError>
         ensures { started_as result ≡ start_of direction page policy }
     {
-        if page == 0 {
-            return Started::Refused;
+        if page == 0 || !policies::allowed(direction, policy) {
+            return Err(StartError::NotAllowed);
         }
-        if !policies::allowed(direction, policy) {
-            return Started::Refused;
-        }
-        Started::Accepted(Run {
+        Ok(Run {
             direction,
             page,
             policy,
@@ -145,109 +172,37 @@ impl Run {
     }
 }
 
-// One call of a decoding run.
-pub fn decode(
+// One call of a run, in the direction of the piece's units.
+pub fn call<I: Input>(
     run: Run,
-    numbers: Numbers,
-    classes: &[u8],
-    singles: &[u16],
-    pairs: &[u16],
-    index: &[u8],
-    blocks: &[u16],
-    piece: &[u8],
+    tables: &TableSet,
+    piece: &[I],
     last: bool,
-    out: &mut [u16],
+    out: &mut [I::Output],
 ) -> Outcome
-    ensures { Answered (run_call Decoding run (code_page numbers classes.now singles.now pairs.now index.now blocks.now) piece.now last (length out.old)) result out.old out.new }
+    ensures { Answered (run_call I.direction run (page_of tables.now) (I.units piece.now) last (length (I.written out.old))) result (I.written out.old) (I.written out.new) }
 {
-    if !codepage::shape::good_shape(numbers, classes, singles, pairs, index, blocks) {
-        return finish::refused(10, run);
+    let checked = refusals::check(I::direction(), run, tables, piece.len());
+    if let Err(refusal) = checked {
+        return Outcome::refused(refusal, run);
     }
-    let first = refusals::run_refusal(Direction::Decoding, run, numbers.page, piece.len());
-    let number = refusals::refusal(
-        Direction::Decoding,
-        first,
-        run,
-        numbers,
-        classes,
-        singles,
-        pairs,
-        index,
-        blocks,
-        piece.len(),
-    );
-    if number != 0 {
-        return finish::refused(number, run);
-    }
-    let policy = run.policy;
-    let pending = run.pending;
-    let waits = finish::has_pending(pending);
-    let lead = finish::pending_byte(pending);
-    let progress = decoder::decode_loop(
-        policy,
-        numbers.default_unit,
-        classes,
-        singles,
-        pairs,
-        waits,
-        lead,
-        piece,
-        last,
-        out,
-    );
-    let next = finish::pending_after_bytes(pending, progress, piece);
-    finish::accepted(run, progress, next, piece.len(), last)
+    let progress = I::feed(run, tables, piece, last, out);
+    let pending = run.pending.after(progress, piece);
+    Outcome::accepted(run, progress, pending, piece.len(), last)
 }
 
-// The default of encoding: a number of its own, not the default unit's low half.
-fn default_of_bytes(numbers: Numbers) -> u8
-    ensures { result ≡ numbers.default_byte }
+// One call of a decoding run.
+// Kept: the C interface (`capi::till_decode`) calls `call` for bytes by this name.
+pub fn decode(run: Run, tables: &TableSet, piece: &[u8], last: bool, out: &mut [u16]) -> Outcome
+    ensures { Answered (run_call Decoding run (page_of tables.now) piece.now last (length out.old)) result out.old out.new }
 {
-    numbers.default_byte
+    call(run, tables, piece, last, out)
 }
 
 // One call of an encoding run.
-pub fn encode(
-    run: Run,
-    numbers: Numbers,
-    classes: &[u8],
-    singles: &[u16],
-    pairs: &[u16],
-    index: &[u8],
-    blocks: &[u16],
-    piece: &[u16],
-    last: bool,
-    out: &mut [u8],
-) -> Outcome
-    ensures { Answered (run_call Encoding run (code_page numbers classes.now singles.now pairs.now index.now blocks.now) piece.now last (length out.old)) result out.old out.new }
+// Kept: the C interface (`capi::till_encode`) calls `call` for units by this name.
+pub fn encode(run: Run, tables: &TableSet, piece: &[u16], last: bool, out: &mut [u8]) -> Outcome
+    ensures { Answered (run_call Encoding run (page_of tables.now) piece.now last (length out.old)) result out.old out.new }
 {
-    if !codepage::shape::good_shape(numbers, classes, singles, pairs, index, blocks) {
-        return finish::refused(10, run);
-    }
-    let first = refusals::run_refusal(Direction::Encoding, run, numbers.page, piece.len());
-    let number = refusals::refusal(
-        Direction::Encoding,
-        first,
-        run,
-        numbers,
-        classes,
-        singles,
-        pairs,
-        index,
-        blocks,
-        piece.len(),
-    );
-    if number != 0 {
-        return finish::refused(number, run);
-    }
-    let policy = run.policy;
-    let default = default_of_bytes(numbers);
-    let pending = run.pending;
-    let waits = finish::has_pending(pending);
-    let high = finish::pending_high(pending);
-    let progress = encoder::encode_loop(
-        policy, default, index, blocks, waits, high, piece, last, out,
-    );
-    let next = finish::pending_after_units(pending, progress, piece);
-    finish::accepted(run, progress, next, piece.len(), last)
+    call(run, tables, piece, last, out)
 }

@@ -1,28 +1,12 @@
 // The refusals of a run call. (Document 01, "One call of a run", as amended by CR 5.)
 ghost use Rattle.std.specs.Prelude.{◌≡◌, true, length};
-ghost use Rattle.codepage.specs.CodePage.{code_page, first_fault, is_good};
-ghost use Rattle.convert.specs.Calls.{same_direction, lead_in, refusal};
-ghost use Rattle.convert.specs.Steps.{run_refusal};
+ghost use Rattle.codepage.specs.CodePage.{page_of};
+ghost use Rattle.convert.specs.Calls.{lead_in, refusal};
+ghost use Rattle.convert.specs.Steps.{refused_as, run_refusal};
 
-use crate::{Pending, Run, rules};
-use codepage::Numbers;
+use crate::{Pending, Refusal, Run, rules};
+use codepage::TableSet;
 use engine::Direction;
-
-// Whether two directions are one.
-fn same_direction(a: Direction, b: Direction) -> bool
-    ensures { result ≡ same_direction a b }
-{
-    match a {
-        Direction::Decoding => match b {
-            Direction::Decoding => true,
-            Direction::Encoding => false,
-        },
-        Direction::Encoding => match b {
-            Direction::Decoding => false,
-            Direction::Encoding => true,
-        },
-    }
-}
 
 // Whether a pending byte is a lead byte here; of a pending unit nothing is asked.
 fn pending_is_lead(pending: Pending, classes: &[u8]) -> bool
@@ -36,56 +20,43 @@ fn pending_is_lead(pending: Pending, classes: &[u8]) -> bool
     }
 }
 
-// The number of the first of the checks 11 to 13 that a call on `count` units fails, or 0. The checks are two functions, each small
-// enough to be inlined in both calls: so a run stays in registers, and a call's stack small.
-pub fn run_refusal(direction: Direction, run: Run, page: u16, count: usize) -> u8
-    ensures { result ≡ run_refusal direction run page count }
+// The first of the checks 11 to 13 that a call on `count` units fails. The checks are two functions, each small enough to be inlined
+// in both calls: so a run stays in registers, and a call's stack small.
+fn check_run(direction: Direction, run: Run, page: u16, count: usize) -> Result<(), Refusal>
+    ensures { refused_as result ≡ run_refusal direction run page count }
 {
     if Run::PIECE_LIMIT < count {
-        return 11;
+        return Err(Refusal::PieceTooLong);
     }
     if !rules::valid_run(run) {
-        return 12;
+        return Err(Refusal::InvalidRun);
     }
-    let own = run.direction;
-    if !same_direction(direction, own) {
-        return 13;
+    if direction != run.direction {
+        return Err(Refusal::OtherRun);
     }
     if run.page != page {
-        return 13;
+        return Err(Refusal::OtherRun);
     }
-    0
+    Ok(())
 }
 
-// The number of the first check that a call on `count` units fails, or 0: `first` is that of 11 to 13. The shape was found good.
-pub fn refusal(
-    direction: Direction,
-    first: u8,
-    run: Run,
-    numbers: Numbers,
-    classes: &[u8],
-    singles: &[u16],
-    pairs: &[u16],
-    index: &[u8],
-    blocks: &[u16],
-    count: usize,
-) -> u8
-    requires blocks_value { is_good (first_fault (code_page numbers classes.now singles.now pairs.now index.now blocks.now)) ≡ true }
-    requires first_value { first ≡ run_refusal direction run numbers.page count }
-    ensures { result ≡ refusal direction run (code_page numbers classes.now singles.now pairs.now index.now blocks.now) count }
+// The first check that a call on `count` units fails.
+#[tactic(auto, unfolding(crate::specs::Calls::refusal))]
+pub fn check(direction: Direction, run: Run, tables: &TableSet, count: usize) -> Result<(), Refusal>
+    ensures { refused_as result ≡ refusal direction run (page_of tables.now) count }
 {
-    if first != 0 {
-        return first;
+    if !codepage::shape::good_shape(tables) {
+        return Err(Refusal::BadShape);
     }
-    let pending = run.pending;
-    if !pending_is_lead(pending, classes) {
-        return 14;
+    check_run(direction, run, tables.numbers.page, count)?;
+    if !pending_is_lead(run.pending, tables.classes) {
+        return Err(Refusal::PendingNotLead);
     }
     if run.ended {
-        return 15;
+        return Err(Refusal::RunEnded);
     }
     if Run::READ_LIMIT < run.read + (count as u64) {
-        return 16;
+        return Err(Refusal::ReadLimit);
     }
-    0
+    Ok(())
 }

@@ -1,9 +1,9 @@
 -- Laws of the call on a whole text.
 use mathlib.Core.Bool.{Bool, true, false, true≢false}
-use mathlib.Core.List.{List, [], ◌∷◌}
+use mathlib.Core.List.{List, [], ◌∷◌, map}
 use mathlib.Core.Logic.{◌⊎◌, inl, inr}
 use mathlib.Core.Option.{Option, none, some}
-use mathlib.Core.Path.{◌≡◌, refl, sym, ap, ap₂, ◌∙◌, subst}
+use mathlib.Core.Path.{◌≡◌, refl, sym, ap, ap₂, ◌∙◌}
 use Prim.Native.Nat.{ℕ, zero, suc, ◌+◌, ◌-◌, ◌*◌, ◌<◌, ◌≤◌}
 use native.Mathlib.Omega.{arith}
 use lib.Dec.{leb, ltb, eqb}
@@ -19,6 +19,10 @@ use Rattle.engine.specs.declared.Direction.TheVariants.{Decoding, Encoding}
 use Rattle.engine.specs.declared.Policy.{Policy}
 use Rattle.oneshot.specs.declared.Totals.{Totals}
 use Rattle.oneshot.specs.declared.Converted.{Converted}
+use Rattle.oneshot.specs.declared.TextRefusal.{TextRefusal}
+use Rattle.oneshot.specs.declared.TextRefusal.TheVariants.{BadPolicy, BadShape, TooLong}
+use Rattle.std.specs.Prelude.{Ok, Err}
+use Rattle.std.proofs.lemmas.List.{take-map, length-map}
 use Rattle.engine.specs.declared.progress.Progress.{Progress}
 use Rattle.engine.specs.Policies.{policy_allowed}
 use Rattle.engine.specs.Engine.{Effect, Converter, Room, limit, endless, fits, room_left, Fed, halt, after, stop_at, take_when, take_code, take_codes, feed_from}
@@ -26,32 +30,17 @@ use Rattle.convert.specs.Runs.{piece_limit}
 use Rattle.convert.specs.Calls.{check}
 use Rattle.codepage.specs.Lent.{over}
 use Rattle.engine.specs.Engine.{converter_of}
-use Rattle.oneshot.specs.Texts.{text_refusal, Text, answer_of, accepted_text, refused_text, text_fed, text_of, converted_number, converted_totals, totals_or_none, ConvertedAs, FilledAs}
+use Rattle.oneshot.specs.Texts.{text_refusal, Text, answer_of, accepted_text, refused_text, text_fed, text_of, ending_number, refused_number, totals_or_none, ConvertedAs, FilledAs}
 use Rattle.oneshot.specs.Steps.{totals_by}
-use Rattle.engine.specs.Steps.{summary, DecodeSizes}
+use Rattle.engine.specs.Steps.{summary}
 use Rattle.engine.proofs.EngineLaws.{shape_from}
-use Rattle.convert.proofs.CallLaws.{index_high}
-
--- ---- one of a few numbers
--- one of three numbers that is neither of the first two is the third
-pub third : (n a b c : ℕ) → (n ≡ a) ⊎ ((n ≡ b) ⊎ (n ≡ c)) → (n ≡ a → ⊥) → (n ≡ b → ⊥) → c ≡ n
-third n a b c (inl e) p q = absurd (p e)
-third n a b c (inr (inl e)) p q = absurd (q e)
-third n a b c (inr (inr e)) p q = sym e
 
 -- ---- the refusals
-named_text : (b₁ b₂ b₃ : Bool) → (check 17 b₁ (check 10 b₂ (check 11 b₃ 0)) ≡ 0 → ⊥)
-    → (check 17 b₁ (check 10 b₂ (check 11 b₃ 0)) ≡ 10) ⊎ ((check 17 b₁ (check 10 b₂ (check 11 b₃ 0)) ≡ 11) ⊎ (check 17 b₁ (check 10 b₂ (check 11 b₃ 0)) ≡ 17))
-named_text false b₂ b₃ h = inr (inr refl)
-named_text true false b₃ h = inl refl
-named_text true true false h = inr (inl refl)
-named_text true true true h = absurd (h refl)
-
--- the number of a refusal is 10, 11 or 17
-pub text_named : (direction : Direction) (policy : Policy) (p : CodePage) (count n : ℕ) → n ≡ text_refusal direction policy p count → (n ≡ 0 → ⊥) → (n ≡ 10) ⊎ ((n ≡ 11) ⊎ (n ≡ 17))
-unfolding text_refusal
-text_named direction policy p count n e h =
-    subst (λ (k : ℕ). (k ≡ 10) ⊎ ((k ≡ 11) ⊎ (k ≡ 17))) (sym e) (named_text (policy_allowed direction policy) (is_good (first_fault p)) (leb count piece_limit) (λ z. h (e ∙ z)))
+-- a refusal's number is at least 10
+pub number_from : (refusal : TextRefusal) → 10 ≤ refused_number refusal
+number_from BadPolicy = omega arith
+number_from BadShape = omega arith
+number_from TooLong = omega arith
 
 -- What the three checks say of an accepted call: digits allowed, a good shape, a text of at most 65,536 units.
 pub record TextAccepted (direction : Direction) (policy : Policy) (p : CodePage) (count : ℕ) : Type 0 where
@@ -71,18 +60,6 @@ unfolding text_refusal
 text_accepted direction policy p count e =
     let t = three_pass (policy_allowed direction policy) (is_good (first_fault p)) (leb count piece_limit) e in
     record { policy_allowed = t.0; good = (shape_exact p).0 t.1; short = leb-true _ _ t.2 }
-
--- what the loops require
-pub decode_text_needs : (policy : Policy) (p : CodePage) (count : ℕ) → TextAccepted Decoding policy p count → DecodeSizes p.classes p.singles p.pairs
-decode_text_needs policy p count a = record { all_classes = a.good.classes; all_singles = a.good.singles; all_pairs = a.good.pairs; known = a.good.class; no_low_lead = a.good.low }
-
--- what the encode loop requires of an accepted call: digits, the index, and a block for each of its numbers
-pub encode_text_needs : (policy : Policy) (p : CodePage) (count : ℕ) → TextAccepted Encoding policy p count
-    → (policy_allowed Encoding policy ≡ true) × ((length p.index ≡ 256) × ((high : ℕ) → 256 * entry_at p.index high + 256 ≤ length p.blocks))
-encode_text_needs policy p count a = (
-  a.policy_allowed,
-  (a.good.index, λ high. index_high p.index (length p.blocks) high a.good.index a.good.number (omega (arith, a.good.blocks))),
-)
 
 -- ---- the answers of a call marked last
 one_of : (n : ℕ) → n ≤ 3 → (n ≡ 1 → ⊥) → (n ≡ 0) ⊎ ((n ≡ 2) ⊎ (n ≡ 3))
@@ -174,23 +151,24 @@ answer_is v room l = by_room (ltb room (length (feed_from v true endless none l)
 
 -- ---- the promises
 module _ (direction : Direction) (policy : Policy) (p : CodePage) (text : List ℕ) where
-  -- A refused call, with the refusal's number, no totals and the output untouched, keeps the promise.
-  pub converted_refused : (n : ℕ) (r : Converted) (before : List ℕ) → n ≡ text_refusal direction policy p (length text) → (n ≡ 0 → ⊥) → (converted_number r ≡ n) × (converted_totals r ≡ none)
-      → ConvertedAs (text_of direction policy p text (length before)) r before before
+  -- A refused call, with its refusal and the output untouched, keeps the promise.
+  pub converted_refused : (refusal : TextRefusal) (before : List ℕ) → refused_number refusal ≡ text_refusal direction policy p (length text)
+      → ConvertedAs (text_of direction policy p text (length before)) (Err refusal) before before
   unfolding text_of refused_text over
-  converted_refused n r before e z w = rw (← e, ne_eqb _ _ z) (record { number = w.0; totals = w.1; lent = refl })
+  converted_refused refusal before e =
+      rw (← e, ne_eqb (refused_number refusal) 0 (λ z. omega (arith, number_from refusal))) (record { number = refl; totals = refl; lent = refl })
 
   -- An accepted call whose conversion and count are what the rules give, and whose answer has their totals, keeps the promise.
-  pub converted_accepted : (whole made : Progress) (r : Converted) (before after : List ℕ) → text_refusal direction policy p (length text) ≡ 0
+  pub converted_accepted : (whole made : Progress) (c : Converted) (before after : List ℕ) → text_refusal direction policy p (length text) ≡ 0
       → whole ≡ summary (text_fed direction policy p endless text) → made ≡ summary (text_fed direction policy p (limit (length before)) text)
-      → after ≡ over before (text_fed direction policy p (limit (length before)) text).output → (converted_number r ≡ made.answer) × (converted_totals r ≡ some (totals_by whole made))
-      → ConvertedAs (text_of direction policy p text (length before)) r before after
+      → after ≡ over before (text_fed direction policy p (limit (length before)) text).output → ending_number c.ending ≡ made.answer → c.totals ≡ totals_by whole made
+      → ConvertedAs (text_of direction policy p text (length before)) (Ok c) before after
   unfolding text_of accepted_text summary text_fed
-  converted_accepted whole made r before after z e m f w =
+  converted_accepted whole made c before after z e m f number totals =
       let accepted : eqb (text_refusal direction policy p (length text)) 0 ≡ true = eq-eqb _ _ z in
       rw accepted (record {
-        number = w.0 ∙ ap (λ (x : Progress). x.answer) m ∙ sym (answer_is (converter_of direction p policy) (length before) text);
-        totals = w.1 ∙ ap₂ (λ (x y : Progress). some (totals_by x y)) e m;
+        number = number ∙ ap (λ (x : Progress). x.answer) m ∙ sym (answer_is (converter_of direction p policy) (length before) text);
+        totals = ap (λ (t : Totals). some t) totals ∙ ap₂ (λ (x y : Progress). some (totals_by x y)) e m;
         lent = f;
       })
 
@@ -204,41 +182,53 @@ module _ (direction : Direction) (policy : Policy) (p : CodePage) (text : List �
       by_test true e = rw e
       by_test false e = rw e
 
--- the filled part is what was written
-module _ (direction : Direction) (policy : Policy) (p : CodePage) (text : List ℕ) (before after : List ℕ) (r : Converted)
-    (done : ConvertedAs (text_of direction policy p text (length before)) r before after) (totals : Totals) (known : totals ≡ totals_or_none (converted_totals r)) where
-  abbrev given : Text
-  given = text_of direction policy p text (length before)
+-- a call without totals wrote nothing
+pub nothing_written : (direction : Direction) (policy : Policy) (p : CodePage) (text : List ℕ) (room : ℕ) → none ≡ (text_of direction policy p text room).totals → (text_of direction policy p text room).output ≡ []
+unfolding text_of accepted_text refused_text
+nothing_written direction policy p text room e = by_test (eqb (text_refusal direction policy p (length text)) 0) refl e
+  where
+    by_test : (t : Bool) → eqb (text_refusal direction policy p (length text)) 0 ≡ t → none ≡ (text_of direction policy p text room).totals → (text_of direction policy p text room).output ≡ []
+    by_test true q e = absurd (no_totals (e ∙ ap (λ (b : Bool). (pick b (accepted_text (text_fed direction policy p endless text) (text_fed direction policy p (limit room) text) room) (refused_text (text_refusal direction policy p (length text)))).totals) q))
+      where
+        no_totals : {t : Totals} → none ≡ some t → ⊥
+        no_totals e = let z : ◌≡◌ {A = ℕ} 0 1 = cc in omega arith
+    by_test false q e = rw q
 
-  totals_are : totals ≡ totals_or_none given.totals
-  totals_are = known ∙ ap totals_or_none done.totals
+-- the filled part is what was written, whatever the type of its units
+module _ {A : Type 0} (output : A → ℕ) (written : List A → List ℕ) (each_output : (l : List A) → map output l ≡ written l) (direction : Direction) (policy : Policy) (p : CodePage) (text : List ℕ) where
+  module _ (before after : List A) (c : Converted) (done : ConvertedAs (text_of direction policy p text (length (written before))) (Ok c) (written before) (written after)) where
+    abbrev given : Text
+    given = text_of direction policy p text (length (written before))
 
-  count_is : totals.written ≡ length given.output
-  count_is = ap (λ (x : Totals). x.written) totals_are ∙ written_is direction policy p text (length before)
+    count_is : c.totals.written ≡ length given.output
+    count_is = ap (λ (o : Option Totals). (totals_or_none o).written) done.totals ∙ written_is direction policy p text (length (written before))
 
-  front_is : take totals.written after ≡ given.output
-  unfolding over
-  front_is = rw done.lent (take_at given.output (drop (length given.output) before) totals.written (sym count_is))
+    front_is : written (take c.totals.written after) ≡ given.output
+    unfolding over
+    front_is =
+        sym (each_output (take c.totals.written after)) ∙ sym (take-map output c.totals.written after)
+        ∙ ap (take c.totals.written) (each_output after ∙ done.lent) ∙ take_at given.output (drop (length given.output) (written before)) c.totals.written (sym count_is)
 
-  -- the front that is handed back has as many units as were written
-  pub filled_count : totals.written ≡ length (take totals.written after)
-  filled_count = count_is ∙ sym (ap length front_is)
+    -- the front that is handed back has as many units as were written
+    pub filled_count : c.totals.written ≡ length (take c.totals.written after)
+    filled_count = count_is ∙ sym (ap length front_is) ∙ sym (ap length (each_output (take c.totals.written after))) ∙ length-map (take c.totals.written after) output
 
-  -- The front of that length, with number, flags, read and need of the answer, keeps the promise of the filled part.
-  pub filled_as : (lent part : MutBor (List ℕ)) (number : ℕ) → part.ref_ptr ≡ lent.ref_ptr → part.now ≡ take totals.written after → number ≡ converted_number r
-      → FilledAs given lent part number totals.flags totals.read totals.need
-  filled_as lent part number place front n =
-      record {
-        front = place;
-        output = front ∙ front_is;
-        number = n ∙ done.number;
-        flags = ap (λ (x : Totals). x.flags) totals_are;
-        read = ap (λ (x : Totals). x.read) totals_are;
-        need = ap (λ (x : Totals). x.need) totals_are;
-      }
+    -- The front of that length, with the answer, keeps the promise of the filled part.
+    pub filled_as : (lent part : MutBor (List A)) → part.ref_ptr ≡ lent.ref_ptr → part.now ≡ take c.totals.written after → FilledAs written given lent (Ok (c, part))
+    filled_as lent part place front = record { number = done.number; totals = done.totals; part = (place, ap written front ∙ front_is) }
+
+  -- A refused call keeps it too.
+  pub filled_refused : (before after : List A) (refusal : TextRefusal) → ConvertedAs (text_of direction policy p text (length (written before))) (Err refusal) (written before) (written after)
+      → (lent : MutBor (List A)) → FilledAs written (text_of direction policy p text (length (written before))) lent (Err refusal)
+  filled_refused before after refusal done lent =
+      record { number = done.number; totals = done.totals; part = nothing_written direction policy p text (length (written before)) done.totals }
 
 -- the numbers of a conversion that all codes fitted are the whole reading's
 pub whole_made : (v : Converter) (room : ℕ) (text : List ℕ) (made : Progress) → made ≡ summary (feed_from v true (limit room) none text) → (made.answer ≡ 2 → ⊥)
     → made ≡ summary (feed_from v true endless none text)
 unfolding summary
 whole_made v room text made e n = e ∙ ap summary (fitted v room text (λ z. n (ap (λ (x : Progress). x.answer) e ∙ z)))
+
+-- what the checks of a text gave, with its direction and the count of its units written otherwise
+pub checked_as : {d direction : Direction} (policy : Policy) (p : CodePage) {n count k : ℕ} → d ≡ direction → count ≡ n → text_refusal d policy p n ≡ k → text_refusal direction policy p count ≡ k
+checked_as policy p e f g = rw (← e, f) g

@@ -8,7 +8,11 @@ use Rattle.engine.specs.declared.Direction.{Direction}
 use Rattle.engine.specs.declared.Policy.{Policy}
 use Rattle.oneshot.specs.declared.Totals.{Totals}
 use Rattle.oneshot.specs.declared.Converted.{Converted}
-use Rattle.oneshot.specs.declared.Converted.TheVariants as converted
+use Rattle.oneshot.specs.declared.Ending.{Ending}
+use Rattle.oneshot.specs.declared.Ending.TheVariants.{AllRead, OutputFull, Stopped}
+use Rattle.oneshot.specs.declared.TextRefusal.{TextRefusal}
+use Rattle.oneshot.specs.declared.TextRefusal.TheVariants.{BadPolicy, BadShape, TooLong}
+use Rattle.std.specs.Prelude.{Result, Ok, Err}
 use Rattle.engine.specs.Policies.{policy_allowed}
 use Rattle.engine.specs.Engine.{Room, limit, endless, Fed, feed_from}
 use Rattle.convert.specs.Runs.{piece_limit}
@@ -54,23 +58,27 @@ text_of direction policy p text room =
     (accepted_text (text_fed direction policy p endless text) (text_fed direction policy p (limit room) text) room)
     (refused_text (text_refusal direction policy p (length text)))
 
+-- the number of each ending
+abbrev pub ending_number : Ending → ℕ
+ending_number AllRead = 0
+ending_number OutputFull = 2
+ending_number Stopped = 3
+
+-- the number of each refusal
+abbrev pub refused_number : TextRefusal → ℕ
+refused_number BadPolicy = 17
+refused_number BadShape = 10
+refused_number TooLong = 11
+
 -- the number of each case of the answer
-abbrev pub converted_number : Converted → ℕ
-converted_number (converted.All totals) = 0
-converted_number (converted.OutputFull totals) = 2
-converted_number (converted.Stopped totals) = 3
-converted_number converted.BadPolicy = 17
-converted_number converted.BadShape = 10
-converted_number converted.TooLong = 11
+abbrev pub converted_number : Result Converted TextRefusal → ℕ
+converted_number (Ok c) = ending_number c.ending
+converted_number (Err refusal) = refused_number refusal
 
 -- flags, read, need and written of each case of the answer; a refusal has none
-abbrev pub converted_totals : Converted → Option Totals
-converted_totals (converted.All totals) = some totals
-converted_totals (converted.OutputFull totals) = some totals
-converted_totals (converted.Stopped totals) = some totals
-converted_totals converted.BadPolicy = none
-converted_totals converted.BadShape = none
-converted_totals converted.TooLong = none
+abbrev pub converted_totals : Result Converted TextRefusal → Option Totals
+converted_totals (Ok c) = some c.totals
+converted_totals (Err refusal) = none
 
 -- flags, read, need and written, or zeros of a refusal
 abbrev pub totals_or_none : Option Totals → Totals
@@ -78,17 +86,24 @@ totals_or_none none = record { flags = 0; read = 0; need = 0; written = 0 }
 totals_or_none (some totals) = totals
 
 -- The promise of the call: t is what the rules give, r what it returns, and the lent output before and after.
-pub record ConvertedAs (t : Text) (r : Converted) (before after : List ℕ) : Type 0 where
+pub record ConvertedAs (t : Text) (r : Result Converted TextRefusal) (before after : List ℕ) : Type 0 where
   pub number : converted_number r ≡ t.number
   pub totals : converted_totals r ≡ t.totals
   pub lent : after ≡ over before t.output
 
--- The promise of the call that hands back the filled part: t is what the rules give, lent the lent output before the call, part
--- its front that is handed back, and n, f, u, m the number, flags, units read and need. Of a refusal flags, read and need are 0.
-pub record FilledAs (t : Text) (lent part : MutBor (List ℕ)) (n f u m : ℕ) : Type 0 where
-  pub front : part.ref_ptr ≡ lent.ref_ptr
-  pub output : part.now ≡ t.output
-  pub number : n ≡ t.number
-  pub flags : f ≡ (totals_or_none t.totals).flags
-  pub read : u ≡ (totals_or_none t.totals).read
-  pub need : m ≡ (totals_or_none t.totals).need
+-- the answer of a call that hands back the filled part, without the part
+abbrev pub answer_beside : {A : Type 0} → Result (Converted × A) TextRefusal → Result Converted TextRefusal
+answer_beside (Ok filled) = Ok filled.0
+answer_beside (Err refusal) = Err refusal
+
+-- The filled part is the front of the lent output, and has what was written, `written` as numbers. Of a refusal nothing was.
+abbrev pub PartAs : {A : Type 0} → (written : List A → List ℕ) → Text → (lent : MutBor (List A)) → Result (Converted × MutBor (List A)) TextRefusal → Type 0
+PartAs written t lent (Ok filled) = (filled.1.ref_ptr ≡ lent.ref_ptr) × (written filled.1.now ≡ t.output)
+PartAs written t lent (Err refusal) = t.output ≡ []
+
+-- The promise of the call that hands back the filled part: t is what the rules give, lent the lent output before the call, and r
+-- what it returns.
+pub record FilledAs {A : Type 0} (written : List A → List ℕ) (t : Text) (lent : MutBor (List A)) (r : Result (Converted × MutBor (List A)) TextRefusal) : Type 0 where
+  pub number : converted_number (answer_beside r) ≡ t.number
+  pub totals : converted_totals (answer_beside r) ≡ t.totals
+  pub part : PartAs written t lent r

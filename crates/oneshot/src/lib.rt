@@ -1,30 +1,29 @@
 // A whole text converted in one call; with empty room it is only counted. (Document 02, CR 10; docs/RULES.md, "A whole text in one
 // call".)
 //
-// `decode_text` and `encode_text` answer with flags, what was read and written, and the need: how much room all of the text needs.
-// `decode_filled` and `encode_filled` also hand back the part of the lent output that was filled.
+// `decode_text` and `encode_text` answer with how the text ended, flags, what was read and written, and the need: how much room all of
+// the text needs. `convert_filled` also hands back the part of the lent output that was filled, in either direction.
 //
-//     let counted = oneshot::decode_text(policy, numbers, classes, singles, pairs, index, blocks, text, &mut []);
-//     let need = counted.totals().need;
+//     let counted = oneshot::decode_text(policy, &tables, text, &mut [])?;
+//     let need = counted.totals.need;
 
 #![tactic(auto)]
 
-ghost use Rattle.std.specs.Prelude.{◌≡◌, ◌⊎◌, true, ℕ, ◌+◌, ◌*◌, ◌≤◌, length};
-ghost use Rattle.std.proofs.Math.Option.{none, some};
-ghost use Rattle.codepage.specs.CodePage.{code_page, entry_at};
-ghost use Rattle.codepage.specs.Reading.{decoder, encoder};
-ghost use Rattle.engine.specs.declared.Direction.TheVariants.{Decoding, Encoding};
-ghost use Rattle.engine.specs.Policies.{policy_allowed};
-ghost use Rattle.engine.specs.Engine.{converter, limit, endless, feed_from};
-ghost use Rattle.engine.specs.Steps.{summary, DecodeSizes};
-ghost use Rattle.oneshot.specs.Texts.{text_refusal, text_of, converted_number, converted_totals, totals_or_none, ConvertedAs, FilledAs};
-ghost use Rattle.oneshot.specs.Steps.{totals_by};
+mod text;
 
-use codepage::Numbers;
-use convert::Run;
+ghost use Rattle.std.specs.Prelude.{◌≡◌, ◌⊎◌, ℕ, length};
+ghost use Rattle.codepage.specs.CodePage.{page_of};
+ghost use Rattle.engine.specs.declared.Direction.TheVariants.{Decoding, Encoding};
+ghost use Rattle.engine.specs.Engine.{limit, endless};
+ghost use Rattle.engine.specs.Steps.{summary};
+ghost use Rattle.oneshot.specs.Texts.{text_refusal, text_fed, text_of, ending_number, refused_number, converted_number, converted_totals, totals_or_none, ConvertedAs, FilledAs};
+ghost use Rattle.oneshot.specs.Steps.{refused_as, totals_by};
+
+use codepage::TableSet;
+use convert::{Direction, Policy, Run};
+use engine::policies;
 use engine::progress::Progress;
-use engine::{Direction, Policy, policies};
-use engine_loops::{counter, decoder, encoder};
+pub use text::Text;
 
 // What a text gave: the flags of its whole reading, the units read, the units of output that it needs, and those written.
 #[derive(Clone, Copy)]
@@ -35,15 +34,27 @@ pub struct Totals {
     pub written: usize,
 }
 
-// What the call answers.
-#[derive(Clone, Copy)]
-pub enum Converted {
+// How a text ended.
+#[derive(Clone, Copy, Debug, PartialEq, Eq)]
+pub enum Ending {
     // 0: all read.
-    All(Totals),
+    AllRead,
     // 2: the need is over the room.
-    OutputFull(Totals),
+    OutputFull,
     // 3: stopped by policy digit 0.
-    Stopped(Totals),
+    Stopped,
+}
+
+// What the call gives.
+#[derive(Clone, Copy)]
+pub struct Converted {
+    pub ending: Ending,
+    pub totals: Totals,
+}
+
+// Why a text is refused.
+#[derive(Clone, Copy, Debug, PartialEq, Eq)]
+pub enum TextRefusal {
     // 17: a policy digit is not allowed.
     BadPolicy,
     // 10: the shape of the tables is not good.
@@ -52,42 +63,89 @@ pub enum Converted {
     TooLong,
 }
 
-// The number of the first check that a text of `count` units fails, or 0.
-fn text_refusal(
-    direction: Direction,
-    policy: Policy,
-    numbers: Numbers,
-    classes: &[u8],
-    singles: &[u16],
-    pairs: &[u16],
-    index: &[u8],
-    blocks: &[u16],
-    count: usize,
-) -> u8
-    ensures { result ≡ text_refusal direction policy (code_page numbers classes.now singles.now pairs.now index.now blocks.now) count }
-{
-    if !policies::allowed(direction, policy) {
-        return 17;
+impl Ending {
+    // The number that documents 01 and 02 give the answer.
+    pub fn number(self) -> u8
+        ensures { result ≡ ending_number self }
+    {
+        match self {
+            Ending::AllRead => 0,
+            Ending::OutputFull => 2,
+            Ending::Stopped => 3,
+        }
     }
-    if !codepage::shape::good_shape(numbers, classes, singles, pairs, index, blocks) {
-        return 10;
+
+    // By the engine's number.
+    fn of(answer: u8) -> Ending
+        requires { (answer ≡ 0) ⊎ ((answer ≡ 2) ⊎ (answer ≡ 3)) }
+        ensures { ending_number result ≡ answer }
+    {
+        match answer {
+            0 => Ending::AllRead,
+            2 => Ending::OutputFull,
+            _ => Ending::Stopped,
+        }
     }
-    if Run::PIECE_LIMIT < count {
-        return 11;
-    }
-    0
 }
 
-// The answer of a refused call, by its number; it has no totals.
-fn refused_conversion(number: u8) -> Converted
-    requires { (number ≡ 10) ⊎ ((number ≡ 11) ⊎ (number ≡ 17)) }
-    ensures { (converted_number result ≡ number) × (converted_totals result ≡ none) }
-{
-    match number {
-        10 => Converted::BadShape,
-        11 => Converted::TooLong,
-        _ => Converted::BadPolicy,
+impl TextRefusal {
+    // The number that documents 01 and 02 give the refusal.
+    pub fn number(self) -> u8
+        ensures { result ≡ refused_number self }
+    {
+        match self {
+            TextRefusal::BadPolicy => 17,
+            TextRefusal::BadShape => 10,
+            TextRefusal::TooLong => 11,
+        }
     }
+}
+
+// The number that documents 01 and 02 give the answer.
+pub fn number_of(answer: Result<Converted, TextRefusal>) -> u8
+    ensures { result ≡ converted_number answer }
+{
+    match answer {
+        Ok(converted) => converted.ending.number(),
+        Err(refusal) => refusal.number(),
+    }
+}
+
+// Flags, read, need and written; of a refusal zeros.
+pub fn totals_of(answer: Result<Converted, TextRefusal>) -> Totals
+    ensures { result ≡ totals_or_none (converted_totals answer) }
+{
+    match answer {
+        Ok(converted) => converted.totals,
+        Err(_) => Totals {
+            flags: 0,
+            read: 0,
+            need: 0,
+            written: 0,
+        },
+    }
+}
+
+// The first check that a text of `count` units fails.
+#[tactic(auto, unfolding(crate::specs::Texts::text_refusal))]
+fn check(
+    direction: Direction,
+    policy: Policy,
+    tables: &TableSet,
+    count: usize,
+) -> Result<(), TextRefusal>
+    ensures { refused_as result ≡ text_refusal direction policy (page_of tables.now) count }
+{
+    if !policies::allowed(direction, policy) {
+        return Err(TextRefusal::BadPolicy);
+    }
+    if !codepage::shape::good_shape(tables) {
+        return Err(TextRefusal::BadShape);
+    }
+    if Run::PIECE_LIMIT < count {
+        return Err(TextRefusal::TooLong);
+    }
+    Ok(())
 }
 
 // Flags and need of the whole reading, read and written of the conversion.
@@ -102,244 +160,71 @@ fn totals_by(whole: Progress, made: Progress) -> Totals
     }
 }
 
-// A conversion that came to 0, 2 or 3.
-fn accepted_conversion(whole: Progress, made: Progress) -> Converted
-    requires { (made.answer ≡ 0) ⊎ ((made.answer ≡ 2) ⊎ (made.answer ≡ 3)) }
-    ensures { (converted_number result ≡ made.answer) × (converted_totals result ≡ some (totals_by whole made)) }
-{
-    let totals = totals_by(whole, made);
-    if made.answer == 0 {
-        return Converted::All(totals);
-    }
-    if made.answer == 2 {
-        return Converted::OutputFull(totals);
-    }
-    Converted::Stopped(totals)
-}
-
-// The totals of a refused call: zeros.
-fn no_totals() -> Totals
-    ensures { result ≡ totals_or_none none }
-{
-    Totals {
-        flags: 0,
-        read: 0,
-        need: 0,
-        written: 0,
-    }
-}
-
-impl Converted {
-    // The number that documents 01 and 02 give the answer.
-    pub fn number(self) -> u8
-        ensures { result ≡ converted_number self }
-    {
-        match self {
-            Converted::All(_) => 0,
-            Converted::OutputFull(_) => 2,
-            Converted::Stopped(_) => 3,
-            Converted::BadPolicy => 17,
-            Converted::BadShape => 10,
-            Converted::TooLong => 11,
-        }
-    }
-
-    // Flags, read, need and written; of a refusal zeros.
-    pub fn totals(self) -> Totals
-        ensures { result ≡ totals_or_none (converted_totals self) }
-    {
-        match self {
-            Converted::All(totals) => totals,
-            Converted::OutputFull(totals) => totals,
-            Converted::Stopped(totals) => totals,
-            Converted::BadPolicy => no_totals(),
-            Converted::BadShape => no_totals(),
-            Converted::TooLong => no_totals(),
-        }
-    }
-}
-
-// The whole reading of a byte text, from its conversion: the same, unless room ended.
-fn whole_decoded(
-    policy: Policy,
-    default: u16,
-    classes: &[u8],
-    singles: &[u16],
-    pairs: &[u16],
-    text: &[u8],
-    made: Progress,
-) -> Progress
-    requires { DecodeSizes classes.now singles.now pairs.now }
-    ensures { (room : ℕ) → made ≡ summary (feed_from (converter (decoder classes.now singles.now pairs.now) policy default) true (limit room) none text.now) → result ≡ summary (feed_from (converter (decoder classes.now singles.now pairs.now) policy default) true endless none text.now) }
+// The whole reading of a text, from its conversion: the same, unless room ended.
+fn whole_of<I: Text>(policy: Policy, tables: &TableSet, text: &[I], made: Progress) -> Progress
+    requires accepted { text_refusal I.direction policy (page_of tables.now) (length (I.units text.now)) ≡ 0 }
+    ensures { (room : ℕ) → made ≡ summary (text_fed I.direction policy (page_of tables.now) (limit room) (I.units text.now)) → result ≡ summary (text_fed I.direction policy (page_of tables.now) endless (I.units text.now)) }
 {
     if made.answer != 2 {
         return made;
     }
-    counter::count_decoded(policy, default, classes, singles, pairs, text)
+    I::count(policy, tables, text)
 }
 
-// The same of a unit text.
-fn whole_encoded(
+// Converts a text, and says what all of it needs; with empty room it only counts.
+pub fn convert_text<I: Text>(
     policy: Policy,
-    default: u8,
-    index: &[u8],
-    blocks: &[u16],
-    text: &[u16],
-    made: Progress,
-) -> Progress
-    requires policy_value { policy_allowed Encoding policy ≡ true }
-    requires index_len { length index.now ≡ 256 }
-    requires by_index { (high : ℕ) → 256 * entry_at index.now high + 256 ≤ length blocks.now }
-    ensures { (room : ℕ) → made ≡ summary (feed_from (converter (encoder index.now blocks.now) policy default) true (limit room) none text.now) → result ≡ summary (feed_from (converter (encoder index.now blocks.now) policy default) true endless none text.now) }
+    tables: &TableSet,
+    text: &[I],
+    out: &mut [I::Output],
+) -> Result<Converted, TextRefusal>
+    ensures { ConvertedAs (text_of I.direction policy (page_of tables.now) (I.units text.now) (length (I.written out.old))) result (I.written out.old) (I.written out.new) }
 {
-    if made.answer != 2 {
-        return made;
-    }
-    counter::count_encoded(policy, default, index, blocks, text)
+    check(I::direction(), policy, tables, text.len())?;
+    let made = I::convert(policy, tables, text, out);
+    let whole = whole_of(policy, tables, text, made);
+    Ok(Converted {
+        ending: Ending::of(made.answer),
+        totals: totals_by(whole, made),
+    })
 }
 
 // Decodes a byte text, and says what all of it needs; with empty room it only counts.
+// Kept: the C interface (`capi_text::till_decode_text`) calls `convert_text` for bytes by this name.
 pub fn decode_text(
     policy: Policy,
-    numbers: Numbers,
-    classes: &[u8],
-    singles: &[u16],
-    pairs: &[u16],
-    index: &[u8],
-    blocks: &[u16],
+    tables: &TableSet,
     text: &[u8],
     out: &mut [u16],
-) -> Converted
-    ensures { ConvertedAs (text_of Decoding policy (code_page numbers classes.now singles.now pairs.now index.now blocks.now) text.now (length out.old)) result out.old out.new }
+) -> Result<Converted, TextRefusal>
+    ensures { ConvertedAs (text_of Decoding policy (page_of tables.now) text.now (length out.old)) result out.old out.new }
 {
-    let number = text_refusal(
-        Direction::Decoding,
-        policy,
-        numbers,
-        classes,
-        singles,
-        pairs,
-        index,
-        blocks,
-        text.len(),
-    );
-    if number != 0 {
-        return refused_conversion(number);
-    }
-    let made = decoder::decode_loop(
-        policy,
-        numbers.default_unit,
-        classes,
-        singles,
-        pairs,
-        false,
-        0,
-        text,
-        true,
-        out,
-    );
-    let whole = whole_decoded(
-        policy,
-        numbers.default_unit,
-        classes,
-        singles,
-        pairs,
-        text,
-        made,
-    );
-    accepted_conversion(whole, made)
+    convert_text(policy, tables, text, out)
 }
 
 // Encodes a unit text, and says what all of it needs; with empty room it only counts.
+// Kept: the C interface (`capi_text::till_encode_text`) calls `convert_text` for units by this name.
 pub fn encode_text(
     policy: Policy,
-    numbers: Numbers,
-    classes: &[u8],
-    singles: &[u16],
-    pairs: &[u16],
-    index: &[u8],
-    blocks: &[u16],
+    tables: &TableSet,
     text: &[u16],
     out: &mut [u8],
-) -> Converted
-    ensures { ConvertedAs (text_of Encoding policy (code_page numbers classes.now singles.now pairs.now index.now blocks.now) text.now (length out.old)) result out.old out.new }
+) -> Result<Converted, TextRefusal>
+    ensures { ConvertedAs (text_of Encoding policy (page_of tables.now) text.now (length out.old)) result out.old out.new }
 {
-    let number = text_refusal(
-        Direction::Encoding,
-        policy,
-        numbers,
-        classes,
-        singles,
-        pairs,
-        index,
-        blocks,
-        text.len(),
-    );
-    if number != 0 {
-        return refused_conversion(number);
-    }
-    let made = encoder::encode_whole(policy, numbers.default_byte, index, blocks, text, out);
-    let whole = whole_encoded(policy, numbers.default_byte, index, blocks, text, made);
-    accepted_conversion(whole, made)
+    convert_text(policy, tables, text, out)
 }
 
-// Decodes a byte text as `decode_text` does and hands back the filled part of the output. The number, flags, units read and need
-// are answers too; of a refusal the part is empty, and flags, read and need are 0.
-pub fn decode_filled<'a>(
+// Converts a text as `convert_text` does and hands back the filled part of the output.
+pub fn convert_filled<'a, I: Text>(
     policy: Policy,
-    numbers: Numbers,
-    classes: &[u8],
-    singles: &[u16],
-    pairs: &[u16],
-    index: &[u8],
-    blocks: &[u16],
-    text: &[u8],
-    number: &mut u8,
-    flags: &mut u8,
-    read: &mut usize,
-    need: &mut usize,
-    out: &'a mut [u16],
-) -> &'a mut [u16]
-    ensures { FilledAs (text_of Decoding policy (code_page numbers classes.now singles.now pairs.now index.now blocks.now) text.now (length out.old)) out.entry result number.new flags.new read.new need.new }
+    tables: &TableSet,
+    text: &[I],
+    out: &'a mut [I::Output],
+) -> Result<(Converted, &'a mut [I::Output]), TextRefusal>
+    ensures { FilledAs I.written (text_of I.direction policy (page_of tables.now) (I.units text.now) (length (I.written out.old))) out.entry result }
 {
-    let answer = decode_text(
-        policy, numbers, classes, singles, pairs, index, blocks, text, out,
-    );
-    let totals = answer.totals();
-    *number = answer.number();
-    *flags = totals.flags;
-    *read = totals.read;
-    *need = totals.need;
-    let units = totals.written;
-    &mut out[..units]
-}
-
-// Encodes a unit text as `encode_text` does and hands back the filled part of the output, as `decode_filled` does.
-pub fn encode_filled<'a>(
-    policy: Policy,
-    numbers: Numbers,
-    classes: &[u8],
-    singles: &[u16],
-    pairs: &[u16],
-    index: &[u8],
-    blocks: &[u16],
-    text: &[u16],
-    number: &mut u8,
-    flags: &mut u8,
-    read: &mut usize,
-    need: &mut usize,
-    out: &'a mut [u8],
-) -> &'a mut [u8]
-    ensures { FilledAs (text_of Encoding policy (code_page numbers classes.now singles.now pairs.now index.now blocks.now) text.now (length out.old)) out.entry result number.new flags.new read.new need.new }
-{
-    let answer = encode_text(
-        policy, numbers, classes, singles, pairs, index, blocks, text, out,
-    );
-    let totals = answer.totals();
-    *number = answer.number();
-    *flags = totals.flags;
-    *read = totals.read;
-    *need = totals.need;
-    let bytes = totals.written;
-    &mut out[..bytes]
+    let converted = convert_text(policy, tables, text, out)?;
+    let filled = converted.totals.written;
+    Ok((converted, &mut out[..filled]))
 }

@@ -12,7 +12,7 @@ use lib.Seq.{take_at}
 use borrow.Author.Tests.{ltb-true}
 use Rattle.codepage.specs.CodePage.{pick}
 use Rattle.convert.specs.declared.Run.{Run}
-use Rattle.convert.specs.declared.Started.TheVariants.{Accepted}
+use Rattle.std.specs.Prelude.{Ok}
 use Rattle.engine.specs.Policies.{policy_allowed}
 use Rattle.convert.specs.declared.Outcome.{Outcome}
 use Rattle.convert.specs.Runs.{fresh, Start, start_of, started_as}
@@ -198,7 +198,7 @@ behind_reading s hand es line behind run w at e q =
     subst (λ (r : Run). AllMeet s r behind) (hand_read s there.0 at.reading.result line run e q met) here.1
 
 -- the run of an accepted start is the fresh one
-pub start_fresh : (s : Setting) (start : Run) → started_as (Accepted start) ≡ start_of s.direction s.page s.policy → start ≡ fresh s.direction s.page s.policy
+pub start_fresh : (s : Setting) (start : Run) → started_as (Ok start) ≡ start_of s.direction s.page s.policy → start ≡ fresh s.direction s.page s.policy
 unfolding start_of
 start_fresh s start e = by_test (not (eqb s.page 0) && policy_allowed s.direction s.policy) refl
   where

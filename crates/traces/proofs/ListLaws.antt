@@ -23,17 +23,17 @@ use Rattle.convert.specs.declared.Pending.{Pending}
 use Rattle.convert.specs.declared.Pending.TheVariants.{Nothing, Byte, High}
 use Rattle.convert.specs.declared.Run.{Run}
 use Rattle.convert.specs.declared.Answer.{Answer}
-use Rattle.convert.specs.declared.Answer.TheVariants.{AllRead, UnitPending, OutputFull, Stopped, BadShape, PieceTooLong, InvalidRun, OtherRun, PendingNotLead, RunEnded, ReadLimit}
-use Rattle.convert.specs.declared.Started.TheVariants.{Accepted}
+use Rattle.convert.specs.declared.Answer.TheVariants.{AllRead, UnitPending, OutputFull, Stopped, Refused}
+use Rattle.convert.specs.declared.Refusal.TheVariants.{BadShape, PieceTooLong, InvalidRun, OtherRun, PendingNotLead, RunEnded, ReadLimit}
+use Rattle.std.specs.Prelude.{Ok}
 use Rattle.convert.specs.Runs.{valid_run, fresh, start_of, started_as}
 use Rattle.convert.specs.Calls.{number_of, lead_in, refusal, Called, pending_unit, run_call}
 use Rattle.convert.proofs.CallLaws.{PendingIn, valid_in, valid_facts, refusal_named}
 use Rattle.convert.proofs.RuleLaws.{rules_exact}
 use Rattle.convert.proofs.NumberLaws.{numbers_exact, low_number, refused_number}
-use Rattle.checkpoint.specs.declared.Written.{Written}
-use Rattle.checkpoint.specs.declared.Written.TheVariants as written
-use Rattle.checkpoint.specs.declared.Restored.{Restored}
-use Rattle.checkpoint.specs.declared.Restored.TheVariants as restored
+use Rattle.checkpoint.specs.declared.Refusal.{Refusal as Unwritten}
+use Rattle.checkpoint.specs.declared.Refusal.TheVariants as unwritten
+use Rattle.std.specs.Prelude as std
 use Rattle.checkpoint.specs.Line.{line_of, run_of, write_of, read_of, loaded, Saved, restored_as}
 use Rattle.traces.specs.Model.{Setting, Form, by_value, in_record, Call, feeding, saving, loading, Note, Model, opened, says, next, play, Allowed, AllAllowed}
 use Rattle.traces.specs.Traces.{Result, fed, fed_here, saved, loaded as restoring, Entry, Meets, hand_after, AllMeet, calls_of, Proper, Trace}
@@ -64,13 +64,13 @@ low_numbered (suc (suc (suc (suc n)))) h = absurd (omega arith)
 
 -- the answers from 10 on
 high_numbered : (k : ℕ) → k ≤ 6 → Numbered (10 + k)
-high_numbered zero h = (BadShape, refl)
-high_numbered (suc zero) h = (PieceTooLong, refl)
-high_numbered (suc (suc zero)) h = (InvalidRun, refl)
-high_numbered (suc (suc (suc zero))) h = (OtherRun, refl)
-high_numbered (suc (suc (suc (suc zero)))) h = (PendingNotLead, refl)
-high_numbered (suc (suc (suc (suc (suc zero))))) h = (RunEnded, refl)
-high_numbered (suc (suc (suc (suc (suc (suc zero)))))) h = (ReadLimit, refl)
+high_numbered zero h = (Refused BadShape, refl)
+high_numbered (suc zero) h = (Refused PieceTooLong, refl)
+high_numbered (suc (suc zero)) h = (Refused InvalidRun, refl)
+high_numbered (suc (suc (suc zero))) h = (Refused OtherRun, refl)
+high_numbered (suc (suc (suc (suc zero)))) h = (Refused PendingNotLead, refl)
+high_numbered (suc (suc (suc (suc (suc zero))))) h = (Refused RunEnded, refl)
+high_numbered (suc (suc (suc (suc (suc (suc zero)))))) h = (Refused ReadLimit, refl)
 high_numbered (suc (suc (suc (suc (suc (suc (suc k))))))) h = absurd (omega arith)
 
 -- every number of a run call is an answer's
@@ -88,22 +88,22 @@ call_numbered direction run p piece last room = by_test (eqb (refusal direction 
         above n h = (n - 10, omega arith)
 
 -- a line that is written, and one that is read
-written_exists : (run : Run) (room : ℕ) (before : List ℕ) → (r : Written) × (after : List ℕ) × Saved (write_of run room) r before after
+written_exists : (run : Run) (room : ℕ) (before : List ℕ) → (r : std.Result ℕ Unwritten) × (after : List ℕ) × Saved (write_of run room) r before after
 unfolding write_of over
 written_exists run room before = by_tests (valid_run run) (ltb room (length (line_of run))) refl refl
   where
-    by_tests : (v f : Bool) → valid_run run ≡ v → ltb room (length (line_of run)) ≡ f → (r : Written) × (after : List ℕ) × Saved (write_of run room) r before after
-    by_tests false f e q = (written.InvalidRun, before, rw e (record { number = refl; size = refl; lent = refl }))
-    by_tests true true e q = (written.NoRoom, before, rw (e, q) (record { number = refl; size = refl; lent = refl }))
-    by_tests true false e q = (written.Line (length (line_of run)), over before (line_of run), rw (e, q) (record { number = refl; size = refl; lent = refl }))
+    by_tests : (v f : Bool) → valid_run run ≡ v → ltb room (length (line_of run)) ≡ f → (r : std.Result ℕ Unwritten) × (after : List ℕ) × Saved (write_of run room) r before after
+    by_tests false f e q = (std.Err unwritten.InvalidRun, before, rw e (record { number = refl; size = refl; lent = refl }))
+    by_tests true true e q = (std.Err unwritten.NoRoom, before, rw (e, q) (record { number = refl; size = refl; lent = refl }))
+    by_tests true false e q = (std.Ok (length (line_of run)), over before (line_of run), rw (e, q) (record { number = refl; size = refl; lent = refl }))
 
-restored_exists : (line : List ℕ) → (r : Restored) × (restored_as r ≡ read_of line)
+restored_exists : (line : List ℕ) → (r : std.Option Run) × (restored_as r ≡ read_of line)
 unfolding read_of loaded
 restored_exists line = by_run (run_of line)
   where
-    by_run : (o : Option Run) → (r : Restored) × (restored_as r ≡ loaded o)
-    by_run none = (restored.Refused, refl)
-    by_run (some run) = (restored.Accepted run, refl)
+    by_run : (o : Option Run) → (r : std.Option Run) × (restored_as r ≡ loaded o)
+    by_run none = (std.None, refl)
+    by_run (some run) = (std.Some run, refl)
 
 -- For every setting, run in hand and call there is a result that meets the contract: the one that the definitions give.
 pub result_exists : (s : Setting) (hand : Run) (c : Call) → (r : Result) × Meets s hand c r
@@ -142,12 +142,12 @@ results_exist s hand (c ∷ cs) =
     record { entries = record { call = c; result = r } ∷ rest.entries; calls = ap (λ (l : List Call). c ∷ l) rest.calls; met = (m, rest.met) }
 
 -- the run of an accepted start
-pub fresh_started : (s : Setting) → Proper s → started_as (Accepted (fresh s.direction s.page s.policy)) ≡ start_of s.direction s.page s.policy
+pub fresh_started : (s : Setting) → Proper s → started_as (Ok (fresh s.direction s.page s.policy)) ≡ start_of s.direction s.page s.policy
 unfolding start_of
 fresh_started s h = by_test (not (eqb s.page 0) && policy_allowed s.direction s.policy) refl h.start
   where
     by_test : (t : Bool) → (not (eqb s.page 0) && policy_allowed s.direction s.policy) ≡ t → (start_of s.direction s.page s.policy).number ≡ 0
-        → started_as (Accepted (fresh s.direction s.page s.policy)) ≡ start_of s.direction s.page s.policy
+        → started_as (Ok (fresh s.direction s.page s.policy)) ≡ start_of s.direction s.page s.policy
     by_test true q e = rw q
     by_test false q e = absurd (let z : ◌≡◌ {A = ℕ} 17 0 = sym (rw q) ∙ e in omega arith)
 

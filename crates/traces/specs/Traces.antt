@@ -7,12 +7,12 @@ use Rattle.engine.specs.declared.Direction.{Direction}
 use Rattle.engine.specs.declared.Direction.TheVariants.{Decoding, Encoding}
 use Rattle.convert.specs.declared.Run.{Run}
 use Rattle.convert.specs.declared.Outcome.{Outcome}
-use Rattle.convert.specs.declared.Started.TheVariants.{Accepted}
+use Rattle.std.specs.Prelude.{Ok}
 use Rattle.convert.specs.Runs.{read_limit, start_of, started_as}
 use Rattle.convert.specs.Calls.{number_of, run_call, Answered}
 use Rattle.codepage.specs.Lent.{over}
-use Rattle.checkpoint.specs.declared.Written.{Written}
-use Rattle.checkpoint.specs.declared.Restored.{Restored}
+use Rattle.checkpoint.specs.declared.Refusal.{Refusal}
+use Rattle.std.specs.Prelude as std
 use Rattle.checkpoint.specs.Line.{write_of, read_of, written_as, Saved, restored_as}
 use Rattle.runrecord.specs.declared.Here.{Here}
 use Rattle.runrecord.specs.Records.{outcome_of}
@@ -23,16 +23,16 @@ use Rattle.traces.specs.Model.{Setting, by_value, in_record, Call, feeding, savi
 pub data Result : Type 0 where
   fed : Outcome → (lent : List ℕ) → Result
   fed_here : Here → (held : Run) → (lent : List ℕ) → Result
-  saved : Written → (lent : List ℕ) → Result
-  loaded : Restored → Result
+  saved : std.Result ℕ Refusal → (lent : List ℕ) → Result
+  loaded : std.Option Run → Result
 
 -- A call of a list, and what the program returned for it.
 pub record Entry : Type 0 where
   pub call : Call
   pub result : Result
 
--- The contracts of the program's calls, for the run in hand: the definitions that the contracts of decode, encode, decode_here,
--- encode_here, write and read cite, and nothing else. The record of a call in the record form holds the run in hand before it.
+-- The contracts of the program's calls, for the run in hand: the definitions that the contracts of decode, encode, call_here,
+-- write and read cite, and nothing else. The record of a call in the record form holds the run in hand before it.
 abbrev pub Meets : Setting → (hand : Run) → Call → Result → Type 0
 Meets s hand (feeding by_value piece last before) (fed r after) = Answered (run_call s.direction hand s.tables piece last (length before)) r before after
 Meets s hand (feeding by_value piece last before) (fed_here r held after) = ⊥
@@ -176,6 +176,6 @@ pub record Proper (s : Setting) : Type 0 where
 -- A list of calls that the document allows, from the run that `Run::start` returned, with results that meet the contracts.
 pub record Trace (s : Setting) (start : Run) (es : List Entry) : Type 0 where
   -- the contract of `Run::start`, which answered with this run
-  pub started : started_as (Accepted start) ≡ start_of s.direction s.page s.policy
+  pub started : started_as (Ok start) ≡ start_of s.direction s.page s.policy
   pub allowed : AllAllowed s (opened s) (calls_of es)
   pub met : AllMeet s start es

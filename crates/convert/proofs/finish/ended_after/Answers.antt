@@ -1,15 +1,14 @@
-use borrow.Author.Tests.{eq-eqb, ne_eqb}
 use Rattle.convert.specs.Calls.{ended_after}
+use Rattle.convert.proofs.CallLaws.{ended_no}
 use Rattle.convert.proofs.finish.ended_after.Goals as goal
 
-pub returns-then-answer-eq3 : goal.returns-then-answer-eq3
+pub returns-in-Stopped : goal.returns-in-Stopped
 unfolding ended_after
-returns-then-answer-eq3 c = rw (eq-eqb _ _ c.if-answer-eq3.true)
+returns-in-Stopped c = rw c.in-Stopped.is
 
-pub returns-then-answer-eq0 : goal.returns-then-answer-eq0
+pub returns-in-AllRead : goal.returns-in-AllRead
 unfolding ended_after
-returns-then-answer-eq0 c = rw (ne_eqb _ _ c.if-answer-eq3.false, eq-eqb _ _ c.if-answer-eq0.true)
+returns-in-AllRead c = rw c.in-AllRead.is
 
-pub returns : goal.returns
-unfolding ended_after
-returns c = rw (ne_eqb _ _ c.if-answer-eq3.false, ne_eqb _ _ c.if-answer-eq0.false)
+pub returns-in_default : goal.returns-in_default
+returns-in_default c = ended_no c.args.last c.args.answer c.in_default.not-Stopped c.in_default.not-AllRead

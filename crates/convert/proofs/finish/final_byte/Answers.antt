@@ -1,9 +1,0 @@
-use Rattle.engine.specs.declared.Direction.TheVariants.{Decoding}
-use Rattle.convert.proofs.CallLaws.{final_empty, final_last}
-use Rattle.convert.proofs.finish.final_byte.Goals as goal
-
-pub returns-then-piece-eq0 : goal.returns-then-piece-eq0
-returns-then-piece-eq0 c = final_empty Decoding c.args.pending c.args.piece.now c.if-piece-eq0.true
-
-pub returns : goal.returns
-returns c = final_last Decoding c.args.pending c.args.piece.now c.if-piece-eq0.false
