@@ -23,7 +23,8 @@ use Rattle.engine.specs.Policies.{policy_allowed, highest_single}
 use Rattle.codepage.specs.Lent.{over}
 use Rattle.codepage.proofs.ShapeLaws.{and_left, and_right}
 use Rattle.convert.proofs.CallLaws.{Valid, valid_facts, most_twice}
-use Rattle.checkpoint.specs.declared.Written.{Written}
+use Rattle.std.specs.declared.result.Result.{Result}
+use Rattle.checkpoint.specs.declared.Refusal.{Refusal}
 use Rattle.checkpoint.specs.Line.{tab, line_of, field_of, closing_of, decimal, run_of, kept, fields_by, fields, field, letter, number, three_digits, pending_field, closing, succeed, ◌>>=◌, Parsed, Parser, Representable, Restores, PendingFits, letter_of, digits_of, pending_of, Saving, unwritten, write_of, written_as, Saved, Loading, loaded, read_of}
 use Rattle.checkpoint.specs.Sample.{sample_run, sample_line, pending_run, pending_line, longest_run, longest_pending, not_lines, AllAnswered}
 use Rattle.checkpoint.proofs.Computing.{line_rules}
@@ -377,7 +378,7 @@ saved_restored run room w e =
     ap read_of (writes_line run room e) ∙ (reads_0 (line_of run) run).1 (record { line_is = refl; valid = ((writes_0 run room).0 e).0; fits = w })
 
 -- the line stands at the front of the output
-pub saved_front : (s : Saving) (r : Written) (before after : List ℕ) → Saved s r before after → take (written_as r).size after ≡ s.line
+pub saved_front : (s : Saving) (r : Result ℕ Refusal) (before after : List ℕ) → Saved s r before after → take (written_as r).size after ≡ s.line
 unfolding over
 saved_front s r before after w = rw (w.lent, w.size) (take-append_seam s.line (drop (length s.line) before))
 

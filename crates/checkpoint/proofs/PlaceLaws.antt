@@ -1,7 +1,6 @@
 -- Laws of reading at a place of a line.
 use mathlib.Core.Bool.{Bool, true, false, ◌&&◌}
 use mathlib.Core.List.{List, [], ◌∷◌}
-use mathlib.Core.Option
 use mathlib.Core.Option.{Option, none, some}
 use mathlib.Core.Path.{◌≡◌, refl, sym, ap, ◌∙◌}
 use Prim.Native.Nat.{ℕ, suc, ◌+◌, ◌*◌, ◌<◌, ◌≤◌}
@@ -13,9 +12,12 @@ use lib.Seq.{drop-cons, drop-length}
 use borrow.Author.Tests.{le-leb, lt-leb, eq-eqb, ne_eqb, leb-true, leb-false}
 use Rattle.engine.specs.declared.Direction.{Direction}
 use Rattle.convert.specs.declared.Pending.TheVariants.{Nothing}
-use Rattle.checkpoint.specs.Line.{tab, Parsed, Parser, succeed, ◌>>=◌, one, is_byte, digit_value, hex_value, more_digits, number, pending_field, hex_pending, field, closing_of, same_bytes, closing}
-use Rattle.checkpoint.specs.Places.{from, read_at, found_at, behind_tab, at_most, up_to}
-use Rattle.checkpoint.proofs.ParserLaws.{got, none_some, then_some, then_none, one_some, one_none, one_empty, digit_back, hex_back, return_some, pending_empty, dash_first, no_dash, more_digit, more_other, more_end, number_empty, number_zero, number_first, number_none}
+use Rattle.std.specs.declared.option.Option.{Option as Answer}
+use Rattle.std.specs.declared.option.Option.TheVariants.{None}
+use Rattle.checkpoint.specs.declared.reader.Found.{Found}
+use Rattle.checkpoint.specs.Line.{tab, Parsed, Parser, succeed, ◌>>=◌, one, is_byte, digit_value, more_digits, number, pending_field, hex_pending, field, closing_of, same_bytes, closing}
+use Rattle.checkpoint.specs.Places.{from, read_at, found_at, found, at_most, up_to}
+use Rattle.checkpoint.proofs.ParserLaws.{got, none_some, then_some, then_none, one_some, one_none, one_empty, digit_back, return_some, pending_empty, dash_first, no_dash, more_digit, more_other, more_end, number_empty, number_zero, number_first, number_none}
 
 -- ---- places
 module _ (line : List ℕ) (place : ℕ) where
@@ -62,10 +64,6 @@ module _ (line : List ℕ) (place : ℕ) where
   pub found_in : {A : Type 0} (a : A) → place ≤ length line → found_at a line place ≡ got a (drop place line)
   found_in a h = read_in (succeed a) h ∙ return_some a (drop place line)
 
--- nothing is found
-pub found_none : {A : Type 0} (a : A) (p : Parser A) (line : List ℕ) (at next : ℕ) → read_at p line at ≡ none → next ≡ length line + 1 → found_at a line next ≡ read_at p line at
-found_none a p line at next e q = read_out line next (succeed a) (omega arith) ∙ sym e
-
 -- ---- one parser, then another
 module _ {A B : Type 0} (p : Parser A) (k : A → Parser B) (line : List ℕ) (at next : ℕ) (a : A) where
   -- where p finds a value, the next parser goes on behind it
@@ -108,70 +106,16 @@ module _ {A : Type 0} (means : ℕ → Option A) (line : List ℕ) (at : ℕ) wh
       ∙ sym (one_some means (get_or line at 0) (drop (at + 1) line) a e)
       ∙ sym (read_cons line at (one means) h)
 
--- the value of a digit, with 16 for none
-pub value_some : (o : Option ℕ) (n : ℕ) → n ≡ Option.get_or o 16 → n < 16 → o ≡ some n
-value_some none n e h = absurd (omega arith)
-value_some (some v) n e h = ap some (sym e)
-
-value_none : (o : Option ℕ) (bound n : ℕ) → ((v : ℕ) → o ≡ some v → v < bound) → n ≡ Option.get_or o 16 → bound ≤ n → o ≡ none
-value_none none bound n f e h = refl
-value_none (some v) bound n f e h = absurd (omega (arith, f v refl))
-
--- a value of 10 or more stands for none: the byte is no digit
-pub digit_none : (byte n : ℕ) → n ≡ Option.get_or (digit_value byte) 16 → 9 < n → digit_value byte ≡ none
-digit_none byte n e h = value_none (digit_value byte) 10 n (λ v q. (digit_back byte v q).1) e (omega arith)
-
--- a value of 16 or more stands for none: the byte is no hex digit
-pub hex_none : (byte n : ℕ) → n ≡ Option.get_or (hex_value byte) 16 → 15 < n → hex_value byte ≡ none
-hex_none byte n e h = value_none (hex_value byte) 16 n (λ v q. (hex_back byte v q).1) e (omega arith)
+-- nothing is found
+pub nothing : {A : Type 0} (line : List ℕ) (o : Answer (Found A)) (x : Option (Parsed A)) → o ≡ None → x ≡ none → found line o ≡ x
+nothing line o x e f = ap (found line) e ∙ sym f
 
 -- ---- a field and its tab
-module _ (line : List ℕ) (at : ℕ) where
-  -- the line ends where a tab has to stand: the next place is behind the line, where nothing is read
-  pub tab_end : (next : ℕ) → length line ≤ at → next ≡ length line + 1 → from line next ≡ behind_tab (from line at)
-  tab_end next h q = from_out line next (omega arith) ∙ sym (by_end (leb at (length line)) refl)
-    where
-      by_end : (t : Bool) → leb at (length line) ≡ t → behind_tab (from line at) ≡ none
-      by_end true u = rw (from_in line at (leb-true _ _ u), drop_of_length-le line h)
-      by_end false u = rw (from_out line at (leb-false _ _ u))
-
-  -- a tab: the next place is behind it
-  pub tab_here : at < length line → get_or line at 0 ≡ tab → from line (at + 1) ≡ behind_tab (from line at)
-  tab_here h e = from_in line (at + 1) (omega arith) ∙ sym (rw (from_cons line at h, eq-eqb (get_or line at 0) tab e))
-
-  -- another byte where a tab has to stand: the next place is behind the line, where nothing is read
-  pub tab_none : (next : ℕ) → at < length line → (get_or line at 0 ≡ tab → ⊥) → next ≡ length line + 1 → from line next ≡ behind_tab (from line at)
-  tab_none next h e q = from_out line next (omega arith) ∙ sym (rw (from_cons line at h, ne_eqb (get_or line at 0) tab e))
-
-tab_found : {A : Type 0} (a : A) (line : List ℕ) (at next : ℕ) → from line next ≡ behind_tab (from line at) → found_at a line next ≡ read_at (one (is_byte tab a)) line at
-tab_found {A} a line at next e = by_place (from line at) refl
-  where
-    by_byte : (byte : ℕ) (bytes : List ℕ) → from line at ≡ some (byte ∷ bytes) → (t : Bool) → eqb byte tab ≡ t → found_at a line next ≡ read_at (one (is_byte tab a)) line at
-    by_byte byte bytes q true u =
-        let tabbed : is_byte tab a byte ≡ some a = rw u in
-        read_from line next (succeed a) bytes (e ∙ rw (q, u))
-        ∙ return_some a bytes
-        ∙ sym (one_some (is_byte tab a) byte bytes a tabbed)
-        ∙ sym (read_from line at (one (is_byte tab a)) (byte ∷ bytes) q)
-    by_byte byte bytes q false u =
-        let tabless : is_byte tab a byte ≡ none = rw u in
-        read_nowhere line next (succeed a) (e ∙ rw (q, u))
-        ∙ sym (one_none (is_byte tab a) byte bytes tabless)
-        ∙ sym (read_from line at (one (is_byte tab a)) (byte ∷ bytes) q)
-
-    by_place : (o : Option (List ℕ)) → from line at ≡ o → found_at a line next ≡ read_at (one (is_byte tab a)) line at
-    by_place none q = read_nowhere line next (succeed a) (e ∙ rw q) ∙ sym (read_nowhere line at (one (is_byte tab a)) q)
-    by_place (some []) q =
-        read_nowhere line next (succeed a) (e ∙ rw q)
-        ∙ sym (one_empty (is_byte tab a))
-        ∙ sym (read_from line at (one (is_byte tab a)) [] q)
-    by_place (some (byte ∷ bytes)) q = by_byte byte bytes q (eqb byte tab) refl
-
 module _ {A : Type 0} (p : Parser A) (line : List ℕ) (at : ℕ) where
-  -- a value was found, and the place behind its tab: that is the field
-  pub field_found : (a : A) (mid next : ℕ) → found_at a line mid ≡ read_at p line at → from line next ≡ behind_tab (from line mid) → found_at a line next ≡ read_at (field p) line at
+  -- a value was found: what is read as the tab behind it is the field
+  pub field_found : (a : A) (mid : ℕ) (o : Option (Parsed A)) → found_at a line mid ≡ read_at p line at → o ≡ read_at (one (is_byte tab a)) line mid → o ≡ read_at (field p) line at
   unfolding field
-  field_found a mid next e q = tab_found a line mid next q ∙ sym (read_then p (λ x. one (is_byte tab x)) line at mid a e)
+  field_found a mid o e q = q ∙ sym (read_then p (λ x. one (is_byte tab x)) line at mid a e)
 
   -- no value is there: no field is
   pub field_none : read_at p line at ≡ none → read_at (field p) line at ≡ none

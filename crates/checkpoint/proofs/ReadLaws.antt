@@ -1,12 +1,13 @@
 -- Laws of reading a whole line: the program leaves a number at once where it is over a limit; the line is then refused, whatever follows.
 use mathlib.Core.Bool.{Bool, true, false, true≢false}
-use mathlib.Core.List.{List}
+use mathlib.Core.List.{List, []}
+use lib.Seq.{drop-length}
 use mathlib.Core.Option.{Option, none, some}
 use mathlib.Core.Path.{◌≡◌, refl, sym, ap, ◌∙◌}
 use Prim.Native.Nat.{ℕ, ◌<◌, ◌≤◌}
 use native.Mathlib.Omega.{arith}
 use lib.Dec.{leb}
-use lib.ListN.{length, drop}
+use lib.ListN.{length}
 use borrow.Author.Tests.{leb-true, leb-false}
 use Rattle.convert.specs.declared.Run.{Run}
 use Rattle.convert.specs.Runs.{valid_run, read_limit, written_limit}
@@ -14,10 +15,10 @@ use Rattle.checkpoint.specs.Line.{Parsed, Parser, succeed, ◌>>=◌, letter, nu
 use Rattle.checkpoint.specs.Places.{read_at, found_at, at_most, up_to}
 use Rattle.checkpoint.proofs.ParserLaws.{got, then_some, then_none, one_back, is_byte_back, return_some}
 use Rattle.checkpoint.proofs.LineLaws.{bounded, kept_some}
-use Rattle.checkpoint.proofs.PlaceLaws.{read_then, read_in, read_out, found_in, at_most_lem, over_most, same_then}
+use Rattle.checkpoint.proofs.PlaceLaws.{read_then, read_in, found_in, at_most_lem, over_most, same_then}
 
 -- the fields in their order, with numbers up to the limits
-pub limited : Parser Run
+unfoldable pub limited : Parser Run
 limited = do
   direction ← field letter
   page ← field (up_to 65535 number)
@@ -142,51 +143,47 @@ kept_limited line =
     never_then (field number) l₆ _ λ written l₇.
     never_then closing l₇ _ λ ended l₈. broken _ l₈ λ p v. omega (arith, h, p))
 
--- field after field, each read behind the one before
-pub all_found : (line : List ℕ) (run : Run) (n₁ n₂ n₃ n₄ n₅ n₆ n₇ n₈ : ℕ)
-    → found_at run.direction line n₁ ≡ read_at (field letter) line 0
-    → found_at run.page line n₂ ≡ read_at (field (up_to 65535 number)) line n₁
-    → found_at run.policy line n₃ ≡ read_at (field three_digits) line n₂
-    → found_at run.pending line n₄ ≡ read_at (field (pending_field run.direction)) line n₃
-    → found_at run.flags line n₅ ≡ read_at (field (up_to 255 number)) line n₄
-    → found_at run.read line n₆ ≡ read_at (field (up_to read_limit number)) line n₅
-    → found_at run.written line n₇ ≡ read_at (field (up_to written_limit number)) line n₆
-    → found_at run.ended line n₈ ≡ read_at closing line n₇
-    → read_at limited line 0 ≡ found_at run line n₈
-unfolding limited
-all_found line run n₁ n₂ n₃ n₄ n₅ n₆ n₇ n₈ e₁ e₂ e₃ e₄ e₅ e₆ e₇ e₈ =
-    read_then (field letter) _ line 0 n₁ run.direction e₁
-    ∙ read_then (field (up_to 65535 number)) _ line n₁ n₂ run.page e₂
-    ∙ read_then (field three_digits) _ line n₂ n₃ run.policy e₃
-    ∙ read_then (field (pending_field run.direction)) _ line n₃ n₄ run.pending e₄
-    ∙ read_then (field (up_to 255 number)) _ line n₄ n₅ run.flags e₅
-    ∙ read_then (field (up_to read_limit number)) _ line n₅ n₆ run.read e₆
-    ∙ read_then (field (up_to written_limit number)) _ line n₆ n₇ run.written e₇
-    ∙ read_then closing _ line n₇ n₈ run.ended e₈
-
-module _ (line : List ℕ) (run : Run) (next : ℕ) (e : read_at limited line 0 ≡ found_at run line next) where
-  whole : run_of line ≡ kept (found_at run line next)
+module _ (line : List ℕ) where
+  whole : (o : Option (Parsed Run)) → read_at limited line 0 ≡ o → run_of line ≡ kept o
   unfolding run_of
-  whole = kept_limited line ∙ ap kept (sym (read_in line 0 limited (omega arith)) ∙ e)
+  whole o e = kept_limited line ∙ ap kept (sym (read_in line 0 limited (omega arith)) ∙ e)
 
-  -- fields that end behind the line are no line: 18
-  pub not_a_line : length line < next → read_of line ≡ record { number = 18; run = none }
+  -- a field that is not found: 18
+  pub not_a_line : read_at limited line 0 ≡ none → read_of line ≡ record { number = 18; run = none }
   unfolding read_of loaded
-  not_a_line h = ap loaded (whole ∙ ap kept (read_out line next (succeed run) h) ∙ kept_none)
+  not_a_line e = ap loaded (whole none e ∙ kept_none)
 
-  kept_found : next ≤ length line → run_of line ≡ kept (got run (drop next line))
-  kept_found h = whole ∙ ap kept (found_in line next run h)
+  module _ (run : Run) (e : read_at limited line 0 ≡ got run []) where
+    -- fields that name a run which breaks the rules are no line: 18
+    pub not_valid : valid_run run ≡ false → read_of line ≡ record { number = 18; run = none }
+    unfolding read_of loaded
+    not_valid v = ap loaded (whole (got run []) e ∙ ap kept (sym (return_some run [])) ∙ broken run [] (λ p w. true≢false (sym w ∙ v)))
 
-  -- fields that name a run which breaks the rules are no line: 18
-  pub not_valid : next ≤ length line → valid_run run ≡ false → read_of line ≡ record { number = 18; run = none }
-  unfolding read_of loaded
-  not_valid h v =
-      ap loaded
-      (kept_found h
-      ∙ ap kept (sym (return_some run (drop next line)))
-      ∙ broken run (drop next line) (λ p w. true≢false (sym w ∙ v)))
+    -- the fields of a valid run are its line
+    pub a_line : run.page ≤ 65535 → valid_run run ≡ true → read_of line ≡ record { number = 0; run = some run }
+    unfolding read_of loaded
+    a_line p v = ap loaded (whole (got run []) e ∙ kept_some run [] p v)
 
-  -- fields of a valid run within the line give that run
-  pub a_line : next ≤ length line → run.page ≤ 65535 → valid_run run ≡ true → read_of line ≡ record { number = 0; run = some run }
-  unfolding read_of loaded
-  a_line h p v = ap loaded (kept_found h ∙ kept_some run (drop next line) p v)
+  -- all fields, each read behind the one before
+  pub all_found : (run : Run) (n₁ n₂ n₃ n₄ n₅ n₆ n₇ : ℕ)
+      → found_at run.direction line n₁ ≡ read_at (field letter) line 0
+      → found_at run.page line n₂ ≡ read_at (field (up_to 65535 number)) line n₁
+      → found_at run.policy line n₃ ≡ read_at (field three_digits) line n₂
+      → found_at run.pending line n₄ ≡ read_at (field (pending_field run.direction)) line n₃
+      → found_at run.flags line n₅ ≡ read_at (field (up_to 255 number)) line n₄
+      → found_at run.read line n₆ ≡ read_at (field (up_to read_limit number)) line n₅
+      → found_at run.written line n₇ ≡ read_at (field (up_to written_limit number)) line n₆
+      → found_at run.ended line (length line) ≡ read_at closing line n₇
+      → read_at limited line 0 ≡ got run []
+  unfolding limited
+  all_found run n₁ n₂ n₃ n₄ n₅ n₆ n₇ e₁ e₂ e₃ e₄ e₅ e₆ e₇ e₈ =
+      read_then (field letter) _ line 0 n₁ run.direction e₁
+      ∙ read_then (field (up_to 65535 number)) _ line n₁ n₂ run.page e₂
+      ∙ read_then (field three_digits) _ line n₂ n₃ run.policy e₃
+      ∙ read_then (field (pending_field run.direction)) _ line n₃ n₄ run.pending e₄
+      ∙ read_then (field (up_to 255 number)) _ line n₄ n₅ run.flags e₅
+      ∙ read_then (field (up_to read_limit number)) _ line n₅ n₆ run.read e₆
+      ∙ read_then (field (up_to written_limit number)) _ line n₆ n₇ run.written e₇
+      ∙ read_then closing _ line n₇ (length line) run.ended e₈
+      ∙ found_in line (length line) run (omega arith)
+      ∙ ap (got run) (drop-length line)

@@ -7,16 +7,26 @@ use native.Mathlib.Nat.{add-zero}
 use native.Mathlib.Numerals.{add-one, add-two, add-three}
 use native.Mathlib.Omega.{arith}
 use lib.ListN.{length, get_or, take, drop, set, length-append}
-use lib.Seq.{sets, length-sets, sets-eq, set_comm, take-suc, length-take-le, take-length}
+use lib.Seq.{sets, length-sets, sets-eq, drop-drop, set_comm, take-suc, length-take-le, take-length}
 use borrow.Author.Tests.{lt-ltb, le-ltb}
 use Rattle.engine.specs.declared.Direction.{Direction}
 use Rattle.convert.specs.declared.Run.{Run}
 use Rattle.convert.specs.Runs.{valid_run}
 use Rattle.codepage.specs.Lent.{over}
 use Rattle.checkpoint.specs.Line.{tab, hex_byte, decimal, letter_of, hex_of, pending_of, field_of, closing_of, line_of, write_of, Saved}
-use Rattle.checkpoint.specs.declared.Written.TheVariants.{Line, InvalidRun, NoRoom}
+use Rattle.std.specs.declared.result.Result.TheVariants.{Ok, Err}
+use Rattle.checkpoint.specs.declared.Refusal.TheVariants.{InvalidRun, NoRoom}
 use Rattle.checkpoint.specs.Places.{start_fields, total_fields, Put}
 use Rattle.checkpoint.proofs.DecimalLaws.{places, places_length, places_suc, places_decimal}
+
+-- ---- bytes copied into a part of a list
+pub put_by : (l bytes part : List ℕ) (at n : ℕ) → at + length bytes ≤ length l → n ≡ length bytes → part ≡ bytes → take at l ++ (part ++ drop n (drop at l)) ≡ sets l at bytes
+put_by l bytes part at n h same e =
+    let behind : drop n (drop at l) ≡ drop (at + length bytes) l = drop-drop n at l ∙ ap (λ (m : ℕ). drop (at + m) l) same in
+    rw behind
+    (ap (λ (p : List ℕ). take at l ++ (p ++ drop (at + length bytes) l)) e
+    ∙ sym (append_assoc (take at l) bytes (drop (at + length bytes) l))
+    ∙ sym (sets-eq bytes l at h))
 
 -- ---- one run of bytes after another
 pub sets_append : (xs ys l : List ℕ) (at : ℕ) → sets (sets l at xs) (at + length xs) ys ≡ sets l at (xs ++ ys)
@@ -151,18 +161,18 @@ put_is {before} {after} {at} {next} e p = subst (λ (l : List ℕ). Put l before
 -- ---- the answers of line writing
 module _ (run : Run) (before : List ℕ) where
   -- a run that breaks the rules: 12, and the output is as before
-  pub saved_invalid : valid_run run ≡ false → Saved (write_of run (length before)) InvalidRun before before
+  pub saved_invalid : valid_run run ≡ false → Saved (write_of run (length before)) (Err InvalidRun) before before
   unfolding write_of over
   saved_invalid v = rw v (record { number = refl; size = refl; lent = refl })
 
   -- the line is longer than the room: 19, and the output is as before
-  pub saved_full : (size : ℕ) → valid_run run ≡ true → size ≡ length (line_of run) → length before < size → Saved (write_of run (length before)) NoRoom before before
+  pub saved_full : (size : ℕ) → valid_run run ≡ true → size ≡ length (line_of run) → length before < size → Saved (write_of run (length before)) (Err NoRoom) before before
   unfolding write_of over
   saved_full size v e h = rw (v, lt-ltb (length before) (length (line_of run)) (omega arith)) (record { number = refl; size = refl; lent = refl })
 
   -- the line is put at the front: its length is the answer
   pub saved_line : (size next : ℕ) (after : List ℕ) → valid_run run ≡ true → size ≡ length (line_of run) → size ≤ length before → Put (line_of run) before 0 next after
-      → Saved (write_of run (length before)) (Line next) before after
+      → Saved (write_of run (length before)) (Ok next) before after
   unfolding write_of over
   saved_line size next after v e h p =
       let zero_on : 0 + length (line_of run) ≡ length (line_of run) = omega arith in

@@ -11,10 +11,12 @@ use Rattle.convert.specs.declared.Pending.TheVariants.{Nothing, Byte, High}
 use Rattle.convert.specs.declared.Run.{Run}
 use Rattle.convert.specs.Runs.{valid_run}
 use Rattle.codepage.specs.Lent.{over}
-use Rattle.checkpoint.specs.declared.Written.{Written}
-use Rattle.checkpoint.specs.declared.Written.TheVariants.{Line, InvalidRun, NoRoom}
-use Rattle.checkpoint.specs.declared.Restored.{Restored}
-use Rattle.checkpoint.specs.declared.Restored.TheVariants.{Accepted, Refused}
+use Rattle.std.specs.declared.option.Option.{Option as Answer}
+use Rattle.std.specs.declared.option.Option.TheVariants.{None, Some}
+use Rattle.std.specs.declared.result.Result.{Result}
+use Rattle.std.specs.declared.result.Result.TheVariants.{Ok, Err}
+use Rattle.checkpoint.specs.declared.Refusal.{Refusal}
+use Rattle.checkpoint.specs.declared.Refusal.TheVariants.{InvalidRun, NoRoom}
 
 -- ---- The line of a run
 -- what parts the fields
@@ -280,13 +282,13 @@ pub record Reply : Type 0 where
   pub size : ℕ
 
 -- the number of each case of the answer, and the line's length; 0 for a refusal
-abbrev pub written_as : Written → Reply
-written_as (Line size) = record { number = 0; size = size }
-written_as InvalidRun = record { number = 12; size = 0 }
-written_as NoRoom = record { number = 19; size = 0 }
+abbrev pub written_as : Result ℕ Refusal → Reply
+written_as (Ok size) = record { number = 0; size = size }
+written_as (Err InvalidRun) = record { number = 12; size = 0 }
+written_as (Err NoRoom) = record { number = 19; size = 0 }
 
 -- The promise of line writing: s is what the rules give, r what it returns, and the lent output before and after.
-pub record Saved (s : Saving) (r : Written) (before after : List ℕ) : Type 0 where
+pub record Saved (s : Saving) (r : Result ℕ Refusal) (before after : List ℕ) : Type 0 where
   pub number : (written_as r).number ≡ s.number
   pub size : (written_as r).size ≡ length s.line
   pub lent : after ≡ over before s.line
@@ -306,6 +308,6 @@ unfoldable pub read_of : List ℕ → Loading
 read_of line = loaded (run_of line)
 
 -- the number and values of each case of the answer
-abbrev pub restored_as : Restored → Loading
-restored_as (Accepted run) = record { number = 0; run = some run }
-restored_as Refused = record { number = 18; run = none }
+abbrev pub restored_as : Answer Run → Loading
+restored_as (Some run) = record { number = 0; run = some run }
+restored_as None = record { number = 18; run = none }

@@ -1,11 +1,14 @@
 -- Definitions that the private functions' contracts cite, and that no promise does: what is read and written at a place of a
 -- line.
-use Rattle.std.specs.Prelude.{List, [], ◌∷◌, ◌++◌, ◌≡◌, ℕ, ◌+◌, leb, eqb, length, drop}
+use Rattle.std.specs.Prelude.{Bool, List, ◌++◌, ◌≡◌, ℕ, ◌+◌, leb, length, drop}
 use Rattle.std.proofs.Math.Option.{Option, none, some}
 use Rattle.std.proofs.lemmas.List.Edits.{sets}
+use Rattle.std.specs.declared.option.Option.{Option as Answer}
+use Rattle.std.specs.declared.option.Option.TheVariants.{None, Some}
 use Rattle.codepage.specs.CodePage.{pick}
 use Rattle.convert.specs.declared.Run.{Run}
-use Rattle.checkpoint.specs.Line.{tab, decimal, letter_of, digits_of, field_of, Parsed, Parser, succeed, ◌>>=◌}
+use Rattle.checkpoint.specs.declared.reader.Found.{Found}
+use Rattle.checkpoint.specs.Line.{decimal, letter_of, digits_of, field_of, Parsed, Parser, succeed, ◌>>=◌}
 
 -- the bytes of a line from a place on; a place behind its end has none
 unfoldable pub from : (line : List ℕ) → (place : ℕ) → Option (List ℕ)
@@ -19,11 +22,20 @@ read_at p line place = elim (from line place) [ none ↦ none | some rest ↦ p 
 abbrev pub found_at : {A : Type 0} → A → (line : List ℕ) → (place : ℕ) → Option (Parsed A)
 found_at a line place = read_at (succeed a) line place
 
--- the bytes behind a tab
-abbrev pub behind_tab : Option (List ℕ) → Option (List ℕ)
-behind_tab none = none
-behind_tab (some []) = none
-behind_tab (some (byte ∷ bytes)) = pick (eqb byte tab) (some bytes) none
+-- the value that a function gives, if it gives one
+abbrev pub given : {A : Type 0} → Answer A → Option A
+given None = none
+given (Some a) = some a
+
+-- what a function found at a place of a line, and the bytes behind it
+abbrev pub found : {A : Type 0} → (line : List ℕ) → Answer (Found A) → Option (Parsed A)
+found line None = none
+found line (Some f) = found_at f.value line f.next
+
+-- what closes a line, if that is what is left of it
+abbrev pub closed : (line : List ℕ) → Answer Bool → Option (Parsed Bool)
+closed line None = none
+closed line (Some ended) = found_at ended line (length line)
 
 -- a number that is read only if it is at most a limit
 unfoldable pub at_most : (limit number : ℕ) → Parser ℕ

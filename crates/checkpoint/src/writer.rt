@@ -34,29 +34,31 @@ fn pending_len(pending: Pending) -> usize
 }
 
 // How many bytes the word `on` or `over` and the line feed have.
+#[tactic(auto, unfolding(crate::specs::Line::closing_of))]
 fn closing_len(ended: bool) -> usize
     ensures value { result ≡ length (closing_of ended) }
     ensures upper_bound { result ≤ 5 }
 {
     if ended {
-        return words::OVER.len();
+        words::OVER.len()
+    } else {
+        words::ON.len()
     }
-    words::ON.len()
 }
 
 // The length of a run's line.
 pub fn line_len(run: Run) -> usize
     ensures { result ≡ length (line_of run) }
 {
-    let pending = run.pending;
-    let page = decimal_len(run.page as u64);
-    let pending_size = pending_len(pending);
-    let flags = decimal_len(run.flags as u64);
-    let read = decimal_len(run.read);
-    let written = decimal_len(run.written);
-    let closing = closing_len(run.ended);
     // `D` or `E`, three digits and seven tabs
-    page + pending_size + flags + read + written + closing + 11
+    let fixed = 11;
+    fixed
+        + decimal_len(u64::from(run.page))
+        + pending_len(run.pending)
+        + decimal_len(u64::from(run.flags))
+        + decimal_len(run.read)
+        + decimal_len(run.written)
+        + closing_len(run.ended)
 }
 
 // Some bytes.
@@ -64,12 +66,8 @@ fn put_bytes(bytes: &[u8], at: usize, out: &mut [u8]) -> usize
     requires { at + length bytes.now ≤ length out.old }
     ensures { Put bytes.now out.old at result out.new }
 {
-    let mut i = 0;
-    while i < bytes.len() {
-        out[at + i] = bytes[i];
-        i += 1;
-    }
-    at + i
+    out[at..at + bytes.len()].copy_from_slice(bytes);
+    at + bytes.len()
 }
 
 // `D` for a decoding run, `E` for an encoding one.
@@ -128,9 +126,10 @@ fn hex_byte(value: u8) -> u8
     ensures { result ≡ hex_byte value }
 {
     if value < 10 {
-        return b'0' + value;
+        b'0' + value
+    } else {
+        b'A' + (value - 10)
     }
-    b'A' + (value - 10)
 }
 
 // A byte as two capital hex digits.
@@ -185,9 +184,10 @@ fn put_closing(ended: bool, at: usize, out: &mut [u8]) -> usize
     ensures { Put (closing_of ended) out.old at result out.new }
 {
     if ended {
-        return put_bytes(&words::OVER, at, out);
+        put_bytes(&words::OVER, at, out)
+    } else {
+        put_bytes(&words::ON, at, out)
     }
-    put_bytes(&words::ON, at, out)
 }
 
 // What the run was started with: direction, page and digits.

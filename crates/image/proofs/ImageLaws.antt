@@ -10,8 +10,8 @@ use lib.ListN.{length, get_or, take, drop, set, length-drop}
 use lib.Seq.{drop-cons, set_at, append_snoc, take-suc, take-length, length-take-le, get_or-take, get_or-drop}
 use borrow.Author.Tests.{leb-true, eqb-true}
 use Rattle.codepage.specs.declared.Numbers.{Numbers}
-use Rattle.image.specs.declared.Sizes.{Sizes}
-use Rattle.image.specs.declared.Loaded.TheVariants.{Table, NotAnImage}
+use Rattle.codepage.specs.declared.Sizes.{Sizes}
+use Rattle.std.specs.declared.option.Option.TheVariants.{None, Some}
 use Rattle.codepage.specs.Lent.{over}
 use Rattle.codepage.proofs.ShapeLaws.{and_left, and_right}
 use Rattle.image.specs.Image.{two, numbers_of, sizes_of, singles_at, pairs_at, index_at, blocks_at, end_of, part, units, zeros_kept, fit, is_image, rooms_of, tables_of, not_an_image, load_of, LoadedAs}
@@ -146,7 +146,7 @@ image_known bytes sizes rooms h s =
 module _ (bytes classes singles pairs index blocks : List ℕ) where
   -- bytes that are no image: no table is changed
   pub refused : is_image bytes (rooms_of classes singles pairs index blocks) ≡ false
-      → LoadedAs (load_of bytes (rooms_of classes singles pairs index blocks)) NotAnImage classes classes singles singles pairs pairs index index blocks blocks
+      → LoadedAs (load_of bytes (rooms_of classes singles pairs index blocks)) None classes classes singles singles pairs pairs index index blocks blocks
   unfolding load_of not_an_image over
   refused e =
       rw e
@@ -169,12 +169,12 @@ module _ (bytes classes singles pairs index blocks : List ℕ) where
       → pairs' ≡ over pairs (units (part bytes (pairs_at sizes) (2 * sizes.pairs)))
       → index' ≡ over index (part bytes (index_at sizes) sizes.index)
       → blocks' ≡ over blocks (units (part bytes (blocks_at sizes) (2 * sizes.blocks)))
-      → LoadedAs (load_of bytes (rooms_of classes singles pairs index blocks)) (Table numbers sizes) classes classes' singles singles' pairs pairs' index index' blocks blocks'
+      → LoadedAs (load_of bytes (rooms_of classes singles pairs index blocks)) (Some (numbers, sizes)) classes classes' singles singles' pairs pairs' index index' blocks blocks'
   unfolding load_of tables_of
   accepted classes' singles' pairs' index' blocks' numbers sizes e n s a b d f g =
       rw (e, ← s)
       (record {
-        answer = ap (λ (x : Numbers). Table x sizes) n;
+        answer = ap (λ (x : Numbers). Some (x, sizes)) n;
         lent_classes = a;
         lent_singles = b;
         lent_pairs = d;

@@ -3,9 +3,9 @@ use Rattle.std.specs.Prelude.{Bool, ◌&&◌, List, [], ◌∷◌, ◌≡◌, �
 use Rattle.codepage.specs.CodePage.{pick, entry_at}
 use Rattle.codepage.specs.Lent.{over}
 use Rattle.codepage.specs.declared.Numbers.{Numbers}
-use Rattle.image.specs.declared.Sizes.{Sizes}
-use Rattle.image.specs.declared.Loaded.{Loaded}
-use Rattle.image.specs.declared.Loaded.TheVariants.{Table, NotAnImage}
+use Rattle.codepage.specs.declared.Sizes.{Sizes}
+use Rattle.std.specs.declared.option.Option.{Option}
+use Rattle.std.specs.declared.option.Option.TheVariants.{None, Some}
 
 -- numbers of two and of four bytes
 unfoldable pub two : (bytes : List ℕ) → (place : ℕ) → ℕ
@@ -90,7 +90,7 @@ rooms_of classes singles pairs index blocks =
 
 -- What reading an image gives: its answer, and the elements of each table.
 pub record LoadedImage : Type 0 where
-  pub answer : Loaded
+  pub answer : Option (Numbers × Sizes)
   pub classes : List ℕ
   pub singles : List ℕ
   pub pairs : List ℕ
@@ -101,7 +101,7 @@ pub record LoadedImage : Type 0 where
 unfoldable pub tables_of : (bytes : List ℕ) → Sizes → LoadedImage
 tables_of bytes s =
     record {
-      answer = Table (numbers_of bytes) s;
+      answer = Some (numbers_of bytes, s);
       classes = part bytes 28 s.classes;
       singles = units (part bytes (singles_at s) (2 * s.singles));
       pairs = units (part bytes (pairs_at s) (2 * s.pairs));
@@ -111,14 +111,14 @@ tables_of bytes s =
 
 -- what bytes give that are no image, or whose tables do not fit: nothing is laid into the lent tables
 unfoldable pub not_an_image : LoadedImage
-not_an_image = record { answer = NotAnImage; classes = []; singles = []; pairs = []; index = []; blocks = [] }
+not_an_image = record { answer = None; classes = []; singles = []; pairs = []; index = []; blocks = [] }
 
 -- What reading some bytes gives, with so much room in the lent tables.
 unfoldable pub load_of : (bytes : List ℕ) → (rooms : Sizes) → LoadedImage
 load_of bytes rooms = pick (is_image bytes rooms) (tables_of bytes (sizes_of bytes)) not_an_image
 
 -- The promise of reading: the answer, and each lent table before and after.
-pub record LoadedAs (l : LoadedImage) (r : Loaded) (classes classes' singles singles' pairs pairs' index index' blocks blocks' : List ℕ) : Type 0 where
+pub record LoadedAs (l : LoadedImage) (r : Option (Numbers × Sizes)) (classes classes' singles singles' pairs pairs' index index' blocks blocks' : List ℕ) : Type 0 where
   pub answer : r ≡ l.answer
   pub lent_classes : classes' ≡ over classes l.classes
   pub lent_singles : singles' ≡ over singles l.singles

@@ -3,7 +3,8 @@
 //
 //     let loaded = image::load(bytes, classes, singles, pairs, index, blocks);
 //
-// `Loaded::Table(numbers, sizes)`: the fronts of the lent tables, `sizes` long, hold the image's. Else they are as before.
+// `Some((numbers, sizes))`: the fronts of the lent tables, `sizes` long, hold the image's. `None`: the bytes are no image whose tables fit,
+// and the lent tables are as before.
 
 #![tactic(auto)]
 
@@ -12,35 +13,19 @@ ghost use Rattle.codepage.specs.Lent.{over};
 ghost use Rattle.image.specs.Image.{two, four, numbers_of, sizes_of, zeros_kept, fit, end_of, is_image, part, units, rooms_of, load_of, LoadedAs};
 
 use codepage::Numbers;
-
-// How many elements each table has.
-#[derive(Clone, Copy)]
-pub struct Sizes {
-    pub classes: usize,
-    pub singles: usize,
-    pub pairs: usize,
-    pub index: usize,
-    pub blocks: usize,
-}
-
-// What reading an image answers.
-#[derive(Clone, Copy)]
-pub enum Loaded {
-    // The table set: its numbers and the sizes of its tables.
-    Table(Numbers, Sizes),
-    // The bytes are no image whose tables fit the room.
-    NotAnImage,
-}
+pub use codepage::Sizes;
 
 // A number of two bytes.
+#[tactic(auto, unfolding(crate::specs::Image::two))]
 fn two_at(bytes: &[u8], at: usize) -> u16
     requires { at + 2 ≤ length bytes.now }
     ensures { result ≡ two bytes.now at }
 {
-    (bytes[at] as u16) + 256 * (bytes[at + 1] as u16)
+    u16::from_le_bytes([bytes[at], bytes[at + 1]])
 }
 
 // A number of four bytes.
+#[tactic(auto, unfolding(crate::specs::Image::four))]
 fn four_at(bytes: &[u8], at: usize) -> usize
     requires { at + 4 ≤ length bytes.now }
     ensures value { result ≡ four bytes.now at }
@@ -50,6 +35,7 @@ fn four_at(bytes: &[u8], at: usize) -> usize
 }
 
 // The numbers of the table set.
+#[tactic(auto, unfolding(crate::specs::Image::numbers_of))]
 fn numbers_of(bytes: &[u8]) -> Numbers
     requires { 28 ≤ length bytes.now }
     ensures { result ≡ numbers_of bytes.now }
@@ -62,6 +48,7 @@ fn numbers_of(bytes: &[u8]) -> Numbers
 }
 
 // The sizes of the tables.
+#[tactic(auto, unfolding(crate::specs::Image::sizes_of))]
 fn sizes_of(bytes: &[u8]) -> Sizes
     requires { 28 ≤ length bytes.now }
     ensures value { result ≡ sizes_of bytes.now }
@@ -77,36 +64,28 @@ fn sizes_of(bytes: &[u8]) -> Sizes
 }
 
 // Whether the places that must be 0 are so.
+#[tactic(auto, unfolding(crate::specs::Image::zeros_kept))]
 fn zeros_kept(bytes: &[u8]) -> bool
     requires { 28 ≤ length bytes.now }
     ensures { result ≡ zeros_kept bytes.now }
 {
-    if bytes[3] != 0 {
-        return false;
-    }
-    two_at(bytes, 6) == 0
+    bytes[3] == 0 && two_at(bytes, 6) == 0
 }
 
 // Whether tables of these sizes fit.
+#[tactic(auto, unfolding(crate::specs::Image::fit))]
 fn fits(sizes: Sizes, rooms: Sizes) -> bool
     ensures { result ≡ fit sizes rooms }
 {
-    if rooms.classes < sizes.classes {
-        return false;
-    }
-    if rooms.singles < sizes.singles {
-        return false;
-    }
-    if rooms.pairs < sizes.pairs {
-        return false;
-    }
-    if rooms.index < sizes.index {
-        return false;
-    }
-    sizes.blocks <= rooms.blocks
+    sizes.classes <= rooms.classes
+        && sizes.singles <= rooms.singles
+        && sizes.pairs <= rooms.pairs
+        && sizes.index <= rooms.index
+        && sizes.blocks <= rooms.blocks
 }
 
 // The length of an image whose tables have these sizes.
+#[tactic(auto, unfolding(crate::specs::Image::end_of, crate::specs::Image::blocks_at, crate::specs::Image::index_at, crate::specs::Image::pairs_at, crate::specs::Image::singles_at))]
 fn end_of(sizes: Sizes) -> usize
     requires { (sizes.classes < 2 ^ 32) × (sizes.singles < 2 ^ 32) × (sizes.pairs < 2 ^ 32) × (sizes.index < 2 ^ 32) × (sizes.blocks < 2 ^ 32) }
     ensures { result ≡ end_of sizes }
@@ -115,32 +94,24 @@ fn end_of(sizes: Sizes) -> usize
 }
 
 // Whether bytes are an image whose tables fit.
+#[tactic(auto, unfolding(crate::specs::Image::is_image))]
 fn is_image(bytes: &[u8], rooms: Sizes) -> bool
     ensures { result ≡ is_image bytes.now rooms }
 {
-    if bytes.len() < 28 {
-        return false;
-    }
-    if !zeros_kept(bytes) {
+    if bytes.len() < 28 || !zeros_kept(bytes) {
         return false;
     }
     let sizes = sizes_of(bytes);
-    if !fits(sizes, rooms) {
-        return false;
-    }
-    bytes.len() == end_of(sizes)
+    fits(sizes, rooms) && bytes.len() == end_of(sizes)
 }
 
 // Elements of one byte each, from a place on, laid over the front of a table.
+#[tactic(auto, unfolding(crate::specs::Image::part, codepage::specs::Lent::over))]
 fn load_bytes(bytes: &[u8], at: usize, count: usize, table: &mut [u8])
     requires { (at + count ≤ length bytes.now) × (count ≤ length table.old) }
     ensures { table.new ≡ over table.old (part bytes.now at count) }
 {
-    let mut i = 0;
-    while i < count {
-        table[i] = bytes[at + i];
-        i += 1;
-    }
+    table[..count].copy_from_slice(&bytes[at..at + count]);
 }
 
 // Elements of two bytes each, from a place on, laid over the front of a table.
@@ -148,10 +119,8 @@ fn load_units(bytes: &[u8], at: usize, count: usize, table: &mut [u16])
     requires { (at + 2 * count ≤ length bytes.now) × (count ≤ length table.old) }
     ensures { table.new ≡ over table.old (units (part bytes.now at (2 * count))) }
 {
-    let mut i = 0;
-    while i < count {
+    for i in 0..count {
         table[i] = two_at(bytes, at + 2 * i);
-        i += 1;
     }
 }
 
@@ -163,7 +132,7 @@ pub fn load(
     pairs: &mut [u16],
     index: &mut [u8],
     blocks: &mut [u16],
-) -> Loaded
+) -> Option<(Numbers, Sizes)>
     ensures { LoadedAs (load_of bytes.now (rooms_of classes.old singles.old pairs.old index.old blocks.old)) result classes.old classes.new singles.old singles.new pairs.old pairs.new index.old index.new blocks.old blocks.new }
 {
     let rooms = Sizes {
@@ -174,7 +143,7 @@ pub fn load(
         blocks: blocks.len(),
     };
     if !is_image(bytes, rooms) {
-        return Loaded::NotAnImage;
+        return None;
     }
     let sizes = sizes_of(bytes);
     let singles_at = 28 + sizes.classes;
@@ -186,5 +155,5 @@ pub fn load(
     load_units(bytes, pairs_at, sizes.pairs, pairs);
     load_bytes(bytes, index_at, sizes.index, index);
     load_units(bytes, blocks_at, sizes.blocks, blocks);
-    Loaded::Table(numbers_of(bytes), sizes)
+    Some((numbers_of(bytes), sizes))
 }

@@ -6,8 +6,11 @@ use Rattle.listing.specs.declared.Record.{Record}
 use Rattle.listing.specs.declared.Record.TheVariants.{Page, Defaults, Single, Lead, Trail, Pair, Code, NoRecord}
 use Rattle.listing.specs.Form.{unless_none}
 use Rattle.lister.specs.declared.Cursor.{Cursor}
-use Rattle.lister.specs.declared.Listed.{Listed}
-use Rattle.lister.specs.declared.Listed.TheVariants.{Line, Done, Refused}
+use Rattle.lister.specs.declared.Line.{Line}
+use Rattle.std.specs.declared.option.Option.{Option}
+use Rattle.std.specs.declared.option.Option.TheVariants.{None, Some}
+use Rattle.std.specs.declared.result.Result.{Result}
+use Rattle.std.specs.declared.result.Result.TheVariants.{Ok, Err}
 use Rattle.lister.specs.declared.Refusal.{Refusal}
 use Rattle.lister.specs.declared.Refusal.TheVariants.{BadShape, NoRoom}
 use Rattle.lister.specs.Lines.{record_line}
@@ -86,27 +89,27 @@ first_line = record { place = 0 }
 
 -- the answer of a call, and its line
 pub record NextLine : Type 0 where
-  pub answer : Listed
+  pub answer : Result (Option Line) Refusal
   pub line : List ℕ
 
 -- an answer without a line
-abbrev pub no_line : Listed → NextLine
+abbrev pub no_line : Result (Option Line) Refusal → NextLine
 no_line answer = record { answer = answer; line = [] }
 
 -- the line of a record, if it fits the room; the cursor goes behind its place
 unfoldable pub list_record : Record → (place room : ℕ) → NextLine
 list_record r place room =
-    pick (ltb room (length (record_line r))) (no_line (Refused NoRoom))
-    (record { answer = Line (length (record_line r)) (record { place = place + 1 }); line = record_line r })
+    pick (ltb room (length (record_line r))) (no_line (Err NoRoom))
+    (record { answer = Ok (Some (record { length = length (record_line r); next = record { place = place + 1 } })); line = record_line r })
 
 -- 10 the shape is bad; then done, where no record is left; then 19 the line does not fit the room
 unfoldable pub list_of : CodePage → Cursor → (room : ℕ) → NextLine
 list_of p cursor room =
-    pick (not (is_good (first_fault p))) (no_line (Refused BadShape))
-    (pick (leb places (next_place p cursor.place)) (no_line Done)
+    pick (not (is_good (first_fault p))) (no_line (Err BadShape))
+    (pick (leb places (next_place p cursor.place)) (no_line (Ok None))
     (list_record (record_at p (next_place p cursor.place)) (next_place p cursor.place) room))
 
 -- The promise: l is what the rules give, r what the call returns, and the lent output before and after.
-pub record ListedAs (l : NextLine) (r : Listed) (before after : List ℕ) : Type 0 where
+pub record ListedAs (l : NextLine) (r : Result (Option Line) Refusal) (before after : List ℕ) : Type 0 where
   pub answer : r ≡ l.answer
   pub lent : after ≡ over before l.line

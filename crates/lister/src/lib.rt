@@ -2,8 +2,8 @@
 // front of the output and gives back the cursor for the one after it; 12 bytes are room for every line.
 //
 //     let mut cursor = Cursor::new();
-//     let listed = lister::write_line(numbers, classes, singles, pairs, index, blocks, cursor, out);
-//     // Listed::Line(length, next): out[..length] is the line, cursor = next; Listed::Done; or Listed::Refused(why): why.number()
+//     let listed = lister::write_line(&tables, cursor, out);
+//     // Ok(Some(line)): out[..line.length] is the line, cursor = line.next; Ok(None): no record is left; or Err(why): why.number()
 
 #![tactic(auto)]
 
@@ -11,10 +11,10 @@ mod lines;
 mod records;
 
 ghost use Rattle.std.specs.Prelude.{◌≡◌, length};
-ghost use Rattle.codepage.specs.CodePage.{code_page};
+ghost use Rattle.codepage.specs.CodePage.{page_of};
 ghost use Rattle.lister.specs.Lister.{lister_number, first_line, list_of, ListedAs};
 
-use codepage::Numbers;
+use codepage::TableSet;
 
 // Where to go on: a place among those that records can have.
 #[derive(Clone, Copy)]
@@ -31,14 +31,11 @@ pub enum Refusal {
     NoRoom,
 }
 
-// What writing a line answers.
+// A line that was written: its length, and where to go on.
 #[derive(Clone, Copy)]
-pub enum Listed {
-    // The length of the line, and where to go on.
-    Line(usize, Cursor),
-    // No record is left.
-    Done,
-    Refused(Refusal),
+pub struct Line {
+    pub length: usize,
+    pub next: Cursor,
 }
 
 impl Refusal {
@@ -62,40 +59,30 @@ impl Cursor {
     }
 }
 
-// Writes the next line at the front of the output. Nothing is written where it does not fit.
+// Writes the next line at the front of the output, or answers `Ok(None)` where no record is left. Nothing is written where it does not fit.
 pub fn write_line(
-    numbers: Numbers,
-    classes: &[u8],
-    singles: &[u16],
-    pairs: &[u16],
-    index: &[u8],
-    blocks: &[u16],
+    tables: &TableSet,
     cursor: Cursor,
     out: &mut [u8],
-) -> Listed
-    ensures { ListedAs (list_of (code_page numbers classes.now singles.now pairs.now index.now blocks.now) cursor (length out.old)) result out.old out.new }
+) -> Result<Option<Line>, Refusal>
+    ensures { ListedAs (list_of (page_of tables.now) cursor (length out.old)) result out.old out.new }
 {
-    if !codepage::shape::good_shape(numbers, classes, singles, pairs, index, blocks) {
-        return Listed::Refused(Refusal::BadShape);
+    if !codepage::shape::good_shape(tables) {
+        return Err(Refusal::BadShape);
     }
-    let place = records::next_place(
-        numbers,
-        classes,
-        singles,
-        pairs,
-        index,
-        blocks,
-        cursor.place,
-    );
+    let place = records::next_place(tables, cursor.place);
     if records::PLACES <= place {
-        return Listed::Done;
+        return Ok(None);
     }
-    let item = records::record_at(numbers, classes, singles, pairs, index, blocks, place);
+    let item = records::record_at(tables, place);
     let size = lines::line_len(item);
     if out.len() < size {
-        return Listed::Refused(Refusal::NoRoom);
+        return Err(Refusal::NoRoom);
     }
     let next = place + 1;
     lines::put_line(item, out);
-    Listed::Line(size, Cursor { place: next })
+    Ok(Some(Line {
+        length: size,
+        next: Cursor { place: next },
+    }))
 }

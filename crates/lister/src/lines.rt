@@ -6,14 +6,16 @@ ghost use Rattle.lister.specs.Lines.{hex_byte, byte_text, unit_text, decimal_tex
 use listing::Record;
 
 // A capital hex digit.
+#[tactic(auto, unfolding(crate::specs::Lines::hex_byte))]
 fn hex_byte(value: u8) -> u8
     requires { value < 16 }
     ensures { result ≡ hex_byte value }
 {
     if value < 10 {
-        return b'0' + value;
+        b'0' + value
+    } else {
+        b'A' + (value - 10)
     }
-    b'A' + (value - 10)
 }
 
 // A letter and a byte.
@@ -85,22 +87,17 @@ fn put_units(letter: u8, left: u16, right: u16, out: &mut [u8])
 }
 
 // How many digits a page has.
+#[tactic(auto, unfolding(crate::specs::Lines::page_text))]
 fn page_len(page: u16) -> usize
     ensures { (result ≡ length (page_text page)) × (result ≤ 5) }
 {
-    if page < 10 {
-        return 1;
+    match page {
+        0..=9 => 1,
+        10..=99 => 2,
+        100..=999 => 3,
+        1000..=9999 => 4,
+        _ => 5,
     }
-    if page < 100 {
-        return 2;
-    }
-    if page < 1000 {
-        return 3;
-    }
-    if page < 10000 {
-        return 4;
-    }
-    5
 }
 
 // `P` and the page.
@@ -156,34 +153,31 @@ pub fn line_len(item: Record) -> usize
         Record::Page(page) => page_len(page) + 3,
         Record::Defaults(_, _) => 10,
         Record::Single(_, unit) => single_len(unit),
-        Record::Lead(_) => 5,
-        Record::Trail(_) => 5,
-        Record::Pair(_, _) => 12,
-        Record::Code(_, _) => 12,
+        Record::Lead(_) | Record::Trail(_) => 5,
+        Record::Pair(_, _) | Record::Code(_, _) => 12,
         Record::NoRecord => 0,
     }
 }
 
 // The length of the line of a single.
+#[tactic(auto, unfolding(crate::specs::Lines::single_text))]
 fn single_len(unit: u16) -> usize
     ensures { result ≡ 6 + length (single_text unit) }
 {
-    if unit == 0xFFFF {
-        return 7;
-    }
-    10
+    if unit == 0xFFFF { 7 } else { 10 }
 }
 
 // `S`
+#[tactic(auto, unfolding(crate::specs::Lines::single_text))]
 fn put_single(byte: u8, unit: u16, out: &mut [u8])
     requires { length (line₂ 0x53 (byte_text byte) (single_text unit)) ≤ length out.old }
     ensures { out.new ≡ over out.old (line₂ 0x53 (byte_text byte) (single_text unit)) }
 {
     if unit == 0xFFFF {
         put_bare(byte, out);
-        return;
+    } else {
+        put_byte_unit(b'S', byte, unit, out);
     }
-    put_byte_unit(b'S', byte, unit, out);
 }
 
 // The line of a record.
@@ -192,34 +186,13 @@ pub fn put_line(item: Record, out: &mut [u8])
     ensures { out.new ≡ over out.old (record_line item) }
 {
     match item {
-        Record::Page(page) => {
-            put_page(page, out);
-            return;
-        }
-        Record::Defaults(byte, unit) => {
-            put_byte_unit(b'D', byte, unit, out);
-            return;
-        }
-        Record::Single(byte, unit) => {
-            put_single(byte, unit, out);
-            return;
-        }
-        Record::Lead(byte) => {
-            put_byte(b'L', byte, out);
-            return;
-        }
-        Record::Trail(byte) => {
-            put_byte(b'T', byte, out);
-            return;
-        }
-        Record::Pair(code, unit) => {
-            put_units(b'M', code, unit, out);
-            return;
-        }
-        Record::Code(unit, code) => {
-            put_units(b'W', unit, code, out);
-            return;
-        }
-        Record::NoRecord => return,
+        Record::Page(page) => put_page(page, out),
+        Record::Defaults(byte, unit) => put_byte_unit(b'D', byte, unit, out),
+        Record::Single(byte, unit) => put_single(byte, unit, out),
+        Record::Lead(byte) => put_byte(b'L', byte, out),
+        Record::Trail(byte) => put_byte(b'T', byte, out),
+        Record::Pair(code, unit) => put_units(b'M', code, unit, out),
+        Record::Code(unit, code) => put_units(b'W', unit, code, out),
+        Record::NoRecord => {}
     }
 }

@@ -9,14 +9,14 @@ use lib.ListN.{length, set}
 use borrow.Author.Tests.{leb-true, le-leb, le-ltb, eqb-true}
 use Rattle.codepage.specs.CodePage.{pick}
 use Rattle.listing.specs.declared.Progress.{Progress}
-use Rattle.listing.specs.declared.Sizes.{Sizes}
+use Rattle.codepage.specs.declared.Sizes.{Sizes}
 use Rattle.listing.specs.declared.Record.{Record}
 use Rattle.listing.specs.declared.Record.TheVariants.{Page, Single, Lead, Trail, Pair, Code}
 use Rattle.listing.specs.declared.Letter.TheVariants.{L, M}
 use Rattle.listing.specs.Sets.{in_bytes, count_half}
 use Rattle.listing.specs.Order.{rank, follows, is_listed_lead, with_lead, accepts, after_record, code_block, blocks_listed, sizes_listed, class_of}
 use Rattle.listing.specs.declared.Refusal.TheVariants.{BadLine, TooSmall}
-use Rattle.listing.specs.declared.Read.TheVariants.{Accepted, Refused}
+use Rattle.std.specs.declared.result.Result.TheVariants.{Ok, Err}
 use Rattle.listing.specs.Form.{record_of}
 use Rattle.listing.specs.Steps.{Fits, RecordReady}
 use Rattle.listing.specs.Tables.{Tables, tables, filled, lead_block, change_of, tables_fit, reading_as, read_record, line_reading}
@@ -135,7 +135,7 @@ module _ (s : Progress) (r : Record) (line : List ℕ) (t : Tables) (a : Bool) (
   as_record = ap (λ (q : Record). read_record s q t) (sym record_is)
 
   -- 22
-  pub refused_line : a ≡ false → reading_as (Refused BadLine) t ≡ line_reading s line t
+  pub refused_line : a ≡ false → reading_as (Err BadLine) t ≡ line_reading s line t
   unfolding read_record
   refused_line e = sym (as_record ∙ rw (sym accepted_is ∙ e, read_record))
 
@@ -144,15 +144,15 @@ module _ (s : Progress) (r : Record) (line : List ℕ) (t : Tables) (a : Bool) (
     room_all = sym (room_is ∙ ap (λ (z : Sizes). tables_fit z t) (size_is ∙ ap sizes_listed next_is))
 
     -- 23
-    pub refused_room : room ≡ false → reading_as (Refused TooSmall) t ≡ line_reading s line t
+    pub refused_room : room ≡ false → reading_as (Err TooSmall) t ≡ line_reading s line t
     unfolding read_record
     refused_room e = sym (as_record ∙ rw (sym accepted_is ∙ agreed, room_all ∙ e, read_record))
 
     -- an accepted line
-    pub accepted_line : (after_call : Tables) → room ≡ true → after_call ≡ change_of s r t → reading_as (Accepted n) after_call ≡ line_reading s line t
+    pub accepted_line : (after_call : Tables) → room ≡ true → after_call ≡ change_of s r t → reading_as (Ok n) after_call ≡ line_reading s line t
     unfolding read_record
     accepted_line after_call e f =
-        ap₂ (λ (m : Progress) (u : Tables). reading_as (Accepted m) u) next_is f
+        ap₂ (λ (m : Progress) (u : Tables). reading_as (Ok m) u) next_is f
         ∙ sym (as_record ∙ rw (sym accepted_is ∙ agreed, room_all ∙ e, read_record))
 
 -- what the change of the tables may rely on

@@ -1,7 +1,10 @@
 -- Document 02, CR 3: the whole example.
 use Rattle.std.specs.Prelude.{List, [], ◌∷◌, ℕ, replicate, set}
-use Rattle.listing.specs.declared.Ended.{Ended}
-use Rattle.listing.specs.declared.Ended.TheVariants.{Whole}
+use Rattle.codepage.specs.declared.Numbers.{Numbers}
+use Rattle.codepage.specs.declared.Sizes.{Sizes}
+use Rattle.listing.specs.declared.Refusal.{Refusal}
+use Rattle.std.specs.declared.result.Result.{Result}
+use Rattle.std.specs.declared.result.Result.TheVariants.{Ok}
 use Rattle.listing.specs.Tables.{Tables, tables}
 
 -- `P>9`, `D>3F>30FB`, `S>00>0000`, `L>81`, `T>40`, `M>8140>3000`, `W>0000>0000`, `W>3000>8140`
@@ -32,5 +35,5 @@ example_tables =
     (set (set (replicate 768 0xFFFF) 256 0) 512 0x8140)
 
 -- what its end answers: page, defaults and the sizes needed
-unfoldable pub example_end : Ended
-example_end = Whole (record { page = 9; default_byte = 0x3F; default_unit = 0x30FB }) (record { classes = 256; singles = 256; pairs = 256; index = 256; blocks = 768 })
+unfoldable pub example_end : Result (Numbers × Sizes) Refusal
+example_end = Ok ((record { page = 9; default_byte = 0x3F; default_unit = 0x30FB }), (record { classes = 256; singles = 256; pairs = 256; index = 256; blocks = 768 }))

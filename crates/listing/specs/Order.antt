@@ -6,7 +6,7 @@ use Rattle.listing.specs.declared.Record.TheVariants.{Page, Defaults, Single, Le
 use Rattle.listing.specs.declared.Letter.{Letter}
 use Rattle.listing.specs.declared.Letter.TheVariants.{Start, P, D, S, L, T, M, W}
 use Rattle.listing.specs.declared.Progress.{Progress}
-use Rattle.listing.specs.declared.Sizes.{Sizes}
+use Rattle.codepage.specs.declared.Sizes.{Sizes}
 use Rattle.listing.specs.declared.Half.{Half}
 use Rattle.listing.specs.Sets.{in_half, add_to_half, count_half, empty_half, in_bytes, add_to_bytes, empty_bytes}
 

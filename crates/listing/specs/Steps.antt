@@ -2,7 +2,7 @@
 use Rattle.std.specs.Prelude.{true, List, ◌≡◌, ℕ, ◌≤◌, length}
 use Rattle.listing.specs.declared.Record.{Record}
 use Rattle.listing.specs.declared.Progress.{Progress}
-use Rattle.listing.specs.declared.Sizes.{Sizes}
+use Rattle.codepage.specs.declared.Sizes.{Sizes}
 use Rattle.listing.specs.Order.{accepts, after_record, sizes_listed}
 
 -- each table has at least the size needed

@@ -3,14 +3,13 @@ use Rattle.std.specs.Prelude.{Bool, not, ◌&&◌, List, ℕ, zero, suc, ◌+◌
 use Rattle.codepage.specs.CodePage.{pick}
 use Rattle.listing.specs.declared.Record.{Record}
 use Rattle.listing.specs.declared.Record.TheVariants.{Page, Defaults, Single, Lead, Trail, Pair, Code, NoRecord}
+use Rattle.codepage.specs.declared.Numbers.{Numbers}
 use Rattle.listing.specs.declared.Progress.{Progress}
-use Rattle.listing.specs.declared.Sizes.{Sizes}
+use Rattle.codepage.specs.declared.Sizes.{Sizes}
 use Rattle.listing.specs.declared.Refusal.{Refusal}
 use Rattle.listing.specs.declared.Refusal.TheVariants.{BadLine, TooSmall}
-use Rattle.listing.specs.declared.Read.{Read}
-use Rattle.listing.specs.declared.Read.TheVariants.{Accepted, Refused}
-use Rattle.listing.specs.declared.Ended.{Ended}
-use Rattle.listing.specs.declared.Ended.TheVariants as ended
+use Rattle.std.specs.declared.result.Result.{Result}
+use Rattle.std.specs.declared.result.Result.TheVariants.{Ok, Err}
 use Rattle.listing.specs.Sets.{below_in_half}
 use Rattle.listing.specs.Form.{record_of}
 use Rattle.listing.specs.Order.{rank, accepts, after_record, is_new_high, code_block, sizes_listed, class_of}
@@ -94,25 +93,25 @@ listing_number TooSmall = 23
 
 -- What a call answers, and the tables after it.
 pub record Reading : Type 0 where
-  pub answer : Read
+  pub answer : Result Progress Refusal
   pub lent : Tables
 
 -- an answer with the tables after it
-abbrev pub reading_as : Read → Tables → Reading
+abbrev pub reading_as : Result Progress Refusal → Tables → Reading
 reading_as answer lent = record { answer = answer; lent = lent }
 
 -- 22 a line breaks the form or order, then 23 a lent table is too small for the line or the place reached; the tables stay as
 -- before it.
 unfoldable pub read_record : Progress → Record → Tables → Reading
 read_record s r t =
-    pick (not (accepts s r)) (reading_as (Refused BadLine) t)
-    (pick (not (tables_fit (sizes_listed (after_record s r)) t)) (reading_as (Refused TooSmall) t)
-    (reading_as (Accepted (after_record s r)) (change_of s r t)))
+    pick (not (accepts s r)) (reading_as (Err BadLine) t)
+    (pick (not (tables_fit (sizes_listed (after_record s r)) t)) (reading_as (Err TooSmall) t)
+    (reading_as (Ok (after_record s r)) (change_of s r t)))
 
 -- READING A LINE: that of its record.
 unfoldable pub line_reading : Progress → (line : List ℕ) → Tables → Reading
 line_reading s line t = read_record s (record_of line) t
 
 -- The end: 22 unless `P` and `D` were read; else the page, the defaults and the sizes needed.
-unfoldable pub listing_end : Progress → Ended
-listing_end s = pick (leb 2 (rank s.letter)) (ended.Whole s.numbers (sizes_listed s)) (ended.Refused BadLine)
+unfoldable pub listing_end : Progress → Result (Numbers × Sizes) Refusal
+listing_end s = pick (leb 2 (rank s.letter)) (Ok (s.numbers, sizes_listed s)) (Err BadLine)

@@ -5,30 +5,22 @@ ghost use Rattle.listing.specs.Order.{is_listed_lead, is_new_high, code_block, s
 ghost use Rattle.listing.specs.Tables.{tables, filled, lead_block, opened_block, change_of};
 ghost use Rattle.listing.specs.Steps.{RecordReady};
 
-use crate::{Progress, Record, order, sets};
+use crate::{Progress, Record, order};
 
-// So many elements from a place on, all set to a value.
-fn fill_bytes(table: &mut [u8], at: usize, count: usize, value: u8)
-    requires { at + count ≤ length table.old }
-    ensures { table.new ≡ filled table.old at count value }
+// A table of bytes is emptied.
+fn clear(table: &mut [u8])
+    requires { 256 ≤ length table.old }
+    ensures { table.new ≡ filled table.old 0 256 0 }
 {
-    let mut i = 0;
-    while i < count {
-        table[at + i] = value;
-        i += 1;
-    }
+    table[..256].fill(0);
 }
 
-// The same in a table of units.
-fn fill_units(table: &mut [u16], at: usize, count: usize, value: u16)
-    requires { at + count ≤ length table.old }
-    ensures { table.new ≡ filled table.old at count value }
+// A block of 256 units is emptied.
+fn empty_block(table: &mut [u16], block: usize)
+    requires { 256 * block + 256 ≤ length table.old }
+    ensures { table.new ≡ filled table.old (256 * block) 256 0xFFFF }
 {
-    let mut i = 0;
-    while i < count {
-        table[at + i] = value;
-        i += 1;
-    }
+    table[256 * block..256 * block + 256].fill(0xFFFF);
 }
 
 // A byte's class, as listed.
@@ -44,8 +36,7 @@ fn lead_block(progress: Progress, lead: u8) -> usize
     requires { is_listed_lead progress.leads lead ≡ true }
     ensures { (result ≡ lead_block progress lead) × (256 * result + 256 ≤ (sizes_listed progress).pairs) }
 {
-    let leads = progress.leads;
-    sets::below_in_half(leads, lead - 0x80)
+    progress.leads.count_below(lead - 0x80)
 }
 
 // `L`: the lead's pairs are emptied.
@@ -54,8 +45,7 @@ fn put_lead(next: Progress, byte: u8, classes: &mut [u8], pairs: &mut [u16])
     ensures { (classes.new ≡ set classes.old byte (class_of next byte)) × (pairs.new ≡ filled pairs.old (256 * lead_block next byte) 256 0xFFFF) }
 {
     put_class(next, byte, classes);
-    let block = lead_block(next, byte);
-    fill_units(pairs, 256 * block, 256, 0xFFFF);
+    empty_block(pairs, lead_block(next, byte));
 }
 
 // `M`
@@ -68,14 +58,14 @@ fn put_pair(progress: Progress, code: u16, unit: u16, pairs: &mut [u16])
 }
 
 // A new block starts empty.
+#[tactic(auto, unfolding(crate::specs::Tables::opened_block))]
 fn open_block(block: u8, blocks: &mut [u16])
     requires { 256 * block + 256 ≤ length blocks.old }
     ensures { blocks.new ≡ opened_block blocks.old block }
 {
-    if block == 0 {
-        return;
+    if block != 0 {
+        empty_block(blocks, usize::from(block));
     }
-    fill_units(blocks, 256 * (block as usize), 256, 0xFFFF);
 }
 
 // `W`
@@ -85,14 +75,11 @@ fn put_code(progress: Progress, unit: u16, code: u16, index: &mut [u8], blocks: 
     ensures blocks_after { blocks.new ≡ set (pick (is_new_high progress unit) (opened_block blocks.old (code_block progress unit)) blocks.old) (256 * code_block progress unit + unit % 256) code }
 {
     let block = order::code_block(progress, unit);
-    let place = 256 * (block as usize) + ((unit % 256) as usize);
     if order::is_new_high(progress, unit) {
         index[(unit / 256) as usize] = block;
         open_block(block, blocks);
-        blocks[place] = code;
-        return;
     }
-    blocks[place] = code;
+    blocks[256 * usize::from(block) + (unit % 256) as usize] = code;
 }
 
 // `P`: classes, singles, index and the empty block are emptied.
@@ -100,10 +87,10 @@ fn empty_tables(classes: &mut [u8], singles: &mut [u16], index: &mut [u8], block
     requires { (256 ≤ length classes.old) × (256 ≤ length singles.old) × (256 ≤ length index.old) × (256 ≤ length blocks.old) }
     ensures { (classes.new ≡ filled classes.old 0 256 0) × (singles.new ≡ filled singles.old 0 256 0xFFFF) × (index.new ≡ filled index.old 0 256 0) × (blocks.new ≡ filled blocks.old 0 256 0xFFFF) }
 {
-    fill_bytes(classes, 0, 256, 0);
-    fill_units(singles, 0, 256, 0xFFFF);
-    fill_bytes(index, 0, 256, 0);
-    fill_units(blocks, 0, 256, 0xFFFF);
+    clear(classes);
+    empty_block(singles, 0);
+    clear(index);
+    empty_block(blocks, 0);
 }
 
 // What an accepted record changes.
@@ -121,32 +108,15 @@ pub fn change(
     ensures { tables classes.new singles.new pairs.new index.new blocks.new ≡ change_of progress item (tables classes.old singles.old pairs.old index.old blocks.old) }
 {
     match item {
-        Record::Page(_) => {
-            empty_tables(classes, singles, index, blocks);
-            return;
-        }
-        Record::Defaults(_, _) => return,
+        Record::Page(_) => empty_tables(classes, singles, index, blocks),
         Record::Single(byte, unit) => {
             put_class(next, byte, classes);
             singles[byte as usize] = unit;
-            return;
         }
-        Record::Lead(byte) => {
-            put_lead(next, byte, classes, pairs);
-            return;
-        }
-        Record::Trail(byte) => {
-            put_class(next, byte, classes);
-            return;
-        }
-        Record::Pair(code, unit) => {
-            put_pair(progress, code, unit, pairs);
-            return;
-        }
-        Record::Code(unit, code) => {
-            put_code(progress, unit, code, index, blocks);
-            return;
-        }
-        Record::NoRecord => return,
+        Record::Lead(byte) => put_lead(next, byte, classes, pairs),
+        Record::Trail(byte) => put_class(next, byte, classes),
+        Record::Pair(code, unit) => put_pair(progress, code, unit, pairs),
+        Record::Code(unit, code) => put_code(progress, unit, code, index, blocks),
+        Record::Defaults(_, _) | Record::NoRecord => {}
     }
 }

@@ -30,64 +30,44 @@ const PAGE_4: [u8; 7] = *b"P\t1000\n";
 const PAGE_5: [u8; 8] = *b"P\t10000\n";
 
 // `0` to `9`.
+#[tactic(auto, unfolding(crate::specs::Form::is_digit))]
 fn is_digit(byte: u8) -> bool
     ensures { result ≡ is_digit byte }
 {
-    if byte < b'0' {
-        return false;
-    }
-    byte <= b'9'
+    byte.is_ascii_digit()
 }
 
 // `A` to `F`.
+#[tactic(auto, unfolding(crate::specs::Form::is_capital))]
 fn is_capital(byte: u8) -> bool
     ensures { result ≡ is_capital byte }
 {
-    if byte < b'A' {
-        return false;
-    }
-    byte <= b'F'
+    matches!(byte, b'A'..=b'F')
 }
 
 // The value of a digit, or 0.
+#[tactic(auto, unfolding(crate::specs::Form::digit, crate::specs::Form::is_digit, crate::specs::Form::is_capital))]
 fn digit_of(byte: u8) -> u8
     ensures { (result ≡ digit byte) × (result < 16) }
 {
-    if byte < b'0' {
-        return 0;
+    match byte {
+        b'0'..=b'9' => byte - b'0',
+        b'A'..=b'F' => byte - b'A' + 10,
+        _ => 0,
     }
-    if byte <= b'9' {
-        return byte - b'0';
-    }
-    if byte < b'A' {
-        return 0;
-    }
-    if byte <= b'F' {
-        return byte - b'A' + 10;
-    }
-    0
 }
 
 // Whether a byte is what a symbol of a form stands for.
+#[tactic(auto, unfolding(crate::specs::Form::fits_symbol))]
 fn fits_symbol(symbol: u8, byte: u8) -> bool
     ensures { result ≡ fits_symbol symbol byte }
 {
-    if symbol == b'#' {
-        if is_digit(byte) {
-            return true;
-        }
-        return is_capital(byte);
+    match symbol {
+        b'#' => is_digit(byte) || is_capital(byte),
+        b'0' => is_digit(byte),
+        b'1' => is_digit(byte) && byte != b'0',
+        _ => byte == symbol,
     }
-    if symbol == b'0' {
-        return is_digit(byte);
-    }
-    if symbol == b'1' {
-        if is_digit(byte) {
-            return byte != b'0';
-        }
-        return false;
-    }
-    byte == symbol
 }
 
 // Whether a line has a form.
@@ -97,17 +77,16 @@ fn has_form(form: &[u8], line: &[u8]) -> bool
     if form.len() != line.len() {
         return false;
     }
-    let mut i = 0;
-    while i < form.len() {
-        if !fits_symbol(form[i], line[i]) {
+    for (i, symbol) in form.iter().enumerate() {
+        if !fits_symbol(*symbol, line[i]) {
             return false;
         }
-        i += 1;
     }
     true
 }
 
 // A byte of two digits.
+#[tactic(auto, unfolding(crate::specs::Form::hex_byte_at))]
 fn byte_at(line: &[u8], at: usize) -> u8
     requires { at + 2 ≤ length line.now }
     ensures { result ≡ hex_byte_at line.now at }
@@ -116,11 +95,12 @@ fn byte_at(line: &[u8], at: usize) -> u8
 }
 
 // A unit or a code of four digits.
+#[tactic(auto, unfolding(crate::specs::Form::hex_unit_at))]
 fn unit_at(line: &[u8], at: usize) -> u16
     requires { at + 4 ≤ length line.now }
     ensures { result ≡ hex_unit_at line.now at }
 {
-    256 * (byte_at(line, at) as u16) + (byte_at(line, at + 2) as u16)
+    256 * u16::from(byte_at(line, at)) + u16::from(byte_at(line, at + 2))
 }
 
 // A record, unless its right side is FFFF.
@@ -139,10 +119,8 @@ fn page_at(line: &[u8], count: usize) -> Record
     ensures { result ≡ small_page (decimal_at count line.now 2) }
 {
     let mut page: u32 = 0;
-    let mut i = 0;
-    while i < count {
+    for i in 0..count {
         page = 10 * page + (digit_of(line[2 + i]) as u32);
-        i += 1;
     }
     if page <= 65535 {
         return Record::Page(page as u16);

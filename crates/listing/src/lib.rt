@@ -5,9 +5,9 @@
 //     let mut progress = Progress::new();
 //     // for each line, with its line feed:
 //     let read = listing::read_line(progress, line, classes, singles, pairs, index, blocks);
-//     // Read::Accepted(next): progress = next; or Read::Refused(why): why.number()
+//     // Ok(next): progress = next; or Err(why): why.number()
 //     let ended = listing::end(progress);
-//     // Ended::Whole(numbers, sizes), or Ended::Refused(why)
+//     // Ok((numbers, sizes)), or Err(why)
 
 #![tactic(auto)]
 
@@ -21,6 +21,7 @@ ghost use Rattle.listing.specs.Order.{nothing_read};
 ghost use Rattle.listing.specs.Tables.{listing_number, tables, tables_fit, reading_as, line_reading, listing_end};
 
 use codepage::Numbers;
+pub use codepage::Sizes;
 
 // 128 bytes as bits.
 #[derive(Clone, Copy)]
@@ -85,16 +86,6 @@ pub struct Progress {
     pub numbers: Numbers,
 }
 
-// The sizes that the tables need.
-#[derive(Clone, Copy)]
-pub struct Sizes {
-    pub classes: usize,
-    pub singles: usize,
-    pub pairs: usize,
-    pub index: usize,
-    pub blocks: usize,
-}
-
 // Why a line or the end is refused.
 #[derive(Clone, Copy)]
 pub enum Refusal {
@@ -102,22 +93,6 @@ pub enum Refusal {
     BadLine,
     // 23: a lent table is too small for the line or the place reached.
     TooSmall,
-}
-
-// What reading a line answers.
-#[derive(Clone, Copy)]
-pub enum Read {
-    // What has been read with this line.
-    Accepted(Progress),
-    Refused(Refusal),
-}
-
-// What the end of a listing answers.
-#[derive(Clone, Copy)]
-pub enum Ended {
-    // The numbers of the table set, and the sizes that its tables need.
-    Whole(Numbers, Sizes),
-    Refused(Refusal),
 }
 
 impl Refusal {
@@ -133,6 +108,7 @@ impl Refusal {
 }
 
 // Whether each table has at least the size needed.
+#[tactic(auto, unfolding(crate::specs::Tables::tables_fit))]
 fn has_room(
     needed: Sizes,
     classes: &[u8],
@@ -143,19 +119,11 @@ fn has_room(
 ) -> bool
     ensures { result ≡ tables_fit needed (tables classes.now singles.now pairs.now index.now blocks.now) }
 {
-    if classes.len() < needed.classes {
-        return false;
-    }
-    if singles.len() < needed.singles {
-        return false;
-    }
-    if pairs.len() < needed.pairs {
-        return false;
-    }
-    if index.len() < needed.index {
-        return false;
-    }
-    needed.blocks <= blocks.len()
+    needed.classes <= classes.len()
+        && needed.singles <= singles.len()
+        && needed.pairs <= pairs.len()
+        && needed.index <= index.len()
+        && needed.blocks <= blocks.len()
 }
 
 // Reads one line: one record with its line feed. Where it is refused the tables stay as before it.
@@ -167,12 +135,12 @@ pub fn read_line(
     pairs: &mut [u16],
     index: &mut [u8],
     blocks: &mut [u16],
-) -> Read
+) -> Result<Progress, Refusal>
     ensures { reading_as result (tables classes.new singles.new pairs.new index.new blocks.new) ≡ line_reading progress line.now (tables classes.old singles.old pairs.old index.old blocks.old) }
 {
     let item = form::record_of(line);
     if !order::is_accepted(progress, item) {
-        return Read::Refused(Refusal::BadLine);
+        return Err(Refusal::BadLine);
     }
     let next = order::after_record(progress, item);
     if !has_room(
@@ -183,22 +151,21 @@ pub fn read_line(
         index,
         blocks,
     ) {
-        return Read::Refused(Refusal::TooSmall);
+        return Err(Refusal::TooSmall);
     }
     change::change(progress, next, item, classes, singles, pairs, index, blocks);
-    Read::Accepted(next)
+    Ok(next)
 }
 
 // The end of a listing.
-pub fn end(progress: Progress) -> Ended
+#[tactic(auto, unfolding(crate::specs::Tables::listing_end))]
+pub fn end(progress: Progress) -> Result<(Numbers, Sizes), Refusal>
     ensures { result ≡ listing_end progress }
 {
-    let letter = progress.letter;
-    if order::rank_of(letter) < 2 {
-        return Ended::Refused(Refusal::BadLine);
+    if order::rank_of(progress.letter) < 2 {
+        return Err(Refusal::BadLine);
     }
-    let numbers = progress.numbers;
-    Ended::Whole(numbers, order::sizes_needed(progress))
+    Ok((progress.numbers, order::sizes_needed(progress)))
 }
 
 impl Progress {
@@ -206,24 +173,6 @@ impl Progress {
     pub fn new() -> Self
         ensures { result ≡ nothing_read }
     {
-        let none = Half { low: 0, high: 0 };
-        let empty = Bytes {
-            low: none,
-            high: none,
-        };
-        let numbers = Numbers {
-            page: 0,
-            default_byte: 0,
-            default_unit: 0,
-        };
-        Progress {
-            letter: Letter::Start,
-            key: 0,
-            singles: empty,
-            leads: none,
-            trails: empty,
-            block: 0,
-            numbers,
-        }
+        order::only_page(Letter::Start, 0)
     }
 }

@@ -12,12 +12,12 @@ use Rattle.codepage.specs.CodePage.{CodePage, GoodShape, pick, entry_at, is_sing
 use Rattle.codepage.specs.declared.Numbers.{Numbers}
 use Rattle.codepage_lookup.specs.Profile.{unit_entry}
 use Rattle.listing.specs.declared.Progress.{Progress}
-use Rattle.listing.specs.declared.Sizes.{Sizes}
+use Rattle.codepage.specs.declared.Sizes.{Sizes}
 use Rattle.listing.specs.declared.Letter.{Letter}
 use Rattle.listing.specs.declared.Letter.TheVariants.{Start, P, D, S, L, T, M, W}
-use Rattle.listing.specs.declared.Read.{Read}
-use Rattle.listing.specs.declared.Read.TheVariants.{Accepted, Refused}
-use Rattle.listing.specs.declared.Ended.TheVariants as ended
+use Rattle.std.specs.declared.result.Result.{Result}
+use Rattle.std.specs.declared.result.Result.TheVariants.{Ok, Err}
+use Rattle.listing.specs.declared.Refusal.{Refusal}
 use Rattle.listing.specs.declared.Record.{Record}
 use Rattle.listing.specs.declared.Record.TheVariants.{Page, Defaults, Single, Lead, Trail, Pair, Code, NoRecord}
 use Rattle.listing.specs.Sets.{count_half}
@@ -347,7 +347,7 @@ module _ (s : Progress) (t : Tables) (lines : List (List ℕ)) (a : Again s t li
   accepted_is NoRecord e = absurd (false≢true e)
 
   -- a line that is accepted
-  again_line : (line : List ℕ) (u : Progress) → (line_reading s line t).answer ≡ Accepted u → Again u (line_reading s line t).lent (lines ++ (line ∷ []))
+  again_line : (line : List ℕ) (u : Progress) → (line_reading s line t).answer ≡ Ok u → Again u (line_reading s line t).lent (lines ++ (line ∷ []))
   again_line line u e =
       subst (λ (v : Tables). Again u v (lines ++ (line ∷ []))) (sym (ap (λ (r : Reading). r.lent) (read_passes s line t passes)))
       (subst (λ (n : Progress). Again n (change_of s r t) (lines ++ (line ∷ []))) (sym is)
@@ -364,7 +364,7 @@ module _ (s : Progress) (t : Tables) (lines : List (List ℕ)) (a : Again s t li
       is = ((read_accepted_exact s line t u).0 e).1
 
 -- ---- all lines
-again_all : (more : List (List ℕ)) (s : Progress) (t : Tables) (lines : List (List ℕ)) → Again s t lines → Sound s t → (s' : Progress) (t' : Tables) → read_all s more t ≡ reading_as (Accepted s') t' → Again s' t' (lines ++ more)
+again_all : (more : List (List ℕ)) (s : Progress) (t : Tables) (lines : List (List ℕ)) → Again s t lines → Sound s t → (s' : Progress) (t' : Tables) → read_all s more t ≡ reading_as (Ok s') t' → Again s' t' (lines ++ more)
 unfolding read_all
 again_all [] s t lines a sound s' t' e =
     subst (λ (l : List (List ℕ)). Again s' t' l) (sym (append-nil lines))
@@ -373,10 +373,10 @@ again_all (line ∷ more) s t lines a sound s' t' e =
     subst (λ (l : List (List ℕ)). Again s' t' l) (append_assoc lines (line ∷ []) more)
     (by_answer (λ u k. again_all more u (line_reading s line t).lent (lines ++ (line ∷ [])) (again_line s t lines a sound line u k) (step s t sound line u k) s' t') (line_reading s line t).answer refl e)
   where
-    by_answer : ((u : Progress) → (line_reading s line t).answer ≡ Accepted u → read_all u more (line_reading s line t).lent ≡ reading_as (Accepted s') t' → Again s' t' ((lines ++ (line ∷ [])) ++ more))
-        → (x : Read) → (line_reading s line t).answer ≡ x → then_read x (line_reading s line t).lent (λ n v. read_all n more v) ≡ reading_as (Accepted s') t' → Again s' t' ((lines ++ (line ∷ [])) ++ more)
-    by_answer go (Accepted u) q k = go u q k
-    by_answer go (Refused why) q k = absurd (refused_not (reading_same k).0)
+    by_answer : ((u : Progress) → (line_reading s line t).answer ≡ Ok u → read_all u more (line_reading s line t).lent ≡ reading_as (Ok s') t' → Again s' t' ((lines ++ (line ∷ [])) ++ more))
+        → (x : Result Progress Refusal) → (line_reading s line t).answer ≡ x → then_read x (line_reading s line t).lent (λ n v. read_all n more v) ≡ reading_as (Ok s') t' → Again s' t' ((lines ++ (line ∷ [])) ++ more)
+    by_answer go (Ok u) q k = go u q k
+    by_answer go (Err why) q k = absurd (refused_not (reading_same k).0)
 
 -- ---- the table set, each table cut to the size needed, has the same records
 module _ (s : Progress) (t : Tables) (kept : Kept s t) where
@@ -467,7 +467,7 @@ all_count = (131842, refl)
 
 -- A whole listing that is accepted from its first line to its end, written again, is the same lines.
 pub listing_again : (lines : List (List ℕ)) (t : Tables) (s' : Progress) (t' : Tables) (numbers : Numbers) (sizes : Sizes)
-    → read_all nothing_read lines t ≡ reading_as (Accepted s') t' → listing_end s' ≡ ended.Whole numbers sizes → whole_listing (cut_set numbers sizes t') ≡ lines
+    → read_all nothing_read lines t ≡ reading_as (Ok s') t' → listing_end s' ≡ Ok (numbers, sizes) → whole_listing (cut_set numbers sizes t') ≡ lines
 unfolding whole_listing
 listing_again lines t s' t' numbers sizes e f =
     sym (ap (λ (n : ℕ). lines_from (cut_set numbers sizes t') n 0) all_count.1)

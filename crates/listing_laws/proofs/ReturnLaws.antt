@@ -12,9 +12,8 @@ use Rattle.codepage.specs.Reading.{byte_pair, unit_code, lookup}
 use Rattle.codepage.specs.declared.Kind.TheVariants.{UndefinedSingle, UndefinedPair}
 use Rattle.codepage_lookup.specs.Profile.{unit_entry}
 use Rattle.listing.specs.declared.Progress.{Progress}
-use Rattle.listing.specs.declared.Ended.TheVariants.{Whole}
+use Rattle.std.specs.declared.result.Result.TheVariants.{Ok}
 use Rattle.listing.specs.Order.{nothing_read, rank, sizes_listed}
-use Rattle.listing.specs.declared.Read.TheVariants.{Accepted}
 use Rattle.listing.specs.Tables.{Tables, tables, tables_fit, reading_as, listing_end}
 use Rattle.listing.specs.Whole.{read_all}
 use Rattle.lister.proofs.PlaceLaws.{pairs_inside}
@@ -52,7 +51,7 @@ module _ (p : CodePage) (good : GoodShape p) {t : Tables} (a : Arrived p (AllKep
   back_good : GoodShape back
   back_good = good_shape a.state a.lent kept
 
-  whole_end : listing_end a.state ≡ Whole a.state.numbers (sizes_listed a.state)
+  whole_end : listing_end a.state ≡ Ok (a.state.numbers, sizes_listed a.state)
   unfolding listing_end
   whole_end = rw (le-leb 2 (rank a.state.letter) a.before.late)
 
@@ -149,7 +148,7 @@ same_size n e =
 most : (n : ℕ) × (n ≡ 65536)
 most = (65536, refl)
 
-all_lines : (p : CodePage) (t : Tables) (s' : Progress) (t' : Tables) → read_all nothing_read (whole_listing p) t ≡ reading_as (Accepted s') t' → (n : ℕ) → n ≡ 131842 → read_all nothing_read (lines_from p n 0) t ≡ reading_as (Accepted s') t'
+all_lines : (p : CodePage) (t : Tables) (s' : Progress) (t' : Tables) → read_all nothing_read (whole_listing p) t ≡ reading_as (Ok s') t' → (n : ℕ) → n ≡ 131842 → read_all nothing_read (lines_from p n 0) t ≡ reading_as (Ok s') t'
 unfolding whole_listing
 all_lines p t s' t' e n same = ap (λ (c : ℕ). read_all nothing_read (lines_from p c 0) t) same ∙ e
 
@@ -169,9 +168,9 @@ module _ (p : CodePage) (good : GoodShape p) (m : InWidths p) where
   keeps_all = both_keep p (λ k u. Singles p k u × Pairs p k u) (Codes p) (both_keep p (Singles p) (Pairs p) (singles_keep p) (pairs_keep p good m)) (codes_keep p good m)
 
   pub listing_returns : (t : Tables) → tables_fit (needed_sizes (whole_listing p)) t ≡ true → Returned p t
-  listing_returns t room = arrived p good (listing_accepted p good m (AllKept p) keeps_all (λ count k n u. read_all n (lines_from p count k) u ≡ reading_as (Accepted once.state) too.0) (by_acceptance p once.state too.0) nothing_read t refl (all_lines p t once.state too.0 too.1))
+  listing_returns t room = arrived p good (listing_accepted p good m (AllKept p) keeps_all (λ count k n u. read_all n (lines_from p count k) u ≡ reading_as (Ok once.state) too.0) (by_acceptance p once.state too.0) nothing_read t refl (all_lines p t once.state too.0 too.1))
     where
-      too : (u : Tables) × (read_all nothing_read (whole_listing p) t ≡ reading_as (Accepted once.state) u)
+      too : (u : Tables) × (read_all nothing_read (whole_listing p) t ≡ reading_as (Ok once.state) u)
       too =
           accepted_too (whole_listing p) nothing_read (tables (replicate most.0 0) (replicate most.0 0) (replicate most.0 0) (replicate most.0 0) (replicate most.0 0)) t (λ h. absurd (omega arith)) once.state once.lent once.accepted
           (subst (λ (n : Progress). tables_fit (sizes_listed n) t ≡ true) (sym once_needs) room)

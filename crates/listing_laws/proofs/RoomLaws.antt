@@ -10,10 +10,11 @@ use borrow.Author.Tests.{le-leb, leb-true, eqb-true, eqb-false}
 use Rattle.codepage.specs.CodePage.{pick}
 use Rattle.codepage.proofs.ShapeLaws.{and_left, and_right}
 use Rattle.listing.specs.declared.Progress.{Progress}
-use Rattle.listing.specs.declared.Sizes.{Sizes}
+use Rattle.codepage.specs.declared.Sizes.{Sizes}
 use Rattle.listing.specs.declared.Letter.TheVariants.{S, L, T, M, W}
-use Rattle.listing.specs.declared.Read.{Read}
-use Rattle.listing.specs.declared.Read.TheVariants.{Accepted, Refused}
+use Rattle.std.specs.declared.result.Result.{Result}
+use Rattle.std.specs.declared.result.Result.TheVariants.{Ok, Err}
+use Rattle.listing.specs.declared.Refusal.{Refusal}
 use Rattle.listing.specs.declared.Record.{Record}
 use Rattle.listing.specs.declared.Record.TheVariants.{Page, Defaults, Single, Lead, Trail, Pair, Code, NoRecord}
 use Rattle.listing.specs.Sets.{count_half, in_bytes}
@@ -135,22 +136,22 @@ record Taken (s : Progress) (line : List ℕ) (t : Tables) (u : Progress) : Type
   fits : tables_fit (sizes_listed (after_record s (record_of line))) t ≡ true
   next : u ≡ after_record s (record_of line)
 
-taken : (s : Progress) (line : List ℕ) (t : Tables) (u : Progress) → (line_reading s line t).answer ≡ Accepted u → Taken s line t u
+taken : (s : Progress) (line : List ℕ) (t : Tables) (u : Progress) → (line_reading s line t).answer ≡ Ok u → Taken s line t u
 taken s line t u e = let got = (read_accepted_exact s line t u).0 e in record { accepted = got.0.0; fits = got.0.1; next = got.1 }
 
 -- ---- along a reading
 rise_on : (a b c : Progress) → Rise a b → Rise b c → Rise a c
 rise_on a b c x y = record { leads = omega (arith, x.leads, y.leads); blocks = omega (arith, x.blocks, y.blocks) }
 
-rise_all : (lines : List (List ℕ)) (s : Progress) (t : Tables) → Sound s t → 1 ≤ rank s.letter → (s' : Progress) (t' : Tables) → read_all s lines t ≡ reading_as (Accepted s') t' → Rise s s'
+rise_all : (lines : List (List ℕ)) (s : Progress) (t : Tables) → Sound s t → 1 ≤ rank s.letter → (s' : Progress) (t' : Tables) → read_all s lines t ≡ reading_as (Ok s') t' → Rise s s'
 unfolding read_all
 rise_all [] s t sound late s' t' e = subst (λ (n : Progress). Rise s n) (accepted_same (reading_same e).0) (record { leads = omega arith; blocks = omega arith })
 rise_all (line ∷ lines) s t sound late s' t' e =
     by_answer (λ u q x. rise_all lines u (line_reading s line t).lent (step s t sound line u q) x s' t') (line_reading s line t).answer refl e
   where
-    by_answer : ((u : Progress) → (line_reading s line t).answer ≡ Accepted u → 1 ≤ rank u.letter → read_all u lines (line_reading s line t).lent ≡ reading_as (Accepted s') t' → Rise u s')
-        → (x : Read) → (line_reading s line t).answer ≡ x → then_read x (line_reading s line t).lent (λ n v. read_all n lines v) ≡ reading_as (Accepted s') t' → Rise s s'
-    by_answer go (Accepted u) q k =
+    by_answer : ((u : Progress) → (line_reading s line t).answer ≡ Ok u → 1 ≤ rank u.letter → read_all u lines (line_reading s line t).lent ≡ reading_as (Ok s') t' → Rise u s')
+        → (x : Result Progress Refusal) → (line_reading s line t).answer ≡ x → then_read x (line_reading s line t).lent (λ n v. read_all n lines v) ≡ reading_as (Ok s') t' → Rise s s'
+    by_answer go (Ok u) q k =
         let got : Taken s line t u = taken s line t u q in
         let first : Rise s (after_record s (record_of line)) = rise_record s t (sound late).holds (record_of line) (bounded line) got.accepted late (hold_line line got) in
         rise_on s u s' (subst (λ (n : Progress). Rise s n) (sym got.next) first) (go u q (subst (λ (n : Progress). 1 ≤ rank n.letter) (sym got.next) (rank_after s (record_of line) got.accepted)) k)
@@ -159,7 +160,7 @@ rise_all (line ∷ lines) s t sound late s' t' e =
         hold_line l got =
             let roomy : Fits (sizes_listed (after_record s (record_of l))) t.classes t.singles t.pairs t.index t.blocks = fit_known (sizes_listed (after_record s (record_of l))) t.classes t.singles t.pairs t.index t.blocks got.fits in
             hold_record s t sound (record_of l) (bounded l) got.accepted (whole_classes (after_record s (record_of l)) t roomy) (whole_index (after_record s (record_of l)) t roomy)
-    by_answer go (Refused why) q k = absurd (refused_not (reading_same k).0)
+    by_answer go (Err why) q k = absurd (refused_not (reading_same k).0)
 
 -- ---- room
 fit_less : (n m : Progress) (t : Tables) → Rise n m → tables_fit (sizes_listed m) t ≡ true → tables_fit (sizes_listed n) t ≡ true
@@ -179,32 +180,32 @@ unfolding tables_fit
 fit_same z t u same e = rw (same.classes, same.singles, same.pairs, same.index, same.blocks) e
 
 -- A listing that is accepted into some tables is accepted into any others that have the sizes of its end.
-pub accepted_too : (lines : List (List ℕ)) (s : Progress) (t u : Tables) → Sound s t → (s' : Progress) (t' : Tables) → read_all s lines t ≡ reading_as (Accepted s') t' → tables_fit (sizes_listed s') u ≡ true → (u' : Tables) × (read_all s lines u ≡ reading_as (Accepted s') u')
+pub accepted_too : (lines : List (List ℕ)) (s : Progress) (t u : Tables) → Sound s t → (s' : Progress) (t' : Tables) → read_all s lines t ≡ reading_as (Ok s') t' → tables_fit (sizes_listed s') u ≡ true → (u' : Tables) × (read_all s lines u ≡ reading_as (Ok s') u')
 unfolding read_all
-accepted_too [] s t u sound s' t' e room = (u, ap (λ (n : Progress). reading_as (Accepted n) u) (accepted_same (reading_same e).0))
+accepted_too [] s t u sound s' t' e room = (u, ap (λ (n : Progress). reading_as (Ok n) u) (accepted_same (reading_same e).0))
 accepted_too (line ∷ lines) s t u sound s' t' e room =
     by_answer (λ n q v k. accepted_too lines n (line_reading s line t).lent v (step s t sound line n q) s' t' k) (line_reading s line t).answer refl e
   where
-    by_answer : ((n : Progress) → (line_reading s line t).answer ≡ Accepted n → (v : Tables) → read_all n lines (line_reading s line t).lent ≡ reading_as (Accepted s') t' → tables_fit (sizes_listed s') v ≡ true → (u' : Tables) × (read_all n lines v ≡ reading_as (Accepted s') u'))
-        → (x : Read) → (line_reading s line t).answer ≡ x → then_read x (line_reading s line t).lent (λ n v. read_all n lines v) ≡ reading_as (Accepted s') t'
-        → (u' : Tables) × (then_read (line_reading s line u).answer (line_reading s line u).lent (λ n v. read_all n lines v) ≡ reading_as (Accepted s') u')
-    by_answer go (Accepted n) q k =
+    by_answer : ((n : Progress) → (line_reading s line t).answer ≡ Ok n → (v : Tables) → read_all n lines (line_reading s line t).lent ≡ reading_as (Ok s') t' → tables_fit (sizes_listed s') v ≡ true → (u' : Tables) × (read_all n lines v ≡ reading_as (Ok s') u'))
+        → (x : Result Progress Refusal) → (line_reading s line t).answer ≡ x → then_read x (line_reading s line t).lent (λ n v. read_all n lines v) ≡ reading_as (Ok s') t'
+        → (u' : Tables) × (then_read (line_reading s line u).answer (line_reading s line u).lent (λ n v. read_all n lines v) ≡ reading_as (Ok s') u')
+    by_answer go (Ok n) q k =
         let got : Taken s line t n = taken s line t n q in
         let late : 1 ≤ rank n.letter = subst (λ (x : Progress). 1 ≤ rank x.letter) (sym got.next) (rank_after s (record_of line) got.accepted) in
         let rise : Rise n s' = rise_all lines n (line_reading s line t).lent (step s t sound line n q) late s' t' k in
         let roomy : tables_fit (sizes_listed (after_record s (record_of line))) u ≡ true = subst (λ (x : Progress). tables_fit (sizes_listed x) u ≡ true) got.next (fit_less n s' u rise room) in
-        let reads : line_reading s line u ≡ reading_as (Accepted (after_record s (record_of line))) (change_of s (record_of line) u) = read_passes s line u (got.accepted, roomy) in
+        let reads : line_reading s line u ≡ reading_as (Ok (after_record s (record_of line))) (change_of s (record_of line) u) = read_passes s line u (got.accepted, roomy) in
         let rest = go n q (change_of s (record_of line) u) k (fit_same (sizes_listed s') u (change_of s (record_of line) u) (same_sizes s (record_of line) u) room) in
         (rest.0, ap (λ (x : Reading). then_read x.answer x.lent (λ m v. read_all m lines v)) reads ∙ ap (λ (m : Progress). read_all m lines (change_of s (record_of line) u)) (sym got.next) ∙ rest.1)
-    by_answer go (Refused why) q k = absurd (refused_not (reading_same k).0)
+    by_answer go (Err why) q k = absurd (refused_not (reading_same k).0)
 
 -- what has been read does not depend on the tables
-pub progress_as : (lines : List (List ℕ)) (s : Progress) (t : Tables) (s' : Progress) (t' : Tables) → read_all s lines t ≡ reading_as (Accepted s') t' → s' ≡ progress_after s lines
+pub progress_as : (lines : List (List ℕ)) (s : Progress) (t : Tables) (s' : Progress) (t' : Tables) → read_all s lines t ≡ reading_as (Ok s') t' → s' ≡ progress_after s lines
 unfolding read_all progress_after
 progress_as [] s t s' t' e = sym (accepted_same (reading_same e).0)
 progress_as (line ∷ lines) s t s' t' e = by_answer (λ u. progress_as lines u (line_reading s line t).lent s' t') (line_reading s line t).answer refl e
   where
-    by_answer : ((u : Progress) → read_all u lines (line_reading s line t).lent ≡ reading_as (Accepted s') t' → s' ≡ progress_after u lines)
-        → (x : Read) → (line_reading s line t).answer ≡ x → then_read x (line_reading s line t).lent (λ n v. read_all n lines v) ≡ reading_as (Accepted s') t' → s' ≡ progress_after (after_record s (record_of line)) lines
-    by_answer go (Accepted u) q k = go u k ∙ ap (λ (n : Progress). progress_after n lines) (taken s line t u q).next
-    by_answer go (Refused why) q k = absurd (refused_not (reading_same k).0)
+    by_answer : ((u : Progress) → read_all u lines (line_reading s line t).lent ≡ reading_as (Ok s') t' → s' ≡ progress_after u lines)
+        → (x : Result Progress Refusal) → (line_reading s line t).answer ≡ x → then_read x (line_reading s line t).lent (λ n v. read_all n lines v) ≡ reading_as (Ok s') t' → s' ≡ progress_after (after_record s (record_of line)) lines
+    by_answer go (Ok u) q k = go u k ∙ ap (λ (n : Progress). progress_after n lines) (taken s line t u q).next
+    by_answer go (Err why) q k = absurd (refused_not (reading_same k).0)

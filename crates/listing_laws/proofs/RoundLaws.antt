@@ -20,9 +20,9 @@ use Rattle.listing.specs.declared.Record.TheVariants.{Page, Defaults, Single, Le
 use Rattle.listing.specs.Sets.{in_bytes, add_to_bytes, count_half}
 use Rattle.listing.specs.Order.{rank, follows, is_listed_lead, with_lead, accepts, after_record}
 use Rattle.listing.proofs.SetLaws.{half_with}
-use Rattle.listing.specs.declared.Sizes.{Sizes}
+use Rattle.codepage.specs.declared.Sizes.{Sizes}
 use Rattle.listing.specs.declared.Refusal.TheVariants.{TooSmall}
-use Rattle.listing.specs.declared.Read.TheVariants.{Accepted, Refused}
+use Rattle.std.specs.declared.result.Result.TheVariants.{Ok, Err}
 use Rattle.listing.specs.Steps.{Fits}
 use Rattle.listing.proofs.ChangeLaws.{fit_known}
 use Rattle.listing.specs.Form.{record_of, unless_none}
@@ -416,24 +416,24 @@ large_fits n u t h l =
     by_case false = omega (arith, h.block)
 
 -- a record that is read back, accepted, in tables that fit
-pub read_as : (s : Progress) (r : Record) (t : Tables) → record_of (record_line r) ≡ r → accepts s r ≡ true → tables_fit (sizes_listed (after_record s r)) t ≡ true → line_reading s (record_line r) t ≡ reading_as (Accepted (after_record s r)) (change_of s r t)
+pub read_as : (s : Progress) (r : Record) (t : Tables) → record_of (record_line r) ≡ r → accepts s r ≡ true → tables_fit (sizes_listed (after_record s r)) t ≡ true → line_reading s (record_line r) t ≡ reading_as (Ok (after_record s r)) (change_of s r t)
 unfolding line_reading read_record
 read_as s r t back accepted roomy = ap (λ (q : Record). read_record s q t) back ∙ rw (accepted, roomy, read_record)
 
-read_small : (s : Progress) (r : Record) (t : Tables) → record_of (record_line r) ≡ r → accepts s r ≡ true → tables_fit (sizes_listed (after_record s r)) t ≡ false → line_reading s (record_line r) t ≡ reading_as (Refused TooSmall) t
+read_small : (s : Progress) (r : Record) (t : Tables) → record_of (record_line r) ≡ r → accepts s r ≡ true → tables_fit (sizes_listed (after_record s r)) t ≡ false → line_reading s (record_line r) t ≡ reading_as (Err TooSmall) t
 unfolding line_reading read_record
 read_small s r t back accepted small = ap (λ (q : Record). read_record s q t) back ∙ rw (accepted, small, read_record)
 
 -- one line
 record Took (s : Progress) (r : Record) (t : Tables) : Type 0 where
-  reads : line_reading s (record_line r) t ≡ reading_as (Accepted (after_record s r)) (change_of s r t)
+  reads : line_reading s (record_line r) t ≡ reading_as (Ok (after_record s r)) (change_of s r t)
   sound : Sound (after_record s r) (change_of s r t)
   fits : FitsAll (sizes_listed (after_record s r)) t
 
 take : (s : Progress) (r : Record) (t : Tables) → Sound s t → tables_fit (sizes_listed (after_record s r)) t ≡ true → record_of (record_line r) ≡ r → accepts s r ≡ true → Took s r t
 take s r t sound roomy back accepted = record { reads = reads; sound = kept; fits = fit_known (sizes_listed (after_record s r)) t.classes t.singles t.pairs t.index t.blocks roomy }
   where
-    reads : line_reading s (record_line r) t ≡ reading_as (Accepted (after_record s r)) (change_of s r t)
+    reads : line_reading s (record_line r) t ≡ reading_as (Ok (after_record s r)) (change_of s r t)
     reads = read_as s r t back accepted roomy
 
     kept : Sound (after_record s r) (change_of s r t)
@@ -455,7 +455,7 @@ by_size p =
     }
 
 -- from an acceptance of the lines that are left
-pub by_acceptance : (p : CodePage) (s' : Progress) (t' : Tables) → Supply p (λ count k s t. read_all s (lines_from p count k) t ≡ reading_as (Accepted s') t')
+pub by_acceptance : (p : CodePage) (s' : Progress) (t' : Tables) → Supply p (λ count k s t. read_all s (lines_from p count k) t ≡ reading_as (Ok s') t')
 unfolding read_all lines_from
 by_acceptance p s' t' =
     record {
@@ -467,9 +467,9 @@ by_acceptance p s' t' =
     first count k s t r e q = ap (λ (x : Record). pick (is_record x) (record_line x ∷ lines_from p count (suc k)) (lines_from p count (suc k))) (sym e) ∙ rw q
 
     by_fit : (count k : ℕ) (s : Progress) (t : Tables) (r : Record) → r ≡ record_at p k
-        → read_all s (pick (is_record (record_at p k)) (record_line (record_at p k) ∷ lines_from p count (suc k)) (lines_from p count (suc k))) t ≡ reading_as (Accepted s') t'
+        → read_all s (pick (is_record (record_at p k)) (record_line (record_at p k) ∷ lines_from p count (suc k)) (lines_from p count (suc k))) t ≡ reading_as (Ok s') t'
         → is_record r ≡ true → record_of (record_line r) ≡ r → accepts s r ≡ true → (b : Bool) → tables_fit (sizes_listed (after_record s r)) t ≡ b
-        → (tables_fit (sizes_listed (after_record s r)) t ≡ true) × (read_all (after_record s r) (lines_from p count (suc k)) (change_of s r t) ≡ reading_as (Accepted s') t')
+        → (tables_fit (sizes_listed (after_record s r)) t ≡ true) × (read_all (after_record s r) (lines_from p count (suc k)) (change_of s r t) ≡ reading_as (Ok s') t')
     by_fit count k s t r e acc q back accepted true w = (
       w,
       sym (ap (λ (x : Reading). then_read x.answer x.lent (λ n u. read_all n (lines_from p count (suc k)) u)) (read_as s r t back accepted w))
@@ -493,7 +493,7 @@ pub record Keeps (p : CodePage) (Q : ℕ → Tables → Type 0) : Type 0 where
 pub record Arrived (p : CodePage) (Q : ℕ → Tables → Type 0) (s : Progress) (lines : List (List ℕ)) (t : Tables) : Type 0 where
   pub state : Progress
   pub lent : Tables
-  pub accepted : read_all s lines t ≡ reading_as (Accepted state) lent
+  pub accepted : read_all s lines t ≡ reading_as (Ok state) lent
   pub before : Before p places state
   pub sound : Sound state lent
   pub kept : Q places lent

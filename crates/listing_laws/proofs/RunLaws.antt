@@ -13,7 +13,8 @@ use Rattle.codepage.proofs.ShapeLaws.{shape_exact}
 use Rattle.listing.specs.declared.Record.{Record}
 use Rattle.listing.specs.declared.Record.TheVariants.{Page, Defaults, Single, Lead, Trail, Pair, Code, NoRecord}
 use Rattle.lister.specs.declared.Cursor.{Cursor}
-use Rattle.lister.specs.declared.Listed.TheVariants.{Line, Done}
+use Rattle.std.specs.declared.result.Result.TheVariants.{Ok}
+use Rattle.std.specs.declared.option.Option.TheVariants.{None, Some}
 use Rattle.lister.specs.Lines.{decimal_text, page_text, unit_text, single_text, record_line}
 use Rattle.lister.specs.Lister.{places, record_at, is_record, NextLine, no_line, list_record, list_of, first_line}
 use Rattle.lister.proofs.PlaceLaws.{next_end, next_here, next_turn}
@@ -59,12 +60,12 @@ module _ (p : CodePage) (good : GoodShape p) (room : ℕ) (roomy : 12 ≤ room) 
   abbrev at : Cursor
   at = record { place = place }
 
-  call_done : places ≤ place → list_of p at room ≡ no_line Done
+  call_done : places ≤ place → list_of p at room ≡ no_line (Ok None)
   unfolding list_of
   call_done h = rw (shaped, next_end p place h, le-leb places place h)
 
   call_line : place < places → is_record (record_at p place) ≡ true
-      → list_of p at room ≡ record { answer = Line (length (record_line (record_at p place))) (record { place = place + 1 }); line = record_line (record_at p place) }
+      → list_of p at room ≡ record { answer = Ok (Some (record { length = length (record_line (record_at p place)); next = record { place = place + 1 } })); line = record_line (record_at p place) }
   unfolding list_of list_record
   call_line h e = rw (shaped, next_here p place h e, lt-leb places place h, le-ltb room (length (record_line (record_at p place))) (omega (arith, line_short (record_at p place))))
 
@@ -79,48 +80,48 @@ module _ (p : CodePage) (good : GoodShape p) (room : ℕ) (roomy : 12 ≤ room) 
   unfolding write_all
   goes_on calls place e = ap (λ (n : NextLine). then_write n.answer n.line (λ next. write_all p room calls next)) e
 
-  line_goes : (calls count place : ℕ) → place < places → is_record (record_at p place) ≡ true → write_all p room calls (record { place = place + 1 }) ≡ record { lines = lines_from p count (place + 1); answer = Done }
-      → write_all p room (suc calls) (record { place = place }) ≡ record { lines = lines_from p (suc count) place; answer = Done }
+  line_goes : (calls count place : ℕ) → place < places → is_record (record_at p place) ≡ true → write_all p room calls (record { place = place + 1 }) ≡ record { lines = lines_from p count (place + 1); answer = Ok None }
+      → write_all p room (suc calls) (record { place = place }) ≡ record { lines = lines_from p (suc count) place; answer = Ok None }
   unfolding write_all lines_from
   line_goes calls count place h q more =
       ap (λ (n : NextLine). then_write n.answer n.line (λ next. write_all p room calls next)) (call_line p good room roomy place h q)
       ∙ ap (line_then (record_line (record_at p place))) more
-      ∙ ap (λ (l : List (List ℕ)). record { lines = l; answer = Done }) (rw (q, add-one place))
+      ∙ ap (λ (l : List (List ℕ)). record { lines = l; answer = Ok None }) (rw (q, add-one place))
 
-  turn_goes : (calls count place : ℕ) → place < places → is_record (record_at p place) ≡ false → write_all p room (suc calls) (record { place = place + 1 }) ≡ record { lines = lines_from p count (place + 1); answer = Done }
-      → write_all p room (suc calls) (record { place = place }) ≡ record { lines = lines_from p (suc count) place; answer = Done }
+  turn_goes : (calls count place : ℕ) → place < places → is_record (record_at p place) ≡ false → write_all p room (suc calls) (record { place = place + 1 }) ≡ record { lines = lines_from p count (place + 1); answer = Ok None }
+      → write_all p room (suc calls) (record { place = place }) ≡ record { lines = lines_from p (suc count) place; answer = Ok None }
   unfolding lines_from
   turn_goes calls count place h q more =
       goes_on calls place (call_turn p good room roomy place h q)
       ∙ more
-      ∙ ap (λ (l : List (List ℕ)). record { lines = l; answer = Done }) (rw (q, add-one place))
+      ∙ ap (λ (l : List (List ℕ)). record { lines = l; answer = Ok None }) (rw (q, add-one place))
 
-  last_goes : (calls place : ℕ) → places ≤ place → write_all p room (suc calls) (record { place = place }) ≡ record { lines = lines_from p 0 place; answer = Done }
+  last_goes : (calls place : ℕ) → places ≤ place → write_all p room (suc calls) (record { place = place }) ≡ record { lines = lines_from p 0 place; answer = Ok None }
   unfolding write_all lines_from
   last_goes calls place h = ap (λ (n : NextLine). then_write n.answer n.line (λ next. write_all p room calls next)) (call_done p good room roomy place h)
 
-  run_from : (count place calls : ℕ) → count + place ≡ 131842 → count < calls → write_all p room calls (record { place = place }) ≡ record { lines = lines_from p count place; answer = Done }
+  run_from : (count place calls : ℕ) → count + place ≡ 131842 → count < calls → write_all p room calls (record { place = place }) ≡ record { lines = lines_from p count place; answer = Ok None }
   run_from count place zero e h = absurd (omega arith)
   run_from zero place (suc calls) e h = last_goes calls place (omega arith)
   run_from (suc count) place (suc calls) e h =
       by_record (is_record (record_at p place)) refl (run_from count (place + 1) calls (omega arith) (omega arith)) (run_from count (place + 1) (suc calls) (omega arith) (omega arith))
     where
       by_record : (t : Bool) → is_record (record_at p place) ≡ t
-          → write_all p room calls (record { place = place + 1 }) ≡ record { lines = lines_from p count (place + 1); answer = Done }
-          → write_all p room (suc calls) (record { place = place + 1 }) ≡ record { lines = lines_from p count (place + 1); answer = Done }
-          → write_all p room (suc calls) (record { place = place }) ≡ record { lines = lines_from p (suc count) place; answer = Done }
+          → write_all p room calls (record { place = place + 1 }) ≡ record { lines = lines_from p count (place + 1); answer = Ok None }
+          → write_all p room (suc calls) (record { place = place + 1 }) ≡ record { lines = lines_from p count (place + 1); answer = Ok None }
+          → write_all p room (suc calls) (record { place = place }) ≡ record { lines = lines_from p (suc count) place; answer = Ok None }
       by_record true q one same = line_goes calls count place (omega arith) q one
       by_record false q one same = turn_goes calls count place (omega arith) q same
 
   count_of : (n : ℕ) × (n ≡ 131842)
   count_of = (131842, refl)
 
-  run_all : (n : ℕ) → n ≡ 131842 → (calls : ℕ) → n < calls → write_all p room calls first_line ≡ record { lines = lines_from p n 0; answer = Done }
+  run_all : (n : ℕ) → n ≡ 131842 → (calls : ℕ) → n < calls → write_all p room calls first_line ≡ record { lines = lines_from p n 0; answer = Ok None }
   run_all n e calls h = run_from n 0 calls (omega arith) h
 
   -- From the first cursor on, with room for 12 bytes, the lines of the calls are the whole listing, and then the writer is done.
-  pub writer_run : (calls : ℕ) → places < calls → write_all p room calls first_line ≡ record { lines = whole_listing p; answer = Done }
+  pub writer_run : (calls : ℕ) → places < calls → write_all p room calls first_line ≡ record { lines = whole_listing p; answer = Ok None }
   unfolding whole_listing
   writer_run calls h =
       run_all count_of.0 count_of.1 calls (omega (arith, count_of.1))
-      ∙ ap (λ (n : ℕ). record { lines = lines_from p n 0; answer = Done }) count_of.1
+      ∙ ap (λ (n : ℕ). record { lines = lines_from p n 0; answer = Ok None }) count_of.1

@@ -15,18 +15,17 @@ use Rattle.listing.specs.declared.Progress.{Progress}
 use Rattle.listing.specs.declared.Letter.TheVariants.{Start, S, L, T, M, W}
 use Rattle.listing.specs.declared.Record.{Record}
 use Rattle.listing.specs.declared.Record.TheVariants.{Page, Defaults, Single, Lead, Trail, Pair, Code, NoRecord}
-use Rattle.listing.specs.declared.Read.{Read}
-use Rattle.listing.specs.declared.Read.TheVariants.{Accepted, Refused}
+use Rattle.std.specs.declared.result.Result.{Result}
+use Rattle.std.specs.declared.result.Result.TheVariants.{Ok, Err}
 use Rattle.listing.specs.Sets.{count_half, in_bytes}
 use Rattle.listing.specs.Order.{rank, is_listed_lead, accepts, after_record, is_new_high, code_block, blocks_listed, sizes_listed, class_of}
 use Rattle.listing.specs.Form.{record_of}
 use Rattle.listing.specs.Steps.{Fits, RecordReady}
 use Rattle.listing.specs.Tables.{Tables, filled, opened_block, change_of, tables_fit, Reading, reading_as, read_record, line_reading, listing_end}
 use Rattle.codepage.specs.declared.Numbers.{Numbers}
-use Rattle.listing.specs.declared.Sizes.{Sizes}
+use Rattle.codepage.specs.declared.Sizes.{Sizes}
 use Rattle.listing.specs.declared.Refusal.{Refusal}
 use Rattle.listing.specs.declared.Refusal.TheVariants.{BadLine, TooSmall}
-use Rattle.listing.specs.declared.Ended.TheVariants as ended
 use Rattle.listing.specs.Whole.{read_all, then_read}
 use Rattle.listing.proofs.TableLaws.{filled_length}
 use Rattle.listing.proofs.ChangeLaws.{fit_known, some_block, blocks_room, code_room}
@@ -132,7 +131,7 @@ same_sizes s (Code unit code) t =
 same_sizes s NoRecord t = record { classes = refl; singles = refl; pairs = refl; index = refl; blocks = refl }
 
 -- ---- a line, and all lines
-pub accepted_same : {s u : Progress} → Accepted s ≡ Accepted u → s ≡ u
+pub accepted_same : {s u : Progress} → ◌≡◌ {A = Result Progress Refusal} (Ok s) (Ok u) → s ≡ u
 accepted_same e = cc
 
 module _ (s : Progress) (t : Tables) (sound : Sound s t) where
@@ -155,18 +154,18 @@ module _ (s : Progress) (t : Tables) (sound : Sound s t) where
       ready : RecordReady s (after_record s r) r t.classes t.singles t.pairs t.index t.blocks
       ready = record { accepted = q; next = refl; fits = roomy }
 
-  step_record : (r : Record) → Bounded r → (u : Progress) → (read_record s r t).answer ≡ Accepted u → Sound u (read_record s r t).lent
+  step_record : (r : Record) → Bounded r → (u : Progress) → (read_record s r t).answer ≡ Ok u → Sound u (read_record s r t).lent
   unfolding read_record
   step_record r bound u e = by_case (accepts s r) refl (tables_fit (sizes_listed (after_record s r)) t) refl
     where
       by_case : (a : Bool) → accepts s r ≡ a → (b : Bool) → tables_fit (sizes_listed (after_record s r)) t ≡ b → Sound u (read_record s r t).lent
       by_case false q b w = let z : ◌≡◌ {A = ℕ} 0 1 = refused (sym (rw (q, read_record)) ∙ e) in absurd (omega arith)
         where
-          refused : Refused BadLine ≡ Accepted u → ◌≡◌ {A = ℕ} 0 1
+          refused : ◌≡◌ {A = Result Progress Refusal} (Err BadLine) (Ok u) → ◌≡◌ {A = ℕ} 0 1
           refused x = cc
       by_case true q false w = let z : ◌≡◌ {A = ℕ} 0 1 = refused (sym (rw (q, w, read_record)) ∙ e) in absurd (omega arith)
         where
-          refused : Refused TooSmall ≡ Accepted u → ◌≡◌ {A = ℕ} 0 1
+          refused : ◌≡◌ {A = Result Progress Refusal} (Err TooSmall) (Ok u) → ◌≡◌ {A = ℕ} 0 1
           refused x = cc
       by_case true q true w =
           let same : after_record s r ≡ u = accepted_same (sym (rw (q, w, read_record)) ∙ e) in
@@ -174,30 +173,30 @@ module _ (s : Progress) (t : Tables) (sound : Sound s t) where
           λ late. rw (q, w, read_record) (subst (λ (n : Progress). Kept n (change_of s r t)) same (kept r bound roomy q))
 
   -- and by every accepted line
-  pub step : (line : List ℕ) (u : Progress) → (line_reading s line t).answer ≡ Accepted u → Sound u (line_reading s line t).lent
+  pub step : (line : List ℕ) (u : Progress) → (line_reading s line t).answer ≡ Ok u → Sound u (line_reading s line t).lent
   unfolding line_reading
   step line u e = step_record (record_of line) (bounded line) u e
 
 -- equal readings have equal parts
-pub reading_same : {a b : Read} {t u : Tables} → reading_as a t ≡ reading_as b u → (a ≡ b) × (t ≡ u)
+pub reading_same : {a b : Result Progress Refusal} {t u : Tables} → reading_as a t ≡ reading_as b u → (a ≡ b) × (t ≡ u)
 reading_same e = (ap (λ (r : Reading). r.answer) e, ap (λ (r : Reading). r.lent) e)
 
 -- a refusal is no acceptance
-pub refused_not : {why : Refusal} {u : Progress} → Refused why ≡ Accepted u → ⊥
+pub refused_not : {why : Refusal} {u : Progress} → ◌≡◌ {A = Result Progress Refusal} (Err why) (Ok u) → ⊥
 refused_not {why} {u} e = let z : ◌≡◌ {A = ℕ} 0 1 = cc in omega arith
 
 -- and by every accepted listing
-pub every_line : (lines : List (List ℕ)) (s : Progress) (t : Tables) → Sound s t → (s' : Progress) (t' : Tables) → read_all s lines t ≡ reading_as (Accepted s') t' → Sound s' t'
+pub every_line : (lines : List (List ℕ)) (s : Progress) (t : Tables) → Sound s t → (s' : Progress) (t' : Tables) → read_all s lines t ≡ reading_as (Ok s') t' → Sound s' t'
 unfolding read_all
 every_line [] s t sound s' t' e =
     subst (λ (u : Tables). Sound s' u) (reading_same e).1 (subst (λ (n : Progress). Sound n t) (accepted_same (reading_same e).0) sound)
 every_line (line ∷ lines) s t sound s' t' e =
     by_answer (λ u k. every_line lines u (line_reading s line t).lent (step s t sound line u k) s' t') (line_reading s line t).answer refl e
   where
-    by_answer : ((u : Progress) → (line_reading s line t).answer ≡ Accepted u → read_all u lines (line_reading s line t).lent ≡ reading_as (Accepted s') t' → Sound s' t')
-        → (a : Read) → (line_reading s line t).answer ≡ a → then_read a (line_reading s line t).lent (λ n v. read_all n lines v) ≡ reading_as (Accepted s') t' → Sound s' t'
-    by_answer more (Accepted u) q k = more u q k
-    by_answer more (Refused why) q k = absurd (refused_not (reading_same k).0)
+    by_answer : ((u : Progress) → (line_reading s line t).answer ≡ Ok u → read_all u lines (line_reading s line t).lent ≡ reading_as (Ok s') t' → Sound s' t')
+        → (a : Result Progress Refusal) → (line_reading s line t).answer ≡ a → then_read a (line_reading s line t).lent (λ n v. read_all n lines v) ≡ reading_as (Ok s') t' → Sound s' t'
+    by_answer more (Ok u) q k = more u q k
+    by_answer more (Err why) q k = absurd (refused_not (reading_same k).0)
 
 -- ---- the shape
 module _ (s : Progress) (t : Tables) (kept : Kept s t) where
@@ -244,14 +243,16 @@ module _ (s : Progress) (t : Tables) (kept : Kept s t) where
       }
 
 -- an end that is whole: `D` was read, and these are the numbers and sizes
-pub end_whole : (s : Progress) (numbers : Numbers) (sizes : Sizes) → listing_end s ≡ ended.Whole numbers sizes → (2 ≤ rank s.letter) × ((s.numbers ≡ numbers) × (sizes_listed s ≡ sizes))
+pub end_whole : (s : Progress) (numbers : Numbers) (sizes : Sizes) → listing_end s ≡ Ok (numbers, sizes) → (2 ≤ rank s.letter) × ((s.numbers ≡ numbers) × (sizes_listed s ≡ sizes))
 unfolding listing_end
 end_whole s numbers sizes f = by_letter (leb 2 (rank s.letter)) refl
   where
-    whole_same : ended.Whole s.numbers (sizes_listed s) ≡ ended.Whole numbers sizes → (s.numbers ≡ numbers) × (sizes_listed s ≡ sizes)
-    whole_same k = (cc, cc)
+    whole_same : ◌≡◌ {A = Result (Numbers × Sizes) Refusal} (Ok (s.numbers, sizes_listed s)) (Ok (numbers, sizes)) → (s.numbers ≡ numbers) × (sizes_listed s ≡ sizes)
+    whole_same k =
+        let e : ◌≡◌ {A = Numbers × Sizes} (s.numbers, sizes_listed s) (numbers, sizes) = cc in
+        (ap (λ (x : Numbers × Sizes). x.0) e, ap (λ (x : Numbers × Sizes). x.1) e)
 
-    unfinished : ended.Refused BadLine ≡ ended.Whole numbers sizes → ⊥
+    unfinished : ◌≡◌ {A = Result (Numbers × Sizes) Refusal} (Err BadLine) (Ok (numbers, sizes)) → ⊥
     unfinished k = let z : ◌≡◌ {A = ℕ} 0 1 = cc in omega arith
 
     by_letter : (b : Bool) → leb 2 (rank s.letter) ≡ b → (2 ≤ rank s.letter) × ((s.numbers ≡ numbers) × (sizes_listed s ≡ sizes))
@@ -261,7 +262,7 @@ end_whole s numbers sizes f = by_letter (leb 2 (rank s.letter)) refl
 -- THE SHAPE: a whole listing that is accepted from its first line to its end gives, each table cut to the size needed, a good
 -- shape.
 pub listing_shape : (lines : List (List ℕ)) (s : Progress) (t : Tables) (s' : Progress) (t' : Tables) (numbers : Numbers) (sizes : Sizes)
-    → s.letter ≡ Start → read_all s lines t ≡ reading_as (Accepted s') t' → listing_end s' ≡ ended.Whole numbers sizes → GoodShape (cut_set numbers sizes t')
+    → s.letter ≡ Start → read_all s lines t ≡ reading_as (Ok s') t' → listing_end s' ≡ Ok (numbers, sizes) → GoodShape (cut_set numbers sizes t')
 listing_shape lines s t s' t' numbers sizes start e f =
     let (late, same) = end_whole s' numbers sizes f in
     subst (λ (n : Numbers). GoodShape (cut_set n sizes t')) same.0

@@ -4,11 +4,10 @@ use Rattle.codepage.specs.CodePage.{CodePage, GoodShape, entry_at, is_lead}
 use Rattle.codepage.specs.Reading.{byte_alone, byte_pair, unit_code}
 use Rattle.codepage.specs.declared.Numbers.{Numbers}
 use Rattle.listing.specs.declared.Progress.{Progress}
-use Rattle.listing.specs.declared.Sizes.{Sizes}
+use Rattle.codepage.specs.declared.Sizes.{Sizes}
 use Rattle.listing.specs.declared.Refusal.{Refusal}
 use Rattle.listing.specs.declared.Refusal.TheVariants.{BadLine, TooSmall}
-use Rattle.listing.specs.declared.Read.TheVariants.{Accepted}
-use Rattle.listing.specs.declared.Ended.TheVariants.{Whole}
+use Rattle.std.specs.declared.result.Result.TheVariants.{Ok}
 use Rattle.listing.specs.Form.{record_of}
 use Rattle.listing.specs.Order.{nothing_read, accepts, after_record, sizes_listed}
 use Rattle.listing.specs.Tables.{Tables, tables_fit, reading_as, listing_end}
@@ -56,8 +55,8 @@ pub record Returned (p : CodePage) (t : Tables) : Type 0 where
   pub lent : Tables
   pub numbers : Numbers
   pub sizes : Sizes
-  pub accepted : read_all nothing_read (whole_listing p) t ≡ reading_as (Accepted progress) lent
-  pub end : listing_end progress ≡ Whole numbers sizes
+  pub accepted : read_all nothing_read (whole_listing p) t ≡ reading_as (Ok progress) lent
+  pub end : listing_end progress ≡ Ok (numbers, sizes)
   pub shape : GoodShape (cut_set numbers sizes lent)
   pub same : SameMeaning p (cut_set numbers sizes lent)
 

@@ -2,7 +2,7 @@
 use Rattle.std.specs.Prelude.{take}
 use Rattle.codepage.specs.CodePage.{CodePage, code_page}
 use Rattle.codepage.specs.declared.Numbers.{Numbers}
-use Rattle.listing.specs.declared.Sizes.{Sizes}
+use Rattle.codepage.specs.declared.Sizes.{Sizes}
 use Rattle.listing.specs.Tables.{Tables}
 
 -- five tables, each cut to a size, with the numbers: the table set that a whole listing gives

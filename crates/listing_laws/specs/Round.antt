@@ -2,7 +2,7 @@
 use Rattle.std.specs.Prelude.{List, [], ◌∷◌, ℕ, zero, suc}
 use Rattle.codepage.specs.CodePage.{CodePage, pick}
 use Rattle.listing.specs.declared.Progress.{Progress}
-use Rattle.listing.specs.declared.Sizes.{Sizes}
+use Rattle.codepage.specs.declared.Sizes.{Sizes}
 use Rattle.listing.specs.Form.{record_of}
 use Rattle.listing.specs.Order.{nothing_read, after_record, sizes_listed}
 use Rattle.lister.specs.Lines.{record_line}

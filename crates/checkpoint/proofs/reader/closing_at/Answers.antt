@@ -1,10 +1,10 @@
-use mathlib.Core.Path.{◌∙◌, sym}
-use Rattle.checkpoint.specs.Line.{closing, closing_of}
-use Rattle.checkpoint.proofs.PlaceLaws.{found_none, closing_out, closing_on, closing_over, closing_none}
+use mathlib.Core.Path.{sym, ◌∙◌}
+use Rattle.checkpoint.specs.Line.{closing_of}
+use Rattle.checkpoint.proofs.PlaceLaws.{closing_out, closing_on, closing_over, closing_none}
 use Rattle.checkpoint.proofs.reader.closing_at.Goals as goal
 
 pub returns-then-line-at : goal.returns-then-line-at
-returns-then-line-at c = found_none _ closing _ _ _ (closing_out _ _ c.if-line-at.true) c.nowhere.ensures
+returns-then-line-at c = sym (closing_out _ _ c.if-line-at.true)
 
 pub returns-then-rest_is : goal.returns-then-rest_is
 unfolding closing_of
@@ -16,5 +16,4 @@ returns-then-rest_is-2 c = closing_over _ _ c.if-line-at.false (sym c.rest_is.en
 
 pub returns : goal.returns
 unfolding closing_of
-returns c =
-    found_none _ closing _ _ _ (closing_none _ _ c.if-line-at.false (sym c.rest_is.ensures ∙ c.if-rest_is.false) (sym c.rest_is-2.ensures ∙ c.if-rest_is-2.false)) c.nowhere-2.ensures
+returns c = sym (closing_none _ _ c.if-line-at.false (sym c.rest_is.ensures ∙ c.if-rest_is.false) (sym c.rest_is-2.ensures ∙ c.if-rest_is-2.false))

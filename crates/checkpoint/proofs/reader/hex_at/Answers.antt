@@ -1,14 +1,13 @@
-use native.Mathlib.Omega.{arith}
-use lib.ListN.{get_or}
-use Rattle.checkpoint.specs.Line.{one, hex_value}
-use Rattle.checkpoint.proofs.PlaceLaws.{found_none, byte_end, byte_none, byte_some, value_some, hex_none}
+use mathlib.Core.Path.{sym}
+use Rattle.checkpoint.specs.Line.{hex_value}
+use Rattle.checkpoint.proofs.PlaceLaws.{byte_end, byte_none, byte_some, nothing}
 use Rattle.checkpoint.proofs.reader.hex_at.Goals as goal
 
-pub returns-then-line-at : goal.returns-then-line-at
-returns-then-line-at c = record { value_bound = omega arith; next_value = found_none _ (one hex_value) _ _ _ (byte_end hex_value _ _ c.if-line-at.true) c.nowhere.ensures }
+pub returns-then-line-at-clause-value : goal.returns-then-line-at-clause-value
+returns-then-line-at-clause-value c = sym (byte_end hex_value _ _ c.if-line-at.true)
 
-pub returns-then-value-gt15 : goal.returns-then-value-gt15
-returns-then-value-gt15 c = record { value_bound = omega arith; next_value = found_none _ (one hex_value) _ _ _ (byte_none hex_value _ _ c.if-line-at.false (hex_none (get_or c.args.line.now c.args.at 0) _ c.hex_value-value.ensures c.if-value-gt15.true)) c.nowhere-then-value-gt15.ensures }
+pub returns-in_err-value-clause-value : goal.returns-in_err-value-clause-value
+returns-in_err-value-clause-value c = nothing _ _ _ c.from_residual.ensures (byte_none hex_value _ _ c.if-line-at.false (sym c.in_err-value.ensures.value))
 
-pub returns : goal.returns
-returns c = record { value_bound = omega arith; next_value = byte_some hex_value _ _ _ c.if-line-at.false (value_some _ _ c.hex_value-value.ensures (omega arith)) }
+pub returns-clause-value : goal.returns-clause-value
+returns-clause-value c = byte_some hex_value _ _ _ c.if-line-at.false (sym c.in_ok-value.ensures.value)

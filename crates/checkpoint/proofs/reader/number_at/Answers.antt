@@ -1,20 +1,23 @@
-use mathlib.Core.Path.{◌≡◌, ◌∙◌, sym, ap}
+use mathlib.Core.Path.{sym, ap, ◌∙◌}
 use mathlib.Core.Option.{some}
+use Prim.Native.Nat.{ℕ, ◌+◌}
 use native.Mathlib.Omega.{arith}
-use lib.ListN.{get_or}
-use Rattle.checkpoint.specs.Line.{number, field}
-use Rattle.checkpoint.specs.Places.{up_to}
-use Rattle.checkpoint.proofs.PlaceLaws.{found_none, field_found, field_none, value_some, digit_none, limited_end, limited_none, limited_zero, limited_first}
+use Rattle.checkpoint.specs.Line.{number, more_digits}
+use Rattle.checkpoint.specs.Places.{read_at, up_to}
+use Rattle.checkpoint.proofs.PlaceLaws.{nothing, field_found, field_none, limited_end, limited_none, limited_zero, limited_first}
 use Rattle.checkpoint.proofs.reader.number_at.Goals as goal
 
-pub returns-then-line-at : goal.returns-then-line-at
-returns-then-line-at c = record { value_le_limit = omega arith; next_value = found_none _ (field (up_to c.args.limit number)) _ _ _ (field_none (up_to c.args.limit number) _ _ (limited_end _ _ _ c.if-line-at.true)) c.nowhere.ensures }
+pub returns-then-line-at-clause-value : goal.returns-then-line-at-clause-value
+returns-then-line-at-clause-value c = sym (field_none (up_to c.args.limit number) _ _ (limited_end _ _ _ c.if-line-at.true))
 
-pub returns-then-first-gt9 : goal.returns-then-first-gt9
-returns-then-first-gt9 c = record { value_le_limit = omega arith; next_value = found_none _ (field (up_to c.args.limit number)) _ _ _ (field_none (up_to c.args.limit number) _ _ (limited_none _ _ _ c.if-line-at.false (digit_none (get_or c.args.line.now c.args.at 0) _ c.digit_value-first.ensures c.if-first-gt9.true))) c.nowhere-then-first-gt9.ensures }
+pub returns-in_err-first-clause-value : goal.returns-in_err-first-clause-value
+returns-in_err-first-clause-value c = nothing _ _ _ c.from_residual.ensures (field_none (up_to c.args.limit number) _ _ (limited_none _ _ _ c.if-line-at.false (sym c.in_err-first.ensures.value)))
 
-pub returns-then-first-eq0 : goal.returns-then-first-eq0
-returns-then-first-eq0 c = let zero-first : c.digit_value-first.result ≡ 0 = omega (arith, c.if-first-eq0.true) in record { value_le_limit = omega arith; next_value = field_found (up_to c.args.limit number) _ _ _ _ _ (limited_zero _ _ _ c.if-line-at.false (value_some _ _ c.digit_value-first.ensures (omega arith) ∙ ap some zero-first)) c.tab_at.ensures }
+pub returns-then-first-eq0-clause-value : goal.returns-then-first-eq0-clause-value
+returns-then-first-eq0-clause-value c = field_found (up_to c.args.limit number) _ _ 0 _ _ (limited_zero _ _ _ c.if-line-at.false (sym c.in_ok-first.ensures.value ∙ ap some c.if-first-eq0.true)) c.tabbed.ensures.value
 
-pub returns : goal.returns
-returns c = record { value_le_limit = c.more_digits-number.ensures.value_le_limit; next_value = field_found (up_to c.args.limit number) _ _ _ _ _ (c.more_digits-number.ensures.next_value ∙ sym (limited_first _ _ _ _ c.if-line-at.false (value_some _ _ c.digit_value-first.ensures (omega arith)) (omega arith))) c.tab_at-2.ensures }
+pub returns-in_err-whole-clause-value : goal.returns-in_err-whole-clause-value
+returns-in_err-whole-clause-value c = nothing _ _ _ c.from_residual-in_err-whole.ensures (field_none (up_to c.args.limit number) _ _ (limited_first _ _ _ _ c.if-line-at.false (sym c.in_ok-first.ensures.value) (omega arith) ∙ ap (λ (n : ℕ). read_at (up_to c.args.limit (more_digits n)) c.args.line.now (c.args.at + 1)) (sym c.from.ensures) ∙ sym c.in_err-whole.ensures.value))
+
+pub returns-clause-value : goal.returns-clause-value
+returns-clause-value c = field_found (up_to c.args.limit number) _ _ _ _ _ (c.in_ok-whole.ensures.value ∙ ap (λ (n : ℕ). read_at (up_to c.args.limit (more_digits n)) c.args.line.now (c.args.at + 1)) c.from.ensures ∙ sym (limited_first _ _ _ _ c.if-line-at.false (sym c.in_ok-first.ensures.value) (omega arith))) c.tabbed-2.ensures.value

@@ -14,10 +14,10 @@ pub returns-then-ended : goal.returns-then-ended
 unfolding closing_of
 returns-then-ended c = closing_is _ true c.if-ended.true c.put_bytes.ensures
 
-pub put_bytes-requires-2 : goal.put_bytes-requires-2
+pub put_bytes-requires-else-ended : goal.put_bytes-requires-else-ended
 unfolding closing_of
-put_bytes-requires-2 c = let e = ap (λ (b : Bool). length (closing_of b)) c.if-ended.false in omega (arith, e)
+put_bytes-requires-else-ended c = let e = ap (λ (b : Bool). length (closing_of b)) c.if-ended.false in omega (arith, e)
 
-pub returns : goal.returns
+pub returns-else-ended : goal.returns-else-ended
 unfolding closing_of
-returns c = closing_is _ false c.if-ended.false c.put_bytes-2.ensures
+returns-else-ended c = closing_is _ false c.if-ended.false c.put_bytes-else-ended.ensures

@@ -9,4 +9,4 @@ overflow_sub-lead c = listed_high _ _ c.requires
 
 pub returns : goal.returns
 unfolding lead_block sizes_listed
-returns c = (c.below_in_half.ensures.0, omega (arith, c.below_in_half.ensures.0, listed_below _ _ c.requires))
+returns c = (c.count_below.ensures.0, omega (arith, c.count_below.ensures.0, listed_below _ _ c.requires))

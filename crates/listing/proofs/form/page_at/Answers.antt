@@ -4,7 +4,7 @@ use Rattle.listing.proofs.form.page_at.Goals as goal
 
 pub loop-i-init : goal.loop-i-init
 unfolding room
-loop-i-init c = (omega arith, omega arith, omega arith, decimal_none _ _, omega arith)
+loop-i-init c = (decimal_none _ _, omega arith)
 
 pub overflow_mul-page : goal.overflow_mul-page
 overflow_mul-page c = omega (arith, room_le c.loop-i.i (omega arith))
@@ -14,4 +14,4 @@ overflow_add-page c = omega (arith, room_le c.loop-i.i (omega arith), c.digit_of
 
 pub loop-i-preserved : goal.loop-i-preserved
 loop-i-preserved c =
-    (omega arith, omega arith, omega arith, decimal_step _ 2 c.loop-i.i _ _ c.loop-i.invariant.3 c.digit_of.ensures.0, omega (arith, room_step c.loop-i.i, c.digit_of.ensures.1, c.loop-i.invariant.4))
+    (decimal_step _ 2 c.loop-i.i _ _ c.loop-i.invariant.0 c.digit_of.ensures.0, omega (arith, room_step c.loop-i.i, c.digit_of.ensures.1, c.loop-i.invariant.1))
