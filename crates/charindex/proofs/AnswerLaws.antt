@@ -4,6 +4,7 @@ use mathlib.Core.List.{List}
 use mathlib.Core.Logic.{◌↔◌, ◌⊎◌, inl, inr}
 use mathlib.Core.Option.{Option, none, some}
 use mathlib.Core.Path.{◌≡◌, refl, sym, ap, ◌∙◌, subst}
+use Rattle.std.proofs.Common.{Result, Ok, Err}
 use Prim.Native.Nat.{ℕ, zero, suc, ◌-◌, ◌*◌, ◌≤◌, ◌<◌}
 use native.Mathlib.Omega.{arith}
 use lib.Dec.{leb}
@@ -17,19 +18,19 @@ use Rattle.convert.specs.Runs.{piece_limit}
 use Rattle.codepage_walk.specs.Checks.{refuse_unless, bytes_reader, TextPasses, TextFails}
 use Rattle.codepage_walk.proofs.CheckLaws.{refused_exact, passed_exact, text_cases, not_good}
 use Rattle.codepage_walk.specs.Walk.{Placed, placed}
+use Rattle.charindex.specs.declared.Found.{Found}
 use Rattle.charindex.specs.declared.Refusal.{Refusal}
 use Rattle.charindex.specs.declared.Refusal.TheVariants.{BadShape, TooLong, FormerTooLong, BadIndex, NoSuchCode}
-use Rattle.charindex.specs.declared.Appended.TheVariants as appended
-use Rattle.charindex.specs.declared.Found.TheVariants as found
 use Rattle.charindex.specs.Index.{count_of, blocks_of, append_of, code_number, find_of}
 use Rattle.charindex.specs.Calls.{counts_within, append_refusal, append_unless, appending_of, found_or29, finding_of}
 use Rattle.charindex.specs.Claims.{Right, OverCounted, AppendSays, AppendPasses, FindPasses, FindSays}
 use Rattle.charindex.proofs.CallLaws.{find_bad, find_long, find_short, find_given, append_bad, append_long, append_former, append_short, append_rest}
+use Rattle.charindex.proofs.FindLaws.{found_at}
 use Rattle.charindex.proofs.Theorems.{find_right, append_right, right_within, number_none}
 
 -- ---- finding
 module _ (p : CodePage) (journal entries : List ℕ) (n : ℕ) where
-  find_says : (why : Refusal) → FindSays p journal entries n why → finding_of p journal entries n ≡ found.Refused why
+  find_says : (why : Refusal) → FindSays p journal entries n why → finding_of p journal entries n ≡ Err why
   find_says BadShape h = find_bad p journal entries n (not_good p h)
   find_says TooLong (g, h) = find_long p journal entries n ((shape_exact p).1 g) h
   find_says FormerTooLong h = absurd h
@@ -42,7 +43,7 @@ module _ (p : CodePage) (journal entries : List ℕ) (n : ℕ) where
     pub code : Placed
     pub found_it : find_of (bytes_reader p) journal entries n ≡ some code
 
-  find_passes : (c : CodeFound) → finding_of p journal entries n ≡ found.Code c.code.place (size_of c.code.code)
+  find_passes : (c : CodeFound) → finding_of p journal entries n ≡ Ok (record { place = c.code.place; length = size_of c.code.code })
   find_passes c = let ((g, h), s) = c.passes in find_given p journal entries n ((shape_exact p).1 g) h s ∙ ap found_or29 c.found_it
 
   find_cases : ((why : Refusal) × FindSays p journal entries n why) ⊎ CodeFound
@@ -62,43 +63,44 @@ module _ (p : CodePage) (journal entries : List ℕ) (n : ℕ) where
       by (inr h) = by_size h (leb (blocks_of (length journal)) (length entries)) refl
 
   -- EACH REFUSAL OF FINDING EXACTLY IN ITS CASE: 10, 11, 28, and 29 if the rule finds no block or no code.
-  pub find_refused_exact : (why : Refusal) → (finding_of p journal entries n ≡ found.Refused why) ↔ FindSays p journal entries n why
+  pub find_refused_exact : (why : Refusal) → (finding_of p journal entries n ≡ Err why) ↔ FindSays p journal entries n why
   find_refused_exact why = (λ e. by e find_cases, find_says why)
     where
-      by : finding_of p journal entries n ≡ found.Refused why → ((why : Refusal) × FindSays p journal entries n why) ⊎ CodeFound → FindSays p journal entries n why
+      by : finding_of p journal entries n ≡ Err why → ((why : Refusal) × FindSays p journal entries n why) ⊎ CodeFound → FindSays p journal entries n why
       by e (inl (other, h)) =
-          let q : found.Refused other ≡ found.Refused why = sym (find_says other h) ∙ e in
+          let q : ◌≡◌ {A = Result Found Refusal} (Err other) (Err why) = sym (find_says other h) ∙ e in
           let same : other ≡ why = cc in
           subst (FindSays p journal entries n) same h
       by e (inr c) =
-          let q : found.Code c.code.place (size_of c.code.code) ≡ found.Refused why = sym (find_passes c) ∙ e in
+          let q : ◌≡◌ {A = Result Found Refusal} (Ok (record { place = c.code.place; length = size_of c.code.code })) (Err why) = sym (find_passes c) ∙ e in
           absurd (let z : ◌≡◌ {A = ℕ} 0 1 = cc in omega arith)
 
   -- A CODE IS FOUND exactly if 10, 11 and 28 pass and the rule finds one; the answer is its place and its length.
-  pub find_found_exact : (place size : ℕ) → (finding_of p journal entries n ≡ found.Code place size) ↔ ((c : CodeFound) × (c.code.place ≡ place) × (size_of c.code.code ≡ size))
-  find_found_exact place size = (λ e. by e find_cases, λ (c, a, b). find_passes c ∙ ap (λ (i : ℕ). found.Code i (size_of c.code.code)) a ∙ ap (found.Code place) b)
+  pub find_found_exact : (place size : ℕ) → (finding_of p journal entries n ≡ Ok (record { place = place; length = size })) ↔ ((c : CodeFound) × (c.code.place ≡ place) × (size_of c.code.code ≡ size))
+  find_found_exact place size = (λ e. by e find_cases, λ (c, a, b). find_passes c ∙ ap (λ (i : ℕ). Ok (found_at i (size_of c.code.code))) a ∙ ap (λ (i : ℕ). Ok (found_at place i)) b)
     where
-      by : finding_of p journal entries n ≡ found.Code place size → ((why : Refusal) × FindSays p journal entries n why) ⊎ CodeFound
+      by : finding_of p journal entries n ≡ Ok (record { place = place; length = size }) → ((why : Refusal) × FindSays p journal entries n why) ⊎ CodeFound
           → (c : CodeFound) × (c.code.place ≡ place) × (size_of c.code.code ≡ size)
       by e (inl (other, h)) =
-          let q : found.Refused other ≡ found.Code place size = sym (find_says other h) ∙ e in
+          let q : ◌≡◌ {A = Result Found Refusal} (Err other) (Ok (record { place = place; length = size })) = sym (find_says other h) ∙ e in
           absurd (let z : ◌≡◌ {A = ℕ} 0 1 = cc in omega arith)
       by e (inr c) =
-          let q : found.Code c.code.place (size_of c.code.code) ≡ found.Code place size = sym (find_passes c) ∙ e in
-          let a : c.code.place ≡ place = cc in
-          let b : size_of c.code.code ≡ size = cc in
+          let q : ◌≡◌ {A = Result Found Refusal} (Ok (record { place = c.code.place; length = size_of c.code.code })) (Ok (record { place = place; length = size })) = sym (find_passes c) ∙ e in
+          let same : found_at c.code.place (size_of c.code.code) ≡ found_at place size = cc in
+          let a : c.code.place ≡ place = ap (λ (f : Found). f.place) same in
+          let b : size_of c.code.code ≡ size = ap (λ (f : Found). f.length) same in
           (c, a, b)
 
   -- BY A RIGHT INDEX finding answers the place and the length of code n of the whole reading, or 29 exactly if there is none.
   pub finds_whole : FindPasses p journal entries → Right (bytes_reader p) journal entries → finding_of p journal entries n ≡ found_or29 (code_number n (placed (bytes_reader p) journal))
   finds_whole ((g, h), s) right = find_given p journal entries n ((shape_exact p).1 g) h s ∙ ap found_or29 (find_right (bytes_reader p) journal entries right n)
 
-  found_none : (o : Option Placed) → found_or29 o ≡ found.Refused NoSuchCode → o ≡ none
+  found_none : (o : Option Placed) → found_or29 o ≡ Err NoSuchCode → o ≡ none
   found_none none e = refl
   found_none (some k) e = absurd (let z : ◌≡◌ {A = ℕ} 0 1 = cc in omega arith)
 
   -- By a right index, 29 exactly if the whole reading has at most n codes.
-  pub whole_has_none : FindPasses p journal entries → Right (bytes_reader p) journal entries → (finding_of p journal entries n ≡ found.Refused NoSuchCode) ↔ (length (placed (bytes_reader p) journal) ≤ n)
+  pub whole_has_none : FindPasses p journal entries → Right (bytes_reader p) journal entries → (finding_of p journal entries n ≡ Err NoSuchCode) ↔ (length (placed (bytes_reader p) journal) ≤ n)
   whole_has_none passes right = (
     λ e. (number_none n (placed (bytes_reader p) journal)).0 (found_none (code_number n (placed (bytes_reader p) journal)) (sym (finds_whole passes right) ∙ e)),
     λ h. finds_whole passes right ∙ ap found_or29 ((number_none n (placed (bytes_reader p) journal)).1 h),
@@ -171,12 +173,12 @@ module _ (p : CodePage) (journal : List ℕ) (former : ℕ) (entries : List ℕ)
       by (inl (inr h)) = inl (TooLong, h)
       by (inr h) = by_former h (leb former (length journal)) refl
 
-  given_refused : (o : Option Refusal) (blocks : ℕ) (after : List ℕ) (why : Refusal) → (append_unless o blocks entries after).answer ≡ appended.Refused why → o ≡ some why
+  given_refused : (o : Option Refusal) (blocks : ℕ) (after : List ℕ) (why : Refusal) → (append_unless o blocks entries after).answer ≡ Err why → o ≡ some why
   given_refused none blocks after why e = absurd (let z : ◌≡◌ {A = ℕ} 0 1 = cc in omega arith)
   given_refused (some other) blocks after why e = let same : other ≡ why = cc in ap (λ (w : Refusal). some w) same
 
   -- EACH REFUSAL OF APPENDING EXACTLY IN ITS CASE: 10, 11, 33, 28; the index is then as before.
-  pub append_refused_exact : (why : Refusal) → ((appending_of p journal former entries).answer ≡ appended.Refused why) ↔ AppendSays p journal former entries why
+  pub append_refused_exact : (why : Refusal) → ((appending_of p journal former entries).answer ≡ Err why) ↔ AppendSays p journal former entries why
   unfolding appending_of
   append_refused_exact why = (
     λ e. (refused_exact (AppendSays p journal former entries) (AppendPasses p journal former entries) (append_refusal p journal former entries) append_says append_passes append_cases why).0
@@ -185,25 +187,25 @@ module _ (p : CodePage) (journal : List ℕ) (former : ℕ) (entries : List ℕ)
   )
 
   -- a refused call leaves the index as it was
-  pub refused_untouched : (why : Refusal) → (appending_of p journal former entries).answer ≡ appended.Refused why → (appending_of p journal former entries).entries ≡ entries
+  pub refused_untouched : (why : Refusal) → (appending_of p journal former entries).answer ≡ Err why → (appending_of p journal former entries).entries ≡ entries
   unfolding appending_of
   refused_untouched why e =
       ap (λ (o : Option Refusal). (append_unless o (blocks_of (length journal)) entries (append_of (bytes_reader p) journal former entries)).entries)
       (given_refused (append_refusal p journal former entries) (blocks_of (length journal)) (append_of (bytes_reader p) journal former entries) why e)
 
-  given_entries : (o : Option Refusal) (blocks : ℕ) (after : List ℕ) (count : ℕ) → (append_unless o blocks entries after).answer ≡ appended.Entries count → (o ≡ none) × (count ≡ blocks)
+  given_entries : (o : Option Refusal) (blocks : ℕ) (after : List ℕ) (count : ℕ) → (append_unless o blocks entries after).answer ≡ Ok count → (o ≡ none) × (count ≡ blocks)
   given_entries none blocks after count e = (refl, cc)
   given_entries (some other) blocks after count e = absurd (let z : ◌≡◌ {A = ℕ} 0 1 = cc in omega arith)
 
   -- ACCEPTED EXACTLY if all checks pass; the answer is the number of the journal's blocks.
-  pub append_accepted_exact : (count : ℕ) → ((appending_of p journal former entries).answer ≡ appended.Entries count) ↔ (AppendPasses p journal former entries × (count ≡ blocks_of (length journal)))
+  pub append_accepted_exact : (count : ℕ) → ((appending_of p journal former entries).answer ≡ Ok count) ↔ (AppendPasses p journal former entries × (count ≡ blocks_of (length journal)))
   unfolding appending_of
   append_accepted_exact count = (
     λ e. let (o, c) = given_entries (append_refusal p journal former entries) (blocks_of (length journal)) (append_of (bytes_reader p) journal former entries) count e in (
       (passed_exact (AppendSays p journal former entries) (AppendPasses p journal former entries) (append_refusal p journal former entries) append_says append_passes append_cases).0 o,
       c,
     ),
-    λ (passes, c). rw (append_passes passes) (ap (λ (k : ℕ). appended.Entries k) (sym c)),
+    λ (passes, c). rw (append_passes passes) (ap (λ (k : ℕ). Ok k) (sym c)),
   )
 
   -- A RIGHT INDEX THAT IS LONG ENOUGH IS ACCEPTED.
@@ -220,6 +222,6 @@ module _ (p : CodePage) (journal : List ℕ) (former : ℕ) (entries : List ℕ)
 
   -- A RIGHT INDEX APPENDED TO: the call leaves the index of the journal made anew, and says how many entries it has.
   pub appends_anew : TextPasses p piece_limit (length journal) → former ≤ length journal → blocks_of (length journal) ≤ length entries → Right (bytes_reader p) (take former journal) entries
-      → ((appending_of p journal former entries).answer ≡ appended.Entries (blocks_of (length journal))) × Right (bytes_reader p) journal (appending_of p journal former entries).entries
+      → ((appending_of p journal former entries).answer ≡ Ok (blocks_of (length journal))) × Right (bytes_reader p) journal (appending_of p journal former entries).entries
   unfolding appending_of
   appends_anew h f s right = rw (append_passes (right_passes h f s right)) (refl, append_right (bytes_reader p) journal former entries f right s)

@@ -1,6 +1,7 @@
 -- 10 and 11 are met too; the rows meet 33, 28 and 29.
 use mathlib.Core.List.{List, []}
 use mathlib.Core.Path.{◌≡◌, refl}
+use Rattle.std.proofs.Common.{Err}
 use Prim.Native.Nat.{ℕ}
 use native.Mathlib.Omega.{arith}
 use lib.ListN.{length, replicate, length-replicate}
@@ -8,8 +9,6 @@ use Rattle.codepage.specs.CodePage.{CodePage}
 use Rattle.convert.specs.Sample.{sample_page}
 use Rattle.convert.proofs.SampleRows.{sample_good}
 use Rattle.charindex.specs.declared.Refusal.TheVariants.{BadShape, TooLong}
-use Rattle.charindex.specs.declared.Appended.TheVariants as appended
-use Rattle.charindex.specs.declared.Found.TheVariants as found
 use Rattle.charindex.specs.Calls.{appending_of, finding_of}
 use Rattle.charindex.proofs.AnswerLaws.{append_refused_exact, find_refused_exact}
 
@@ -27,11 +26,11 @@ unfolding long
 long_size = length-replicate {A = ℕ} 65537 0x41
 
 -- appending
-pub appends_refused : ((appending_of pageless [] 0 []).answer ≡ appended.Refused BadShape) × ((appending_of sample_page long 0 []).answer ≡ appended.Refused TooLong)
+pub appends_refused : ((appending_of pageless [] 0 []).answer ≡ Err BadShape) × ((appending_of sample_page long 0 []).answer ≡ Err TooLong)
 unfolding pageless
 appends_refused = ((append_refused_exact pageless [] 0 [] BadShape).1 (λ g. g.page refl), (append_refused_exact sample_page long 0 [] TooLong).1 (sample_good, omega (arith, long_size)))
 
 -- finding
-pub finds_refused : (finding_of pageless [] [] 0 ≡ found.Refused BadShape) × (finding_of sample_page long [] 0 ≡ found.Refused TooLong)
+pub finds_refused : (finding_of pageless [] [] 0 ≡ Err BadShape) × (finding_of sample_page long [] 0 ≡ Err TooLong)
 unfolding pageless
 finds_refused = ((find_refused_exact pageless [] [] 0 BadShape).1 (λ g. g.page refl), (find_refused_exact sample_page long [] 0 TooLong).1 (sample_good, omega (arith, long_size)))

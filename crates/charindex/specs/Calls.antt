@@ -1,5 +1,5 @@
 -- Document 02, CR 11: the two calls. One appends to the index, one finds a code by it.
-use Rattle.std.specs.Prelude.{Bool, true, List, ◌≡◌, ℕ, zero, suc, ◌*◌, leb, length}
+use Rattle.std.specs.Prelude.{Result, Ok, Err, Bool, true, List, ◌≡◌, ℕ, zero, suc, ◌*◌, leb, length}
 use Rattle.std.proofs.Math.Option.{Option, none, some}
 use Rattle.codepage.specs.CodePage.{CodePage, entry_at}
 use Rattle.codepage.specs.Reading.{size_of}
@@ -8,10 +8,7 @@ use Rattle.codepage_walk.specs.Walk.{Placed}
 use Rattle.codepage_walk.specs.Checks.{refuse_unless, text_checks, bytes_reader}
 use Rattle.charindex.specs.declared.Refusal.{Refusal}
 use Rattle.charindex.specs.declared.Refusal.TheVariants.{BadShape, TooLong, FormerTooLong, BadIndex, NoSuchCode}
-use Rattle.charindex.specs.declared.Appended.{Appended}
-use Rattle.charindex.specs.declared.Appended.TheVariants as appended
 use Rattle.charindex.specs.declared.Found.{Found}
-use Rattle.charindex.specs.declared.Found.TheVariants as found
 use Rattle.charindex.specs.Index.{count_of, blocks_of, append_of, find_of}
 
 -- The numbers of the refusals.
@@ -42,13 +39,13 @@ append_refusal p journal former entries =
 
 -- What appending gives: its answer, and the index after it.
 pub record Appending : Type 0 where
-  pub answer : Appended
+  pub answer : Result ℕ Refusal
   pub entries : List ℕ
 
 -- a refused call leaves the index as it was
 abbrev pub append_unless : Option Refusal → (blocks : ℕ) → (before after : List ℕ) → Appending
-append_unless none blocks before after = record { answer = appended.Entries blocks; entries = after }
-append_unless (some refusal) blocks before after = record { answer = appended.Refused refusal; entries = before }
+append_unless none blocks before after = record { answer = Ok blocks; entries = after }
+append_unless (some refusal) blocks before after = record { answer = Err refusal; entries = before }
 
 -- APPENDING.
 unfoldable pub appending_of : CodePage → (journal : List ℕ) → (former : ℕ) → (entries : List ℕ) → Appending
@@ -56,7 +53,7 @@ appending_of p journal former entries =
     append_unless (append_refusal p journal former entries) (blocks_of (length journal)) entries (append_of (bytes_reader p) journal former entries)
 
 -- The promise of appending: c is what the rules give, r what it returns, and the index after it.
-pub record AppendedAs (c : Appending) (r : Appended) (after : List ℕ) : Type 0 where
+pub record AppendedAs (c : Appending) (r : Result ℕ Refusal) (after : List ℕ) : Type 0 where
   pub answer : r ≡ c.answer
   pub lent : after ≡ c.entries
 
@@ -65,15 +62,15 @@ unfoldable pub find_refusal : CodePage → (journal entries : List ℕ) → Opti
 find_refusal p journal entries = text_checks BadShape TooLong p piece_limit (length journal) (refuse_unless BadIndex (long_enough journal entries) none)
 
 -- the place and the length of a code, or 29
-abbrev pub found_or29 : Option Placed → Found
-found_or29 none = found.Refused NoSuchCode
-found_or29 (some p) = found.Code p.place (size_of p.code)
+abbrev pub found_or29 : Option Placed → Result Found Refusal
+found_or29 none = Err NoSuchCode
+found_or29 (some p) = Ok (record { place = p.place; length = size_of p.code })
 
 -- what is found, unless a check fails
-abbrev pub find_unless : Option Refusal → Option Placed → Found
+abbrev pub find_unless : Option Refusal → Option Placed → Result Found Refusal
 find_unless none o = found_or29 o
-find_unless (some refusal) o = found.Refused refusal
+find_unless (some refusal) o = Err refusal
 
 -- FINDING.
-unfoldable pub finding_of : CodePage → (journal entries : List ℕ) → (n : ℕ) → Found
+unfoldable pub finding_of : CodePage → (journal entries : List ℕ) → (n : ℕ) → Result Found Refusal
 finding_of p journal entries n = find_unless (find_refusal p journal entries) (find_of (bytes_reader p) journal entries n)

@@ -1,10 +1,14 @@
 -- Definitions that the private functions' contracts cite, and that no promise does.
-use Rattle.std.specs.Prelude.{List, ◌++◌, ◌≡◌, ℕ, suc, ◌+◌, ◌-◌, ◌*◌, ◌≤◌, ◌<◌, length, take, drop}
+use Rattle.std.specs.Prelude.{Option as Maybe, Some, None, Result, Ok, Err, List, ◌++◌, ◌≡◌, ℕ, ◌+◌, ◌-◌, ◌*◌, ◌≤◌, ◌<◌, length, take, drop}
 use Rattle.std.proofs.Math.Option.{Option, none, some}
-use Rattle.codepage.specs.Reading.{Reader}
+use Rattle.codepage.specs.CodePage.{pick}
+use Rattle.codepage.specs.Reading.{Reader, size_of}
+use Rattle.codepage_walk.specs.Walk.{Placed}
 use Rattle.charindex.specs.declared.Start.{Start}
+use Rattle.charindex.specs.declared.Found.{Found}
+use Rattle.charindex.specs.declared.Refusal.{Refusal}
 use Rattle.charindex.specs.declared.Refusal.TheVariants.{BadIndex}
-use Rattle.charindex.specs.Index.{blocks_of, block_entry, codes_from, new_entries, append_of}
+use Rattle.charindex.specs.Index.{blocks_of, block_entry, codes_from, new_entries, start_after, append_of}
 use Rattle.codepage_walk.specs.Checks.{refuse_unless}
 use Rattle.charindex.specs.Calls.{counts_within, Appending, append_unless}
 
@@ -25,10 +29,19 @@ pub record Reached (r : Reader) (text : List ℕ) (from : Start) (to : ℕ) (s :
 unfoldable pub written_entries : Reader → (journal : List ℕ) → Start → (first : ℕ) → (entries : List ℕ) → List ℕ
 written_entries r journal s first entries = take first entries ++ (new_entries r journal s first ++ drop (blocks_of (length journal)) entries)
 
--- how many blocks there are up to and including a block
-abbrev pub blocks_to : Option ℕ → ℕ
-blocks_to none = 0
-blocks_to (some block) = suc block
+-- a block that was found, or none
+abbrev pub block_found : Option ℕ → Maybe ℕ
+block_found none = None
+block_found (some block) = Some block
+
+-- the place and the length of a code that was found, or none
+abbrev pub code_found : Option Placed → Maybe Found
+code_found none = None
+code_found (some p) = Some (record { place = p.place; length = size_of p.code })
+
+-- Where reading goes on behind the first blocks, unless the last one's entry counts more codes than bytes before it.
+unfoldable pub checked_start : (entries : List ℕ) → (blocks : ℕ) → Result Start Refusal
+checked_start entries blocks = pick (counts_within entries blocks) (Ok (start_after entries blocks)) (Err BadIndex)
 
 -- appending to an index that is long enough
 unfoldable pub going_on : Reader → (journal : List ℕ) → (former : ℕ) → (entries : List ℕ) → Appending

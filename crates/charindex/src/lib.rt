@@ -5,23 +5,23 @@
 // `append` extends the index after bytes were appended to the journal: from a former length of 0 it makes it anew. `find` answers the
 // place and the length of code n, from 0.
 //
-//     let appended = charindex::append(numbers, classes, singles, pairs, index, blocks, journal, former, entries);
-//     // Appended::Entries(count), or Appended::Refused(why): why.number()
-//     let found = charindex::find(numbers, classes, singles, pairs, index, blocks, journal, entries, n);
-//     // Found::Code(place, length), or Found::Refused(why)
+//     let appended = charindex::append(&tables, journal, former, entries);
+//     // Ok(count), or Err(why): why.number()
+//     let found = charindex::find(&tables, journal, entries, n);
+//     // Ok(Found { place, length }), or Err(why)
 
 #![tactic(auto)]
 
 ghost use Rattle.std.specs.Prelude.{◌≡◌, ◌*◌, ◌≤◌, length};
-ghost use Rattle.codepage.specs.CodePage.{code_page};
+ghost use Rattle.codepage.specs.CodePage.{page_of};
 ghost use Rattle.codepage.specs.Reading.{Reader};
 ghost use Rattle.convert.specs.Runs.{piece_limit};
 ghost use Rattle.codepage_walk.specs.Checks.{ForClasses};
 ghost use Rattle.charindex.specs.Index.{blocks_of, start_at, last_block, codes_from, code_number, find_of};
-ghost use Rattle.charindex.specs.Calls.{index_number, found_or29, appending_of, AppendedAs, finding_of};
-ghost use Rattle.charindex.specs.Steps.{Inside, Reached, written_entries, blocks_to, going_on};
+ghost use Rattle.charindex.specs.Calls.{index_number, appending_of, AppendedAs, finding_of};
+ghost use Rattle.charindex.specs.Steps.{Inside, Reached, written_entries, block_found, code_found, checked_start, going_on};
 
-use codepage::Numbers;
+use codepage::TableSet;
 use convert::Run;
 
 // Why a call is refused.
@@ -39,20 +39,11 @@ pub enum Refusal {
     NoSuchCode,
 }
 
-// What appending answers.
+// The place of a code that was found, and its length.
 #[derive(Clone, Copy)]
-pub enum Appended {
-    // The index has so many entries.
-    Entries(usize),
-    Refused(Refusal),
-}
-
-// What finding answers.
-#[derive(Clone, Copy)]
-pub enum Found {
-    // The place of the code and its length.
-    Code(usize, usize),
-    Refused(Refusal),
+pub struct Found {
+    pub place: usize,
+    pub length: usize,
 }
 
 impl Refusal {
@@ -103,13 +94,13 @@ fn read_to(classes: &[u8], text: &[u8], from: Start, to: usize) -> Start
     requires { (length classes.now ≡ 256) × Inside text.now from × (from.place ≤ to) × (to ≤ length text.now) × (length text.now ≤ piece_limit) }
     ensures { Inside text.now result × ForClasses classes.now (λ (reader : Reader). Reached reader text.now from to result) }
 {
-    let mut place = from.place;
-    let mut count = from.count;
-    while place < to {
-        place += codepage_walk::code_size(classes, text, place);
-        count += 1;
+    let mut at = from;
+    // Kept: where a code begins is known only once the code before it is read, so there is no range to go over.
+    while at.place < to {
+        at.place += codepage_walk::code_size(classes, text, at.place);
+        at.count += 1;
     }
-    Start { place, count }
+    at
 }
 
 // Writes the entries of the blocks from `first` on, reading on from a start.
@@ -118,142 +109,123 @@ fn write_entries(classes: &[u8], journal: &[u8], start: Start, first: usize, ent
     requires first_bound { (first ≤ blocks_of (length journal.now)) × (blocks_of (length journal.now) ≤ length entries.old) }
     ensures { ForClasses classes.now (λ (reader : Reader). entries.new ≡ written_entries reader journal.now start first entries.old) }
 {
-    let blocks = blocks_of(journal.len());
-    let mut place = start.place;
-    let mut count = start.count;
-    let mut block = first;
-    while block < blocks {
-        let at = read_to(classes, journal, Start { place, count }, 512 * block);
-        place = at.place;
-        count = at.count;
-        entries[block] = (2 * count + (place - 512 * block)) as u32;
-        block += 1;
+    let mut at = start;
+    for block in first..blocks_of(journal.len()) {
+        at = read_to(classes, journal, at, 512 * block);
+        entries[block] = (2 * at.count + (at.place - 512 * block)) as u32;
     }
 }
 
+// Where reading goes on behind the first blocks: at the last of them, by its entry; at the front, where there is none.
+fn start_after(entries: &[u32], blocks: usize) -> Result<Start, Refusal>
+    requires { (blocks ≤ length entries.now) × (blocks ≤ piece_limit) }
+    ensures { result ≡ checked_start entries.now blocks }
+{
+    if blocks == 0 {
+        return Ok(Start { place: 0, count: 0 });
+    }
+    let start = start_of(blocks - 1, entries[blocks - 1]);
+    if 512 * (blocks - 1) < start.count {
+        return Err(Refusal::BadIndex);
+    }
+    Ok(start)
+}
+
 // Appends to an index that has an entry for each block of the journal.
-fn append_entries(classes: &[u8], journal: &[u8], former: usize, entries: &mut [u32]) -> Appended
+fn append_entries(
+    classes: &[u8],
+    journal: &[u8],
+    former: usize,
+    entries: &mut [u32],
+) -> Result<usize, Refusal>
     requires { (length classes.now ≡ 256) × (former ≤ length journal.now) × (length journal.now ≤ piece_limit) × (blocks_of (length journal.now) ≤ length entries.old) }
     ensures { ForClasses classes.now (λ (reader : Reader). AppendedAs (going_on reader journal.now former entries.old) result entries.new) }
 {
     let first = blocks_of(former);
-    let all = blocks_of(journal.len());
-    if first == 0 {
-        write_entries(
-            classes,
-            journal,
-            Start { place: 0, count: 0 },
-            first,
-            entries,
-        );
-        return Appended::Entries(all);
-    }
-    let start = start_of(first - 1, entries[first - 1]);
-    if 512 * (first - 1) < start.count {
-        return Appended::Refused(Refusal::BadIndex);
-    }
+    let start = start_after(entries, first)?;
     write_entries(classes, journal, start, first, entries);
-    Appended::Entries(all)
+    Ok(blocks_of(journal.len()))
 }
 
 // Extends the index of a journal that had `former` bytes: goes on from the former last entry, and touches nothing before it and nothing
 // behind the new last.
 pub fn append(
-    numbers: Numbers,
-    classes: &[u8],
-    singles: &[u16],
-    pairs: &[u16],
-    index: &[u8],
-    blocks: &[u16],
+    tables: &TableSet,
     journal: &[u8],
     former: usize,
     entries: &mut [u32],
-) -> Appended
-    ensures { AppendedAs (appending_of (code_page numbers classes.now singles.now pairs.now index.now blocks.now) journal.now former entries.old) result entries.new }
+) -> Result<usize, Refusal>
+    ensures { AppendedAs (appending_of (page_of tables.now) journal.now former entries.old) result entries.new }
 {
-    if !codepage::shape::good_shape(numbers, classes, singles, pairs, index, blocks) {
-        return Appended::Refused(Refusal::BadShape);
+    if !codepage::shape::good_shape(tables) {
+        return Err(Refusal::BadShape);
     }
     if Run::PIECE_LIMIT < journal.len() {
-        return Appended::Refused(Refusal::TooLong);
+        return Err(Refusal::TooLong);
     }
     if journal.len() < former {
-        return Appended::Refused(Refusal::FormerTooLong);
+        return Err(Refusal::FormerTooLong);
     }
     if entries.len() < blocks_of(journal.len()) {
-        return Appended::Refused(Refusal::BadIndex);
+        return Err(Refusal::BadIndex);
     }
-    append_entries(classes, journal, former, entries)
+    append_entries(tables.classes, journal, former, entries)
 }
 
-// The number of blocks up to the last one whose entry counts at most n; 0 where there is none.
-fn last_block(entries: &[u32], n: u64, blocks: usize) -> usize
+// The last of the first blocks whose entry counts at most n.
+fn last_block(entries: &[u32], n: u64, blocks: usize) -> Option<usize>
     requires { blocks ≤ length entries.now }
-    ensures { result ≡ blocks_to (last_block entries.now n blocks) }
+    ensures { result ≡ block_found (last_block entries.now n blocks) }
 {
-    let mut block = blocks;
-    while 0 < block {
-        if ((entries[block - 1] / 2) as u64) <= n {
-            return block;
+    for block in (0..blocks).rev() {
+        if ((entries[block] / 2) as u64) <= n {
+            return Some(block);
         }
-        block -= 1;
     }
-    0
+    None
 }
 
 // The code before which so many others start, from a place on.
-fn code_after(classes: &[u8], journal: &[u8], from: usize, skipped: u64) -> Found
+fn code_after(classes: &[u8], journal: &[u8], from: usize, skipped: u64) -> Option<Found>
     requires { (length classes.now ≡ 256) × (from ≤ length journal.now) × (length journal.now ≤ piece_limit) }
-    ensures { ForClasses classes.now (λ (reader : Reader). result ≡ found_or29 (code_number skipped (codes_from reader journal.now from))) }
+    ensures { ForClasses classes.now (λ (reader : Reader). result ≡ code_found (code_number skipped (codes_from reader journal.now from))) }
 {
     let mut place = from;
-    let mut left = skipped;
-    while place < journal.len() {
-        let size = codepage_walk::code_size(classes, journal, place);
-        if left == 0 {
-            return Found::Code(place, size);
+    for _ in 0..skipped {
+        if journal.len() <= place {
+            return None;
         }
-        place += size;
-        left -= 1;
+        place += codepage_walk::code_size(classes, journal, place);
     }
-    Found::Refused(Refusal::NoSuchCode)
+    if journal.len() <= place {
+        return None;
+    }
+    let length = codepage_walk::code_size(classes, journal, place);
+    Some(Found { place, length })
 }
 
 // Finds code n by an index that has an entry for each block.
-fn find_code(classes: &[u8], journal: &[u8], entries: &[u32], n: u64) -> Found
+fn find_code(classes: &[u8], journal: &[u8], entries: &[u32], n: u64) -> Option<Found>
     requires { (length classes.now ≡ 256) × (length journal.now ≤ piece_limit) × (blocks_of (length journal.now) ≤ length entries.now) }
-    ensures { ForClasses classes.now (λ (reader : Reader). result ≡ found_or29 (find_of reader journal.now entries.now n)) }
+    ensures { ForClasses classes.now (λ (reader : Reader). result ≡ code_found (find_of reader journal.now entries.now n)) }
 {
-    let upto = last_block(entries, n, blocks_of(journal.len()));
-    if upto == 0 {
-        return Found::Refused(Refusal::NoSuchCode);
-    }
-    let start = start_of(upto - 1, entries[upto - 1]);
+    let block = last_block(entries, n, blocks_of(journal.len()))?;
+    let start = start_of(block, entries[block]);
     code_after(classes, journal, start.place, n - (start.count as u64))
 }
 
 // Finds code n of a journal, from 0, by its index: any numbers may be in it.
-pub fn find(
-    numbers: Numbers,
-    classes: &[u8],
-    singles: &[u16],
-    pairs: &[u16],
-    index: &[u8],
-    blocks: &[u16],
-    journal: &[u8],
-    entries: &[u32],
-    n: u64,
-) -> Found
-    ensures { result ≡ finding_of (code_page numbers classes.now singles.now pairs.now index.now blocks.now) journal.now entries.now n }
+pub fn find(tables: &TableSet, journal: &[u8], entries: &[u32], n: u64) -> Result<Found, Refusal>
+    ensures { result ≡ finding_of (page_of tables.now) journal.now entries.now n }
 {
-    if !codepage::shape::good_shape(numbers, classes, singles, pairs, index, blocks) {
-        return Found::Refused(Refusal::BadShape);
+    if !codepage::shape::good_shape(tables) {
+        return Err(Refusal::BadShape);
     }
     if Run::PIECE_LIMIT < journal.len() {
-        return Found::Refused(Refusal::TooLong);
+        return Err(Refusal::TooLong);
     }
     if entries.len() < blocks_of(journal.len()) {
-        return Found::Refused(Refusal::BadIndex);
+        return Err(Refusal::BadIndex);
     }
-    find_code(classes, journal, entries, n)
+    find_code(tables.classes, journal, entries, n).ok_or(Refusal::NoSuchCode)
 }

@@ -64,8 +64,8 @@ longer text more (e ∷ es) state buffer p q k a b going ok w =
     let here : drop q.position (text ++ more) ≡ e.block ++ (rest ++ more) =
     ap (λ (n : ℕ). drop n (text ++ more)) a ∙ drop-append-le p.position text more k.within ∙ ap (λ (l : List ℕ). l ++ more) ok.0.1 ∙ append_assoc e.block rest more in
     let later =
-    longer text more es e.outcome.state e.buffer (next_progress text p e) (next_progress (text ++ more) q e) (kept_call text state buffer p e rest k ok.0.1 ok.0.2 w.0)
-    (ap (λ (n : ℕ). n + read_by e.outcome.answer) a) (ap (λ (l : List Field). l ++ given_by e.outcome.answer e.part) b) going.1 ok.1 w.1 in
+    longer text more es e.state e.buffer (next_progress text p e) (next_progress (text ++ more) q e) (kept_call text state buffer p e rest k ok.0.1 ok.0.2 w.0)
+    (ap (λ (n : ℕ). n + read_by e.answer) a) (ap (λ (l : List Field). l ++ given_by e.answer e.part) b) going.1 ok.1 w.1 in
     (((rest ++ more, here, λ l. absurd (false≢true (sym going.0 ∙ l))), later.0), later.1)
 
 -- FOR THE IMPORT: the fields given on a beginning of a text by calls not marked last are the first of the whole text's.

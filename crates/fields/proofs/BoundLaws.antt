@@ -1,4 +1,5 @@
 -- Bounds of every call: what a caller's loop needs.
+use Rattle.std.proofs.Common.{Result, Ok, Err}
 use mathlib.Core.Bool.{Bool, true, false, ◌&&◌, false≢true}
 use mathlib.Core.List.{List, ◌∷◌}
 use mathlib.Core.Logic.{◌⊎◌, inl, inr}
@@ -15,7 +16,7 @@ use Rattle.fields.specs.declared.Place.{Place}
 use Rattle.fields.specs.declared.Place.TheVariants.{Buffer, Block}
 use Rattle.fields.specs.declared.Refusal.{Refusal}
 use Rattle.fields.specs.declared.Answer.{Answer}
-use Rattle.fields.specs.declared.Answer.TheVariants.{Field as FieldFound, Incomplete, Refused}
+use Rattle.fields.specs.declared.Answer.TheVariants.{Field as FieldFound, Incomplete}
 use Rattle.fields.specs.Fields.{field_units, separator_in, end_in, field_limit, field_refusal, read_with, over_from, found_call, held_call, refused_field_call, accepted_field_call, unless_field_refused, field_call, Bounded}
 use Rattle.fields.proofs.FieldLaws.{units_all, split}
 use Rattle.fields.proofs.EveryCutting.{accepted_fits, separator_read, or_cases}
@@ -43,7 +44,7 @@ module _ (held : ℕ) (buffer block : List ℕ) (last : Bool) where
 
   -- a field of `count` units, for which `read` units were read
   one_bounded : (end : End) (place : Place) (count read : ℕ) (after : List ℕ) → read ≤ length block → (0 < length block → 0 < read) → count ≤ field_limit
-      → Bounded held block (record { answer = FieldFound (record { end = end; place = place; count = count; read = read }); held = 0; buffer = after })
+      → Bounded held block (record { answer = Ok (FieldFound (record { end = end; place = place; count = count; read = read })); held = 0; buffer = after })
   one_bounded end place count read after a b fits =
       record {
         read_within = a;
@@ -52,10 +53,10 @@ module _ (held : ℕ) (buffer block : List ℕ) (last : Bool) where
         held_within = λ h. omega arith;
       }
     where
-      count_of : Answer → ℕ
-      count_of (FieldFound found) = found.count
-      count_of (Incomplete read) = 0
-      count_of (Refused why) = 0
+      count_of : Result Answer Refusal → ℕ
+      count_of (Ok (FieldFound found)) = found.count
+      count_of (Ok (Incomplete read)) = 0
+      count_of (Err why) = 0
 
   found_bounded : (end : End) → read_with end (length (field_units block)) ≤ length block → (0 < length block → 0 < read_with end (length (field_units block)))
       → held + length (field_units block) ≤ field_limit → Bounded held block (found_call held buffer (field_units block) end)
@@ -63,9 +64,9 @@ module _ (held : ℕ) (buffer block : List ℕ) (last : Bool) where
   found_bounded end a b fits = by (eqb held 0)
     where
       by : (t : Bool) → Bounded held block
-          (pick t (record { answer = FieldFound (record { end = end; place = Block; count = length (field_units block); read = read_with end (length (field_units block)) }); held = 0; buffer = buffer })
+          (pick t (record { answer = Ok (FieldFound (record { end = end; place = Block; count = length (field_units block); read = read_with end (length (field_units block)) })); held = 0; buffer = buffer })
           (record {
-            answer = FieldFound (record { end = end; place = Buffer; count = held + length (field_units block); read = read_with end (length (field_units block)) });
+            answer = Ok (FieldFound (record { end = end; place = Buffer; count = held + length (field_units block); read = read_with end (length (field_units block)) }));
             held = 0;
             buffer = over_from held buffer (field_units block);
           }))

@@ -1,15 +1,17 @@
 -- Laws of one call: the scan for a separator, the copy into the buffer, and the cases of a call.
+use Rattle.std.proofs.Common.{Result, Ok, Err, Some, None, cond, position, unwrap_or}
+use Rattle.std.specs.List.{position_or_len}
+use Rattle.std.proofs.lemmas.List.Recursion.{is_position_or_len}
+use borrow.Rule.Slice.PartMut.{put_mid}
 use mathlib.Core.Bool.{Bool, true, false, ◌||◌, ◌&&◌, true≢false, false≢true}
-use mathlib.Core.List.{List, [], ◌∷◌, ◌++◌, append_assoc}
+use mathlib.Core.List.{List, [], ◌∷◌}
 use mathlib.Core.Option.{Option, none, some}
 use mathlib.Core.Path.{◌≡◌, refl, sym, ap, ◌∙◌, subst}
 use Prim.Native.Nat.{ℕ, zero, suc, ◌+◌, ◌≤◌, ◌<◌, min}
-use native.Mathlib.Numerals.{add-one}
 use native.Mathlib.Omega.{arith}
 use lib.Dec.{eqb, ltb}
-use lib.ListN.{length, get_or, take, drop, length-take, drop_of_length-le}
-use lib.Seq.{paste, drop-cons, drop-drop, length-take-le}
-use borrow.Author.Tests.{le-leb, lt-leb, eq-eqb, ne_eqb}
+use lib.ListN.{length, get_or, take, length-take}
+use borrow.Author.Tests.{ltb-false, le-leb, lt-leb, eq-eqb, ne_eqb}
 use Rattle.codepage.specs.CodePage.{pick}
 use Rattle.codepage.specs.Lent.{over}
 use Rattle.convert.specs.Runs.{piece_limit}
@@ -18,9 +20,9 @@ use Rattle.fields.specs.declared.End.TheVariants.{Bar, LineFeed, Text}
 use Rattle.fields.specs.declared.Place.TheVariants.{Buffer, Block}
 use Rattle.fields.specs.declared.Refusal.{Refusal}
 use Rattle.fields.specs.declared.Refusal.TheVariants.{BufferTooShort, BlockTooLong, InvalidState, FieldTooLong}
-use Rattle.fields.specs.declared.Answer.TheVariants.{Field as FieldFound, Refused}
+use Rattle.fields.specs.declared.Answer.{Answer}
+use Rattle.fields.specs.declared.Answer.TheVariants.{Field as FieldFound}
 use Rattle.fields.specs.declared.Held.{Held}
-use Rattle.fields.specs.declared.Outcome.{Outcome}
 use Rattle.fields.specs.Fields.{field_limit, separator, units_before, field_units, either_end, separator_in, end_in, field_refusal, fresh_held, read_with, over_from, found_call, held_call, refused_field_call, field_call, FieldAnswered}
 use Rattle.fields.specs.Steps.{is_separator, separator_end}
 
@@ -43,50 +45,7 @@ is_separator_lem u e = by (eqb u 0x7C) (eqb u 0x0A) e
     by false true e = refl
     by false false e = absurd (false≢true e)
 
--- ---- the scan: the units passed are no separators
-module _ (block : List ℕ) (i : ℕ) (so_far : length (field_units block) ≡ i + length (field_units (drop i block))) where
-  -- a separator at the place: the field's units in the block end there
-  pub scan_stop : i < length block → is_separator (get_or block i 0) ≡ true → i ≡ length (field_units block)
-  unfolding field_units
-  scan_stop h e =
-      let here : length (field_units (drop i block)) ≡ 0 =
-      ap (λ (l : List ℕ). length (field_units l)) (drop-cons block i 0 h) ∙ ap (λ (o : Option End). length (units_before o (get_or block i 0 ∷ field_units (drop (suc i) block)))) (is_separator_lem _ e) in
-      omega arith
-
-  -- no separator at the place: the scan goes one unit on
-  pub scan_turn : i < length block → is_separator (get_or block i 0) ≡ false → length (field_units block) ≡ (i + 1) + length (field_units (drop (i + 1) block))
-  unfolding field_units
-  scan_turn h e =
-      let here : length (field_units (drop i block)) ≡ suc (length (field_units (drop (suc i) block))) =
-      ap (λ (l : List ℕ). length (field_units l)) (drop-cons block i 0 h) ∙ ap (λ (o : Option End). length (units_before o (get_or block i 0 ∷ field_units (drop (suc i) block)))) (no_separator _ e) in
-      rw (add-one i) (omega arith)
-
-  -- the end of the block: all of its units are the field's
-  pub scan_end : length block ≤ i → i ≡ length (field_units block)
-  unfolding field_units
-  scan_end h =
-      let here : length (field_units (drop i block)) ≡ 0 = ap (λ (l : List ℕ). length (field_units l)) (drop_of_length-le block h) in
-      omega arith
-
--- ---- the copy
--- the first units of a block, copied behind those held, are laid over the buffer there
-pub laid : (buffer : List ℕ) (held : ℕ) (block : List ℕ) (size : ℕ) → size ≤ length block → paste buffer held block size ≡ over_from held buffer (take size block)
-unfolding over_from over
-laid buffer held block size h =
-    append_assoc (take held buffer) (take size block) (drop (held + size) buffer)
-    ∙ ap (λ (r : List ℕ). take held buffer ++ (take size block ++ r))
-    (sym (drop-drop size held buffer) ∙ ap (λ (n : ℕ). drop n (drop held buffer)) (sym (length-take-le size block h)))
-
--- ---- what ends the next field
-separator_end_lem : (u : ℕ) (end : End) → separator u ≡ some end → end ≡ separator_end u
-unfolding separator
-separator_end_lem u end e = by (eqb u 0x7C) (eqb u 0x0A) e
-  where
-    by : (a b : Bool) → pick a (some Bar) (pick b (some LineFeed) none) ≡ some end → end ≡ pick a Bar LineFeed
-    by true b e = cc
-    by false true e = cc
-    by false false e = let z : ◌≡◌ {A = ℕ} 0 1 = cc in absurd (omega arith)
-
+-- ---- the units before a separator
 take_with : (u : ℕ) (block : List ℕ) (o : Option End) → take (length (field_units block)) block ≡ field_units block
     → take (length (units_before o (u ∷ field_units block))) (u ∷ block) ≡ units_before o (u ∷ field_units block)
 take_with u block none e = ap (λ (l : List ℕ). u ∷ l) e
@@ -97,6 +56,48 @@ pub units_taken : (block : List ℕ) → take (length (field_units block)) block
 unfolding field_units
 units_taken [] = refl
 units_taken (u ∷ block) = take_with u block (separator u) (units_taken block)
+
+-- the units before a separator are some of the block's
+pub units_fit : (block : List ℕ) → length (field_units block) ≤ length block
+units_fit block = let e : length (field_units block) ≡ min (length (field_units block)) (length block) = sym (ap length (units_taken block)) ∙ length-take _ block in omega arith
+
+-- ---- the scan
+-- the units before the first separator, as the library's `position` finds it
+pub scanned : (units : List ℕ) → length (field_units units) ≡ position_or_len is_separator units
+unfolding field_units
+scanned units = is_position_or_len (λ (l : List ℕ). length (field_units l)) is_separator refl one units
+  where
+    one : (u : ℕ) (l : List ℕ) → length (units_before (separator u) (u ∷ field_units l)) ≡ cond (is_separator u) 0 (1 + length (field_units l))
+    one u l = by (is_separator u) refl
+      where
+        by : (t : Bool) → is_separator u ≡ t → length (units_before (separator u) (u ∷ field_units l)) ≡ cond t 0 (1 + length (field_units l))
+        by true e = rw (is_separator_lem u e) refl
+        by false e = rw (no_separator u e) (omega arith)
+
+-- the place of the first separator, or the length where there is none
+pub scanned_size : (units : List ℕ) → unwrap_or (position is_separator units) (length units) ≡ length (field_units units)
+scanned_size units = by (ltb (position_or_len is_separator units) (length units)) refl
+  where
+    by : (t : Bool) → ltb (position_or_len is_separator units) (length units) ≡ t
+        → unwrap_or (cond t (Some (position_or_len is_separator units)) None) (length units) ≡ length (field_units units)
+    by true e = sym (scanned units)
+    by false e = omega (arith, ltb-false _ _ e, scanned units, units_fit units)
+
+-- ---- the copy
+-- units copied behind those held are laid over the buffer there
+pub laid : (buffer : List ℕ) (held size : ℕ) (units copied : List ℕ) → size ≡ length units → copied ≡ units → put_mid held size buffer copied ≡ over_from held buffer units
+unfolding over_from over
+laid buffer held size units copied n e = ap (λ (l : List ℕ). put_mid held size buffer l) e ∙ ap (λ (k : ℕ). put_mid held k buffer units) n
+
+-- ---- what ends the next field
+separator_end_lem : (u : ℕ) (end : End) → separator u ≡ some end → end ≡ separator_end u
+unfolding separator
+separator_end_lem u end e = by (eqb u 0x7C) (eqb u 0x0A) e
+  where
+    by : (a b : Bool) → pick a (some Bar) (pick b (some LineFeed) none) ≡ some end → end ≡ pick a Bar LineFeed
+    by true b e = cc
+    by false true e = cc
+    by false false e = let z : ◌≡◌ {A = ℕ} 0 1 = cc in absurd (omega arith)
 
 at_with : (u : ℕ) (block : List ℕ) (size : ℕ) (o : Option End) → separator u ≡ o → size ≡ length (units_before o (u ∷ field_units block)) → size < suc (length block)
     → ((n : ℕ) → n ≡ length (field_units block) → n < length block → separator_in block ≡ some (separator_end (get_or block n 0)))
@@ -126,28 +127,28 @@ module _ (held : ℕ) (buffer units : List ℕ) (end : End) (count read : ℕ) (
     (new : state ≡ fresh_held) where
   -- nothing was held: the field is shown from the block, and the buffer is as before
   pub found_here : held ≡ 0 → after ≡ buffer
-      → FieldAnswered (found_call held buffer units end) (record { answer = FieldFound (record { end = end; place = Block; count = count; read = read }); state = state }) after
+      → FieldAnswered (found_call held buffer units end) (Ok (FieldFound (record { end = end; place = Block; count = count; read = read }))) state after
   unfolding found_call
   found_here z e =
       simp (eq-eqb held 0 z)
       (record {
         answer =
-            ap (λ (n : ℕ). FieldFound (record { end = end; place = Block; count = count; read = n })) reads
-            ∙ ap (λ (n : ℕ). FieldFound (record { end = end; place = Block; count = n; read = read_with end n })) size;
+            ap (λ (n : ℕ). Ok (FieldFound (record { end = end; place = Block; count = count; read = n }))) reads
+            ∙ ap (λ (n : ℕ). Ok (FieldFound (record { end = end; place = Block; count = n; read = read_with end n }))) size;
         state = ap (λ (h : Held). h.count) new;
         buffer = e;
       })
 
   -- units were held: the field is completed behind them and shown from the buffer
   pub found_held : (held ≡ 0 → ⊥) → after ≡ over_from held buffer units
-      → FieldAnswered (found_call held buffer units end) (record { answer = FieldFound (record { end = end; place = Buffer; count = held + count; read = read }); state = state }) after
+      → FieldAnswered (found_call held buffer units end) (Ok (FieldFound (record { end = end; place = Buffer; count = held + count; read = read }))) state after
   unfolding found_call
   found_held z e =
       simp (ne_eqb held 0 z)
       (record {
         answer =
-            ap (λ (n : ℕ). FieldFound (record { end = end; place = Buffer; count = held + count; read = n })) reads
-            ∙ ap (λ (n : ℕ). FieldFound (record { end = end; place = Buffer; count = held + n; read = read_with end n })) size;
+            ap (λ (n : ℕ). Ok (FieldFound (record { end = end; place = Buffer; count = held + count; read = n }))) reads
+            ∙ ap (λ (n : ℕ). Ok (FieldFound (record { end = end; place = Buffer; count = held + n; read = read_with end n }))) size;
         state = ap (λ (h : Held). h.count) new;
         buffer = e;
       })
@@ -179,23 +180,22 @@ module _ (held : ℕ) (buffer block : List ℕ) (last : Bool) where
   accepted a b d f = simp (le-leb _ _ a, le-leb _ _ b, le-leb _ _ d, le-leb _ _ f)
 
   -- A refused call, with its refusal, the state it was handed and the buffer untouched, keeps the promise.
-  pub call_refused : (why : Refusal) (r : Outcome) → field_refusal held buffer block ≡ some why → (r.answer ≡ Refused why) × (r.state.count ≡ held)
-      → FieldAnswered (field_call held buffer block last) r buffer
+  pub call_refused : (why : Refusal) (s : Held) → s.count ≡ held → field_refusal held buffer block ≡ some why → FieldAnswered (field_call held buffer block last) (Err why) s buffer
   unfolding field_call refused_field_call
-  call_refused why r e w = rw e (record { answer = w.0; state = w.1; buffer = refl })
+  call_refused why s w e = rw e (record { answer = refl; state = w; buffer = refl })
 
   -- An accepted call in which something ends the field keeps the promise if it gave that field.
-  pub call_found : (size : ℕ) (end : End) (r : Outcome) (after : List ℕ) → field_refusal held buffer block ≡ none → end_in held block last ≡ some end → size ≡ length (field_units block)
-      → FieldAnswered (found_call held buffer (take size block) end) r after → FieldAnswered (field_call held buffer block last) r after
+  pub call_found : (size : ℕ) (end : End) (r : Result Answer Refusal) (s : Held) (after : List ℕ) → field_refusal held buffer block ≡ none → end_in held block last ≡ some end → size ≡ length (field_units block)
+      → FieldAnswered (found_call held buffer (take size block) end) r s after → FieldAnswered (field_call held buffer block last) r s after
   unfolding field_call
-  call_found size end r after e q n w =
-      rw (e, q) (subst (λ (l : List ℕ). FieldAnswered (found_call held buffer l end) r after) (ap (λ (k : ℕ). take k block) n ∙ units_taken block) w)
+  call_found size end r s after e q n w =
+      rw (e, q) (subst (λ (l : List ℕ). FieldAnswered (found_call held buffer l end) r s after) (ap (λ (k : ℕ). take k block) n ∙ units_taken block) w)
 
   -- An accepted call in which nothing ends the field keeps the promise if it held the block.
-  pub call_held : (r : Outcome) (after : List ℕ) → field_refusal held buffer block ≡ none → end_in held block last ≡ none
-      → FieldAnswered (held_call held buffer block) r after → FieldAnswered (field_call held buffer block last) r after
+  pub call_held : (r : Result Answer Refusal) (s : Held) (after : List ℕ) → field_refusal held buffer block ≡ none → end_in held block last ≡ none
+      → FieldAnswered (held_call held buffer block) r s after → FieldAnswered (field_call held buffer block last) r s after
   unfolding field_call
-  call_held r after e q w = rw (e, q) w
+  call_held r s after e q w = rw (e, q) w
 
   -- what ends the field: a separator, the text's end, or nothing
   pub end_separator : (size : ℕ) (end : End) → size ≡ length (field_units block) → size < length block → end ≡ separator_end (get_or block size 0) → end_in held block last ≡ some end
@@ -209,7 +209,3 @@ module _ (held : ℕ) (buffer block : List ℕ) (last : Bool) where
   end_other size t n h k e =
       let s : size ≡ length block = omega arith in
       rw (separator_none block (omega arith)) (ap (λ (m : ℕ). pick (last && ltb 0 (held + m)) (some Text) none) (sym s) ∙ ap (λ (b : Bool). pick b (some Text) none) (sym e))
-
--- the units before a separator are some of the block's
-pub units_fit : (block : List ℕ) → length (field_units block) ≤ length block
-units_fit block = let e : length (field_units block) ≡ min (length (field_units block)) (length block) = sym (ap length (units_taken block)) ∙ length-take _ block in omega arith

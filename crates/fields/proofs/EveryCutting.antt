@@ -1,4 +1,5 @@
 -- CR 1: one claim over every list of calls.
+use Rattle.std.proofs.Common.{Result, Ok, Err}
 use mathlib.Core.Bool.{Bool, true, false, ◌&&◌, ◌||◌, false≢true}
 use mathlib.Core.List.{List, [], ◌∷◌, ◌++◌, append_assoc, append-nil}
 use mathlib.Core.Logic.{◌⊎◌, inl, inr}
@@ -21,7 +22,7 @@ use Rattle.fields.specs.declared.Found.{Found}
 use Rattle.fields.specs.declared.Refusal.{Refusal}
 use Rattle.fields.specs.declared.Refusal.TheVariants.{BufferTooShort, BlockTooLong, InvalidState, FieldTooLong}
 use Rattle.fields.specs.declared.Answer.{Answer}
-use Rattle.fields.specs.declared.Answer.TheVariants.{Field as FieldFound, Incomplete, Refused}
+use Rattle.fields.specs.declared.Answer.TheVariants.{Field as FieldFound, Incomplete}
 use Rattle.fields.specs.declared.Held.{Held}
 use Rattle.fields.specs.Fields.{Field, fields_of, separator, field_units, either_end, separator_in, end_in, field_limit, field_refusal, fresh_held, FieldCalled, read_with, over_from, found_call, held_call, refused_field_call, accepted_field_call, unless_field_refused, field_call, part_of, is_field_accepted, read_by}
 use Rattle.fields.specs.Cuttings.{FieldEntry, Shown, EntryMeets, AllFieldsMeet, given_by, Progress, opened_cutting, next_progress, play_fields, FieldAllowed, AllFieldsAllowed, FieldTrace, Cut}
@@ -50,15 +51,15 @@ module _ (held : ℕ) (buffer units : List ℕ) (fits : held + length units ≤ 
 
 -- ---- one call
 -- what `field` shows of an answer
-abbrev pub shown_of : Answer → (buffer block : List ℕ) → List ℕ
-shown_of (FieldFound found) buffer block = part_of found buffer block
-shown_of (Incomplete read) buffer block = []
-shown_of (Refused why) buffer block = []
+abbrev pub shown_of : Result Answer Refusal → (buffer block : List ℕ) → List ℕ
+shown_of (Ok (FieldFound found)) buffer block = part_of found buffer block
+shown_of (Ok (Incomplete read)) buffer block = []
+shown_of (Err why) buffer block = []
 
 -- a call that found a field
 pub record FoundAs (c : FieldCalled) (buffer block units : List ℕ) (end : End) (read : ℕ) : Type 0 where
   pub found : Found
-  pub answer : c.answer ≡ FieldFound found
+  pub answer : c.answer ≡ Ok (FieldFound found)
   pub end_is : found.end ≡ end
   pub read_is : found.read ≡ read
   pub held_is : c.held ≡ 0
@@ -204,7 +205,7 @@ module _ (text : List ℕ) (held : ℕ) (buffer : List ℕ) (position : ℕ) (bl
         given = record { units = take held buffer ++ field_units block; end = end } ∷ [];
         read = n;
         is_given =
-            ap (λ (a : Answer). given_by a (shown_of a c.buffer block)) f.answer
+            ap (λ (a : Result Answer Refusal). given_by a (shown_of a c.buffer block)) f.answer
             ∙ ap (λ (l : List ℕ). record { units = l; end = f.found.end } ∷ []) f.part_is
             ∙ ap (λ (x : End). record { units = take held buffer ++ field_units block; end = x } ∷ []) f.end_is;
         is_read = ap read_by f.answer ∙ f.read_is;
@@ -284,10 +285,10 @@ pub kept_start : (text buffer : List ℕ) → Kept text fresh_held buffer opened
 unfolding separator_in
 kept_start text buffer = record { inside = omega arith; plain = refl; within = omega arith; left = refl; all = λ e. absurd (false≢true e) }
 
-shown_given : (a : Answer) (buffer block part : List ℕ) → Shown a buffer block part → given_by a part ≡ given_by a (shown_of a buffer block)
-shown_given (FieldFound found) buffer block part e = ap (λ (l : List ℕ). record { units = l; end = found.end } ∷ []) e
-shown_given (Incomplete read) buffer block part e = refl
-shown_given (Refused why) buffer block part e = refl
+shown_given : (a : Result Answer Refusal) (buffer block part : List ℕ) → Shown a buffer block part → given_by a part ≡ given_by a (shown_of a buffer block)
+shown_given (Ok (FieldFound found)) buffer block part e = ap (λ (l : List ℕ). record { units = l; end = found.end } ∷ []) e
+shown_given (Ok (Incomplete read)) buffer block part e = refl
+shown_given (Err why) buffer block part e = refl
 
 -- nothing is given behind all of them
 no_more : (fields given more others : List Field) → fields ≡ given → fields ≡ (given ++ more) ++ others → fields ≡ given ++ more
@@ -310,37 +311,37 @@ module _ (text : List ℕ) (state : Held) (buffer : List ℕ) (p : Progress) (e 
   went = goes text state.count buffer p.position e.block rest e.last k.inside k.plain here to_end
 
   -- what the program returned is what the call says
-  held_now : take e.outcome.state.count e.buffer ≡ take call.held call.buffer
+  held_now : take e.state.count e.buffer ≡ take call.held call.buffer
   held_now = ap (λ (n : ℕ). take n e.buffer) w.call.state ∙ ap (take call.held) w.call.buffer
 
-  read_now : read_by e.outcome.answer ≡ went.read
+  read_now : read_by e.answer ≡ went.read
   read_now = ap read_by w.call.answer ∙ went.is_read
 
-  given_now : given_by e.outcome.answer e.part ≡ went.given
+  given_now : given_by e.answer e.part ≡ went.given
   given_now =
-      shown_given e.outcome.answer e.buffer e.block e.part w.part
-      ∙ ap (λ (l : List ℕ). given_by e.outcome.answer (shown_of e.outcome.answer l e.block)) w.call.buffer
-      ∙ ap (λ (a : Answer). given_by a (shown_of a call.buffer e.block)) w.call.answer
+      shown_given e.answer e.buffer e.block e.part w.part
+      ∙ ap (λ (l : List ℕ). given_by e.answer (shown_of e.answer l e.block)) w.call.buffer
+      ∙ ap (λ (a : Result Answer Refusal). given_by a (shown_of a call.buffer e.block)) w.call.answer
       ∙ went.is_given
 
   -- what is left after the call
   abbrev later : List Field
-  later = fields_of (take e.outcome.state.count e.buffer ++ drop (p.position + read_by e.outcome.answer) text)
+  later = fields_of (take e.state.count e.buffer ++ drop (p.position + read_by e.answer) text)
 
   later_is : later ≡ fields_of (take call.held call.buffer ++ drop (p.position + went.read) text)
   later_is =
-      ap (λ (l : List ℕ). fields_of (l ++ drop (p.position + read_by e.outcome.answer) text)) held_now
+      ap (λ (l : List ℕ). fields_of (l ++ drop (p.position + read_by e.answer) text)) held_now
       ∙ ap (λ (n : ℕ). fields_of (take call.held call.buffer ++ drop (p.position + n) text)) read_now
 
-  left_now : fields_of text ≡ (p.given ++ given_by e.outcome.answer e.part) ++ later
+  left_now : fields_of text ≡ (p.given ++ given_by e.answer e.part) ++ later
   left_now =
       k.left
       ∙ ap (λ (l : List Field). p.given ++ l) went.left
       ∙ sym (append_assoc p.given went.given (fields_of (take call.held call.buffer ++ drop (p.position + went.read) text)))
       ∙ ap (λ (l : List Field). (p.given ++ l) ++ fields_of (take call.held call.buffer ++ drop (p.position + went.read) text)) (sym given_now)
-      ∙ ap (λ (l : List Field). (p.given ++ given_by e.outcome.answer e.part) ++ l) (sym later_is)
+      ∙ ap (λ (l : List Field). (p.given ++ given_by e.answer e.part) ++ l) (sym later_is)
 
-  all_now : is_field_accepted e.outcome.answer ≡ true → e.last ≡ true → p.position + read_by e.outcome.answer ≡ length text → later ≡ []
+  all_now : is_field_accepted e.answer ≡ true → e.last ≡ true → p.position + read_by e.answer ≡ length text → later ≡ []
   all_now a l n =
       later_is
       ∙ went.done (ap is_field_accepted (sym w.call.answer) ∙ a) l (drop_of_length-le text {i = p.position + went.read} (omega (arith, read_now)))
@@ -350,7 +351,7 @@ module _ (text : List ℕ) (state : Held) (buffer : List ℕ) (p : Progress) (e 
   kept_size = ap length w.call.buffer ∙ went.same_size
 
   -- An allowed call that meets the contracts keeps it: the fields are those given, and those of what is held and left.
-  pub kept_call : Kept text e.outcome.state e.buffer (next_progress text p e)
+  pub kept_call : Kept text e.state e.buffer (next_progress text p e)
   unfolding next_progress
   kept_call =
       record {
@@ -361,20 +362,20 @@ module _ (text : List ℕ) (state : Held) (buffer : List ℕ) (p : Progress) (e 
         all = λ f. by (or_true p.finished _ f);
       }
     where
-      by : (p.finished ≡ true) ⊎ ((is_field_accepted e.outcome.answer && (e.last && eqb (p.position + read_by e.outcome.answer) (length text))) ≡ true)
-          → fields_of text ≡ p.given ++ given_by e.outcome.answer e.part
+      by : (p.finished ≡ true) ⊎ ((is_field_accepted e.answer && (e.last && eqb (p.position + read_by e.answer) (length text))) ≡ true)
+          → fields_of text ≡ p.given ++ given_by e.answer e.part
       by (inl f) = no_more (fields_of text) p.given _ later (k.all f) left_now
       by (inr f) =
           let a = and_true _ _ f in
           let l = and_true _ _ a.1 in
-          left_now ∙ ap (λ (x : List Field). (p.given ++ given_by e.outcome.answer e.part) ++ x) (all_now a.0 l.0 (eqb-true _ _ l.1)) ∙ append-nil _
+          left_now ∙ ap (λ (x : List Field). (p.given ++ given_by e.answer e.part) ++ x) (all_now a.0 l.0 (eqb-true _ _ l.1)) ∙ append-nil _
 
 kept_list : (text : List ℕ) (es : List FieldEntry) (state : Held) (buffer : List ℕ) (p : Progress) → Kept text state buffer p → AllFieldsAllowed text p es → AllFieldsMeet state buffer es
     → (state' : Held) × (buffer' : List ℕ) × Kept text state' buffer' (play_fields text p es)
 unfolding AllFieldsAllowed FieldAllowed AllFieldsMeet play_fields
 kept_list text [] state buffer p k ok w = (state, buffer, k)
 kept_list text (e ∷ es) state buffer p k ok w =
-    kept_list text es e.outcome.state e.buffer (next_progress text p e) (kept_call text state buffer p e ok.0.0 k ok.0.1 ok.0.2 w.0) ok.1 w.1
+    kept_list text es e.state e.buffer (next_progress text p e) (kept_call text state buffer p e ok.0.0 k ok.0.1 ok.0.2 w.0) ok.1 w.1
 
 -- THE THEOREM: for every text, every buffer, every list of calls that the document allows, refused ones included, and every result
 -- that meets the contracts of the program's calls.

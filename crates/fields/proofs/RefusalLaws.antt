@@ -1,4 +1,5 @@
 -- Each answer of a call exactly in its case.
+use Rattle.std.proofs.Common.{Result, Ok, Err}
 use mathlib.Core.Bool.{Bool, true, false}
 use mathlib.Core.List.{List}
 use mathlib.Core.Logic.{◌↔◌, ◌⊎◌, inl, inr}
@@ -16,7 +17,7 @@ use Rattle.fields.specs.declared.Place.TheVariants.{Buffer, Block}
 use Rattle.fields.specs.declared.Refusal.{Refusal}
 use Rattle.fields.specs.declared.Refusal.TheVariants.{BufferTooShort, BlockTooLong, InvalidState, FieldTooLong}
 use Rattle.fields.specs.declared.Answer.{Answer}
-use Rattle.fields.specs.declared.Answer.TheVariants.{Field as FieldFound, Incomplete, Refused}
+use Rattle.fields.specs.declared.Answer.TheVariants.{Field as FieldFound, Incomplete}
 use Rattle.fields.specs.Fields.{field_units, end_in, field_limit, field_refusal, FieldCalled, read_with, found_call, held_call, refused_field_call, field_call}
 use Rattle.fields.proofs.CallLaws.{short, too_long, invalid, over_limit, accepted}
 
@@ -42,9 +43,9 @@ Says held buffer block FieldTooLong = StatePasses held buffer block × (field_li
 
 -- Each answer exactly in its case: a refusal is the first check that fails; no field is complete; the next field.
 pub record Answers (held : ℕ) (buffer block : List ℕ) (last : Bool) (c : FieldCalled) : Type 0 where
-  pub refused : (why : Refusal) → (c.answer ≡ Refused why) ↔ Says held buffer block why
-  pub incomplete : ((read : ℕ) × (c.answer ≡ Incomplete read)) ↔ (AllPass held buffer block × (end_in held block last ≡ none))
-  pub found : ((found : Found) × (c.answer ≡ FieldFound found)) ↔ (AllPass held buffer block × ((end : End) × (end_in held block last ≡ some end)))
+  pub refused : (why : Refusal) → (c.answer ≡ Err why) ↔ Says held buffer block why
+  pub incomplete : ((read : ℕ) × (c.answer ≡ Ok (Incomplete read))) ↔ (AllPass held buffer block × (end_in held block last ≡ none))
+  pub found : ((found : Found) × (c.answer ≡ Ok (FieldFound found))) ↔ (AllPass held buffer block × ((end : End) × (end_in held block last ≡ some end)))
 
 module _ (held : ℕ) (buffer block : List ℕ) where
   -- what holds is refused so
@@ -73,23 +74,23 @@ module _ (held : ℕ) (buffer block : List ℕ) where
     abbrev given : FieldCalled
     given = field_call held buffer block last
 
-    given_refused : (why : Refusal) → Says held buffer block why → given.answer ≡ Refused why
+    given_refused : (why : Refusal) → Says held buffer block why → given.answer ≡ Err why
     unfolding field_call refused_field_call
     given_refused why h = rw (is_refused why h)
 
-    given_held : AllPass held buffer block → end_in held block last ≡ none → given.answer ≡ Incomplete (length block)
+    given_held : AllPass held buffer block → end_in held block last ≡ none → given.answer ≡ Ok (Incomplete (length block))
     unfolding field_call held_call
     given_held h e = rw (passes h, e)
 
-    found_answer : (end : End) → (found : Found) × ((found_call held buffer (field_units block) end).answer ≡ FieldFound found)
+    found_answer : (end : End) → (found : Found) × ((found_call held buffer (field_units block) end).answer ≡ Ok (FieldFound found))
     unfolding found_call
     found_answer end = by (eqb held 0) refl
       where
-        by : (t : Bool) → eqb held 0 ≡ t → (found : Found) × ((found_call held buffer (field_units block) end).answer ≡ FieldFound found)
+        by : (t : Bool) → eqb held 0 ≡ t → (found : Found) × ((found_call held buffer (field_units block) end).answer ≡ Ok (FieldFound found))
         by true q = (record { end = end; place = Block; count = length (field_units block); read = read_with end (length (field_units block)) }, rw q)
         by false q = (record { end = end; place = Buffer; count = held + length (field_units block); read = read_with end (length (field_units block)) }, rw q)
 
-    given_found : AllPass held buffer block → (end : End) → end_in held block last ≡ some end → (found : Found) × (given.answer ≡ FieldFound found)
+    given_found : AllPass held buffer block → (end : End) → end_in held block last ≡ some end → (found : Found) × (given.answer ≡ Ok (FieldFound found))
     unfolding field_call
     given_found h end e = let (found, q) = found_answer end in (found, rw (passes h, e) q)
 
@@ -108,13 +109,13 @@ module _ (held : ℕ) (buffer block : List ℕ) where
         by_case (inl w) = inl w
         by_case (inr h) = by_end h (end_in held block last) refl
 
-    apart : (a b : Answer) → given.answer ≡ a → given.answer ≡ b → a ≡ b
+    apart : (a b : Result Answer Refusal) → given.answer ≡ a → given.answer ≡ b → a ≡ b
     apart a b p q = sym p ∙ q
 
-    refused_says : (why : Refusal) → given.answer ≡ Refused why → Ending → Says held buffer block why
+    refused_says : (why : Refusal) → given.answer ≡ Err why → Ending → Says held buffer block why
     refused_says why e (inl (other, h)) = let same : other ≡ why = refusals_same (apart _ _ (given_refused other h) e) in subst_says same h
       where
-        refusals_same : {a b : Refusal} → Refused a ≡ Refused b → a ≡ b
+        refusals_same : {a b : Refusal} → ◌≡◌ {A = Result Answer Refusal} (Err a) (Err b) → a ≡ b
         refusals_same q = cc
 
         subst_says : {a b : Refusal} → a ≡ b → Says held buffer block a → Says held buffer block b
@@ -122,12 +123,12 @@ module _ (held : ℕ) (buffer block : List ℕ) where
     refused_says why e (inr (inl (h, n))) = let q = apart _ _ (given_held h n) e in let z : ◌≡◌ {A = ℕ} 0 1 = cc in absurd (omega arith)
     refused_says why e (inr (inr (h, (end, n)))) = let (found, f) = given_found h end n in let q = apart _ _ f e in let z : ◌≡◌ {A = ℕ} 0 1 = cc in absurd (omega arith)
 
-    incomplete_says : (read : ℕ) → given.answer ≡ Incomplete read → Ending → AllPass held buffer block × (end_in held block last ≡ none)
+    incomplete_says : (read : ℕ) → given.answer ≡ Ok (Incomplete read) → Ending → AllPass held buffer block × (end_in held block last ≡ none)
     incomplete_says read e (inl (other, h)) = let q = apart _ _ (given_refused other h) e in let z : ◌≡◌ {A = ℕ} 0 1 = cc in absurd (omega arith)
     incomplete_says read e (inr (inl h)) = h
     incomplete_says read e (inr (inr (h, (end, n)))) = let (found, f) = given_found h end n in let q = apart _ _ f e in let z : ◌≡◌ {A = ℕ} 0 1 = cc in absurd (omega arith)
 
-    found_says : (found : Found) → given.answer ≡ FieldFound found → Ending → AllPass held buffer block × ((end : End) × (end_in held block last ≡ some end))
+    found_says : (found : Found) → given.answer ≡ Ok (FieldFound found) → Ending → AllPass held buffer block × ((end : End) × (end_in held block last ≡ some end))
     found_says found e (inl (other, h)) = let q = apart _ _ (given_refused other h) e in let z : ◌≡◌ {A = ℕ} 0 1 = cc in absurd (omega arith)
     found_says found e (inr (inl (h, n))) = let q = apart _ _ (given_held h n) e in let z : ◌≡◌ {A = ℕ} 0 1 = cc in absurd (omega arith)
     found_says found e (inr (inr h)) = h

@@ -1,5 +1,6 @@
 -- The claim over lists is about something: every call has a result, a text within the limit is never refused, a list of calls
 -- gives all its fields, and each refusal is met.
+use Rattle.std.proofs.Common.{Result, Ok, Err}
 use mathlib.Core.Bool.{Bool, true, false, ◌||◌, false≢true}
 use mathlib.Core.List.{List, [], ◌∷◌, ◌++◌, append_assoc}
 use mathlib.Core.Option.{Option, none, some}
@@ -17,7 +18,7 @@ use Rattle.fields.specs.declared.End.TheVariants.{Text}
 use Rattle.fields.specs.declared.Refusal.{Refusal}
 use Rattle.fields.specs.declared.Refusal.TheVariants.{BufferTooShort, BlockTooLong, InvalidState, FieldTooLong}
 use Rattle.fields.specs.declared.Answer.{Answer}
-use Rattle.fields.specs.declared.Answer.TheVariants.{Field as FieldFound, Incomplete, Refused}
+use Rattle.fields.specs.declared.Answer.TheVariants.{Field as FieldFound, Incomplete}
 use Rattle.fields.specs.declared.Held.{Held}
 use Rattle.fields.specs.Fields.{Field, separator, prepend, fields_of, units_before, field_units, either_end, separator_in, end_in, field_limit, AllWithin, fresh_held, field_refusal, FieldCalled, read_with, found_call, held_call, refused_field_call, accepted_field_call, field_call, is_field_accepted, read_by}
 use Rattle.fields.specs.Cuttings.{FieldEntry, Shown, EntryMeets, AllFieldsMeet, Progress, opened_cutting, next_progress, play_fields, FieldAllowed, AllFieldsAllowed, FieldTrace, NoneRefused}
@@ -27,17 +28,18 @@ use Rattle.fields.proofs.CallLaws.{units_taken, short, too_long, invalid, over_l
 use Rattle.fields.proofs.EveryCutting.{drop_past, shown_of, separator_read, Kept, kept_start, kept_call, kept_size, every_cutting}
 
 -- ---- every call has a result
-shown_self : (a : Answer) (buffer block : List ℕ) → Shown a buffer block (shown_of a buffer block)
-shown_self (FieldFound found) buffer block = refl
-shown_self (Incomplete read) buffer block = tt
-shown_self (Refused why) buffer block = tt
+shown_self : (a : Result Answer Refusal) (buffer block : List ℕ) → Shown a buffer block (shown_of a buffer block)
+shown_self (Ok (FieldFound found)) buffer block = refl
+shown_self (Ok (Incomplete read)) buffer block = tt
+shown_self (Err why) buffer block = tt
 
 answering : Held → (buffer block : List ℕ) → (last : Bool) → FieldEntry
 answering state buffer block last =
     record {
       block = block;
       last = last;
-      outcome = record { answer = (field_call state.count buffer block last).answer; state = record { count = (field_call state.count buffer block last).held } };
+      answer = (field_call state.count buffer block last).answer;
+      state = record { count = (field_call state.count buffer block last).held };
       buffer = (field_call state.count buffer block last).buffer;
       part = shown_of (field_call state.count buffer block last).answer (field_call state.count buffer block last).buffer block;
     }
@@ -151,7 +153,7 @@ none_refused text [] state buffer p k within room ok w = tt
 none_refused text (e ∷ es) state buffer p k within room ok w = (
   λ h. ap is_field_accepted w.0.call.answer
       ∙ call_accepted state.count buffer e.block e.last (accepted_here text state buffer p e.block ok.0.0 k ok.0.1 within room h),
-  none_refused text es e.outcome.state e.buffer (next_progress text p e) (kept_call text state buffer p e ok.0.0 k ok.0.1 ok.0.2 w.0) within
+  none_refused text es e.state e.buffer (next_progress text p e) (kept_call text state buffer p e ok.0.0 k ok.0.1 ok.0.2 w.0) within
       (omega (arith, kept_size text state buffer p e ok.0.0 k ok.0.1 ok.0.2 w.0)) ok.1 w.1,
 )
 
@@ -179,10 +181,10 @@ one_by_one (u ∷ left) text state buffer p k here within room =
     let ok = accepted_here text state buffer p (u ∷ []) left k here within room (omega arith) in
     let e = answering state buffer (u ∷ []) false in
     let met = answering_meets state buffer (u ∷ []) false in
-    let past : drop (p.position + read_by e.outcome.answer) text ≡ left =
+    let past : drop (p.position + read_by e.answer) text ≡ left =
     ap (λ (n : ℕ). drop (p.position + n) text) (one_read state.count buffer u ok) ∙ drop_past p.position text (u ∷ []) left here in
     let later =
-    one_by_one left text e.outcome.state e.buffer (next_progress text p e) (kept_call text state buffer p e left k here (λ q. absurd (false≢true q)) met) past within
+    one_by_one left text e.state e.buffer (next_progress text p e) (kept_call text state buffer p e left k here (λ q. absurd (false≢true q)) met) past within
     (omega (arith, kept_size text state buffer p e left k here (λ q. absurd (false≢true q)) met)) in
     (e ∷ later.0, ((left, here, λ q. absurd (false≢true q)), later.1), (met, later.2), later.3)
 
@@ -194,7 +196,7 @@ all_given text buffer within room =
     (es, t, (every_cutting text buffer es t).all_of_them finished)
 
 -- ---- each refusal is met
-refused_with : (held : ℕ) (buffer block : List ℕ) (why : Refusal) → field_refusal held buffer block ≡ some why → (field_call held buffer block false).answer ≡ Refused why
+refused_with : (held : ℕ) (buffer block : List ℕ) (why : Refusal) → field_refusal held buffer block ≡ some why → (field_call held buffer block false).answer ≡ Err why
 unfolding field_call refused_field_call
 refused_with held buffer block why e = rw e
 
@@ -205,7 +207,7 @@ room : length buffer ≡ 256
 unfolding buffer
 room = length-replicate {A = ℕ} 256 0
 
-pub every_refusal : (why : Refusal) → (held : ℕ) × (buffer : List ℕ) × (block : List ℕ) × ((field_call held buffer block false).answer ≡ Refused why)
+pub every_refusal : (why : Refusal) → (held : ℕ) × (buffer : List ℕ) × (block : List ℕ) × ((field_call held buffer block false).answer ≡ Err why)
 unfolding field_units separator
 every_refusal BufferTooShort = (0, [], [], refused_with 0 [] [] BufferTooShort (short 0 [] [] false (omega arith)))
 every_refusal BlockTooLong = (0, buffer, block, refused_with 0 buffer block BlockTooLong (too_long 0 buffer block false (omega (arith, room)) (omega (arith, long))))

@@ -1,42 +1,43 @@
 -- Document 02, CR 1: lists of calls on one text, and the one claim over every list. docs/RULES.md, "Fields".
-use Rattle.std.specs.Prelude.{Bool, true, false, ◌&&◌, ◌||◌, List, [], ◌∷◌, ◌++◌, ◌≡◌, ℕ, ◌+◌, ◌≤◌, eqb, length, drop}
+use Rattle.std.specs.Prelude.{Result, Ok, Err, Bool, true, false, ◌&&◌, ◌||◌, List, [], ◌∷◌, ◌++◌, ◌≡◌, ℕ, ◌+◌, ◌≤◌, eqb, length, drop}
 use Rattle.convert.specs.Runs.{piece_limit}
+use Rattle.fields.specs.declared.Refusal.{Refusal}
 use Rattle.fields.specs.declared.Answer.{Answer}
-use Rattle.fields.specs.declared.Answer.TheVariants.{Field as FieldFound, Incomplete, Refused}
+use Rattle.fields.specs.declared.Answer.TheVariants.{Field as FieldFound, Incomplete}
 use Rattle.fields.specs.declared.Held.{Held}
-use Rattle.fields.specs.declared.Outcome.{Outcome}
 use Rattle.fields.specs.Fields.{Field, fields_of, fresh_held, field_call, FieldAnswered, is_field_accepted, read_by, part_of}
 
--- A call of a list and what the program returned: what `next_field` answered, the buffer after it, and what `field` returned for
--- a field that was found.
+-- A call of a list and what the program returned: what `next_field` answered, the state and the buffer after it, and what `field`
+-- returned for a field that was found.
 pub record FieldEntry : Type 0 where
   pub block : List ℕ
   pub last : Bool
-  pub outcome : Outcome
+  pub answer : Result Answer Refusal
+  pub state : Held
   pub buffer : List ℕ
   pub part : List ℕ
 
 -- The contract of `field`, which is called for a field that was found.
-abbrev pub Shown : Answer → (buffer block part : List ℕ) → Type 0
-Shown (FieldFound found) buffer block part = part ≡ part_of found buffer block
-Shown (Incomplete read) buffer block part = Unit {0}
-Shown (Refused refusal) buffer block part = Unit {0}
+abbrev pub Shown : Result Answer Refusal → (buffer block part : List ℕ) → Type 0
+Shown (Ok (FieldFound found)) buffer block part = part ≡ part_of found buffer block
+Shown (Ok (Incomplete read)) buffer block part = Unit {0}
+Shown (Err refusal) buffer block part = Unit {0}
 
 -- The contracts of the program, for the state and the buffer before the call: the definitions that they cite, and nothing else.
 pub record EntryMeets (state : Held) (buffer : List ℕ) (e : FieldEntry) : Type 0 where
-  pub call : FieldAnswered (field_call state.count buffer e.block e.last) e.outcome e.buffer
-  pub part : Shown e.outcome.answer e.buffer e.block e.part
+  pub call : FieldAnswered (field_call state.count buffer e.block e.last) e.answer e.state e.buffer
+  pub part : Shown e.answer e.buffer e.block e.part
 
 -- Each call gets state and buffer as the call before left them, and its results meet the contracts.
 unfoldable pub AllFieldsMeet : Held → (buffer : List ℕ) → List FieldEntry → Type 0
 AllFieldsMeet state buffer [] = Unit {0}
-AllFieldsMeet state buffer (e ∷ es) = EntryMeets state buffer e × AllFieldsMeet e.outcome.state e.buffer es
+AllFieldsMeet state buffer (e ∷ es) = EntryMeets state buffer e × AllFieldsMeet e.state e.buffer es
 
 -- the field that a call gave, with what ended it, or none
-abbrev pub given_by : Answer → (part : List ℕ) → List Field
-given_by (FieldFound found) part = record { units = part; end = found.end } ∷ []
-given_by (Incomplete read) part = []
-given_by (Refused refusal) part = []
+abbrev pub given_by : Result Answer Refusal → (part : List ℕ) → List Field
+given_by (Ok (FieldFound found)) part = record { units = part; end = found.end } ∷ []
+given_by (Ok (Incomplete read)) part = []
+given_by (Err refusal) part = []
 
 -- How far a list is: the units read, the fields given, and whether an accepted call marked last has left nothing unread.
 pub record Progress : Type 0 where
@@ -52,9 +53,9 @@ opened_cutting = record { position = 0; given = []; finished = false }
 unfoldable pub next_progress : (text : List ℕ) → Progress → FieldEntry → Progress
 next_progress text p e =
     record {
-      position = p.position + read_by e.outcome.answer;
-      given = p.given ++ given_by e.outcome.answer e.part;
-      finished = p.finished || (is_field_accepted e.outcome.answer && (e.last && eqb (p.position + read_by e.outcome.answer) (length text)));
+      position = p.position + read_by e.answer;
+      given = p.given ++ given_by e.answer e.part;
+      finished = p.finished || (is_field_accepted e.answer && (e.last && eqb (p.position + read_by e.answer) (length text)));
     }
 
 -- how far a list is after all of its calls
@@ -91,4 +92,4 @@ NoneLast (e ∷ es) = (e.last ≡ false) × NoneLast es
 -- no call on a block within the limit is refused
 unfoldable pub NoneRefused : List FieldEntry → Type 0
 NoneRefused [] = Unit {0}
-NoneRefused (e ∷ es) = (length e.block ≤ piece_limit → is_field_accepted e.outcome.answer ≡ true) × NoneRefused es
+NoneRefused (e ∷ es) = (length e.block ≤ piece_limit → is_field_accepted e.answer ≡ true) × NoneRefused es

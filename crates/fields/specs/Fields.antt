@@ -1,5 +1,5 @@
 -- Document 02, CR 1: the fields of a text, and one call that gives the next field. docs/RULES.md, "Fields".
-use Rattle.std.specs.Prelude.{Bool, true, false, ◌&&◌, List, [], ◌∷◌, ◌++◌, ◌≡◌, ℕ, ◌+◌, ◌≤◌, ◌<◌, leb, ltb, eqb, length, take, drop}
+use Rattle.std.specs.Prelude.{Result, Ok, Err, Bool, true, false, ◌&&◌, List, [], ◌∷◌, ◌++◌, ◌≡◌, ℕ, ◌+◌, ◌≤◌, ◌<◌, leb, ltb, eqb, length, take, drop}
 use Rattle.std.proofs.Math.Option.{Option, none, some}
 use Rattle.std.specs.Borrow.{Bor}
 use Rattle.codepage.specs.CodePage.{pick}
@@ -14,9 +14,8 @@ use Rattle.fields.specs.declared.Found.{Found}
 use Rattle.fields.specs.declared.Refusal.{Refusal}
 use Rattle.fields.specs.declared.Refusal.TheVariants.{BufferTooShort, BlockTooLong, InvalidState, FieldTooLong}
 use Rattle.fields.specs.declared.Answer.{Answer}
-use Rattle.fields.specs.declared.Answer.TheVariants.{Field as FieldFound, Incomplete, Refused}
+use Rattle.fields.specs.declared.Answer.TheVariants.{Field as FieldFound, Incomplete}
 use Rattle.fields.specs.declared.Held.{Held}
-use Rattle.fields.specs.declared.Outcome.{Outcome}
 
 -- The separators: bar 007C, line feed 000A.
 unfoldable pub separator : (unit : ℕ) → Option End
@@ -109,7 +108,7 @@ field_refusal held buffer block =
 
 -- What a call gives: its answer, the units held after it, and the buffer after it.
 pub record FieldCalled : Type 0 where
-  pub answer : Answer
+  pub answer : Result Answer Refusal
   pub held : ℕ
   pub buffer : List ℕ
 
@@ -127,20 +126,20 @@ read_with Text count = count
 unfoldable pub found_call : (held : ℕ) → (buffer units : List ℕ) → End → FieldCalled
 found_call held buffer units end =
     pick (eqb held 0)
-    (record { answer = FieldFound (record { end = end; place = Block; count = length units; read = read_with end (length units) }); held = 0; buffer = buffer })
+    (record { answer = Ok (FieldFound (record { end = end; place = Block; count = length units; read = read_with end (length units) })); held = 0; buffer = buffer })
     (record {
-      answer = FieldFound (record { end = end; place = Buffer; count = held + length units; read = read_with end (length units) });
+      answer = Ok (FieldFound (record { end = end; place = Buffer; count = held + length units; read = read_with end (length units) }));
       held = 0;
       buffer = over_from held buffer units;
     })
 
 -- No field is complete: the whole block is read and held.
 unfoldable pub held_call : (held : ℕ) → (buffer block : List ℕ) → FieldCalled
-held_call held buffer block = record { answer = Incomplete (length block); held = held + length block; buffer = over_from held buffer block }
+held_call held buffer block = record { answer = Ok (Incomplete (length block)); held = held + length block; buffer = over_from held buffer block }
 
 -- A refused call changes neither the units held nor the buffer.
 unfoldable pub refused_field_call : (held : ℕ) → (buffer : List ℕ) → Refusal → FieldCalled
-refused_field_call held buffer why = record { answer = Refused why; held = held; buffer = buffer }
+refused_field_call held buffer why = record { answer = Err why; held = held; buffer = buffer }
 
 -- an accepted call: the field, if something ends it, or the block held
 abbrev pub accepted_field_call : (held : ℕ) → (buffer block : List ℕ) → Option End → FieldCalled
@@ -156,30 +155,30 @@ unless_field_refused held buffer (some why) call = refused_field_call held buffe
 unfoldable pub field_call : (held : ℕ) → (buffer block : List ℕ) → (last : Bool) → FieldCalled
 field_call held buffer block last = unless_field_refused held buffer (field_refusal held buffer block) (accepted_field_call held buffer block (end_in held block last))
 
--- The promise of a call: c is what the rules give, r what it returns, and the buffer after it.
-pub record FieldAnswered (c : FieldCalled) (r : Outcome) (after : List ℕ) : Type 0 where
-  pub answer : r.answer ≡ c.answer
-  pub state : r.state.count ≡ c.held
+-- The promise of a call: c is what the rules give, r what it returns, and the state and the buffer after it.
+pub record FieldAnswered (c : FieldCalled) (r : Result Answer Refusal) (s : Held) (after : List ℕ) : Type 0 where
+  pub answer : r ≡ c.answer
+  pub state : s.count ≡ c.held
   pub buffer : after ≡ c.buffer
 
 -- whether a call was accepted
-abbrev pub is_field_accepted : Answer → Bool
-is_field_accepted (FieldFound found) = true
-is_field_accepted (Incomplete read) = true
-is_field_accepted (Refused why) = false
+abbrev pub is_field_accepted : Result Answer Refusal → Bool
+is_field_accepted (Ok (FieldFound found)) = true
+is_field_accepted (Ok (Incomplete read)) = true
+is_field_accepted (Err why) = false
 
 -- the units of the block that a call read
-abbrev pub read_by : Answer → ℕ
-read_by (FieldFound found) = found.read
-read_by (Incomplete read) = read
-read_by (Refused why) = 0
+abbrev pub read_by : Result Answer Refusal → ℕ
+read_by (Ok (FieldFound found)) = found.read
+read_by (Ok (Incomplete read)) = read
+read_by (Err why) = 0
 
 -- What holds of every call: it reads units of the block, and, if it is accepted, at least one of a block that has any; a field and
 -- the units held are within the limit.
 pub record Bounded (held : ℕ) (block : List ℕ) (c : FieldCalled) : Type 0 where
   pub read_within : read_by c.answer ≤ length block
   pub reads_some : is_field_accepted c.answer ≡ true → 0 < length block → 0 < read_by c.answer
-  pub count_within : (found : Found) → c.answer ≡ FieldFound found → found.count ≤ field_limit
+  pub count_within : (found : Found) → c.answer ≡ Ok (FieldFound found) → found.count ≤ field_limit
   pub held_within : held ≤ field_limit → c.held ≤ field_limit
 
 -- ---- the field that was found

@@ -4,14 +4,14 @@
 // In the order of use: `Held::fresh` is the state before the first block; `next_field` gives the next field of a block and what ended
 // it, or holds the block; `field` shows the units of a field that was found.
 //
-//     let outcome = fields::next_field(state, buffer, block, last);    // buffer: &mut [u16], at least 256
-//     state = outcome.state;                                           // then again on the block behind what was read
+//     let answer = fields::next_field(&mut state, buffer, block, last)?;    // buffer: &mut [u16], at least 256
+//                                                                           // then again on the block behind what was read
 
 #![tactic(auto)]
 
-ghost use Rattle.std.specs.Prelude.{◌≡◌, ◌&&◌, List, ℕ, ◌+◌, ◌≤◌, ltb, length, take};
+ghost use Rattle.std.specs.Prelude.{◌≡◌, ◌&&◌, Ok, List, ℕ, ◌+◌, ◌≤◌, ltb, length, position};
 ghost use Rattle.fields.specs.Fields.{field_units, refusal_number, fresh_held, over_from, read_with, found_call, held_call, field_call, FieldAnswered, front, ShownAs};
-ghost use Rattle.fields.specs.Steps.{is_separator, separator_end, NoSeparator, four_at, WordAt, nonzero_marked, marks_of};
+ghost use Rattle.fields.specs.Steps.{is_separator, separator_end, four_at, WordAt, nonzero_marked, marks_of};
 ghost use Rattle.convert.specs.Runs.{piece_limit};
 
 use convert::Run;
@@ -56,27 +56,19 @@ pub enum Refusal {
     FieldTooLong,
 }
 
-// What a call answers.
+// What a call that is not refused answers.
 #[derive(Clone, Copy)]
 pub enum Answer {
     // The next field.
     Field(Found),
     // No field is complete: so many units, the whole block, were read and are held.
     Incomplete(usize),
-    Refused(Refusal),
 }
 
 // The state between calls: how many units of a field that was begun are held in the buffer.
 #[derive(Clone, Copy)]
 pub struct Held {
     pub count: usize,
-}
-
-// The result of a call, with the new state.
-#[derive(Clone, Copy)]
-pub struct Outcome {
-    pub answer: Answer,
-    pub state: Held,
 }
 
 impl Refusal {
@@ -103,6 +95,42 @@ impl Held {
     {
         Held { count: 0 }
     }
+
+    // Completes the next field: the units held and these, which lie at the front of the block.
+    fn complete(&mut self, buffer: &mut [u16], units: &[u16], end: End) -> Found
+        requires { (self.old.count + length units.now ≤ length buffer.old) × (length units.now ≤ piece_limit) }
+        ensures { FieldAnswered (found_call self.old.count buffer.old units.now end) (Ok (Answer.Field result)) self.new buffer.new }
+    {
+        let held = self.count;
+        let size = units.len();
+        let read = read_with(end, size);
+        *self = Held::fresh();
+        if held == 0 {
+            return Found {
+                end,
+                place: Place::Block,
+                count: size,
+                read,
+            };
+        }
+        lay(buffer, held, units);
+        Found {
+            end,
+            place: Place::Buffer,
+            count: held + size,
+            read,
+        }
+    }
+
+    // Holds the whole block, and says how many units it has.
+    fn hold(&mut self, buffer: &mut [u16], block: &[u16]) -> usize
+        requires { self.old.count + length block.now ≤ length buffer.old }
+        ensures { FieldAnswered (held_call self.old.count buffer.old block.now) (Ok (Answer.Incomplete result)) self.new buffer.new }
+    {
+        lay(buffer, self.count, block);
+        self.count += block.len();
+        block.len()
+    }
 }
 
 const BAR: u16 = 0x7C;
@@ -113,7 +141,7 @@ const LINE_FEED: u16 = 0x0A;
 fn is_separator(unit: u16) -> bool
     ensures { result ≡ is_separator unit }
 {
-    (unit == BAR) | (unit == LINE_FEED)
+    matches!(unit, BAR | LINE_FEED)
 }
 
 // What a separator ends.
@@ -126,19 +154,18 @@ fn end_of(unit: u16) -> End
     End::LineFeed
 }
 
-// How many units stand before the first separator, if none stands before `start`.
-fn scan_rest(block: &[u16], start: usize) -> usize
-    requires { (start ≤ length block.now) × NoSeparator block.now start }
-    ensures { result ≡ length (field_units block.now) }
+// Where the first separator stands.
+fn first_separator(units: &[u16]) -> Option<usize>
+    ensures { result ≡ position is_separator units.now }
 {
-    let mut i = start;
-    while i < block.len() {
-        if is_separator(block[i]) {
-            return i;
-        }
-        i += 1;
-    }
-    i
+    units.iter().position(|unit| is_separator(*unit))
+}
+
+// How many units stand before the first separator, looked at one by one.
+fn scan(units: &[u16]) -> usize
+    ensures { result ≡ length (field_units units.now) }
+{
+    first_separator(units).unwrap_or(units.len())
 }
 
 // The mark of each unit of a word: its top bit.
@@ -186,27 +213,22 @@ fn first_unmarked(marks: u64) -> usize
 fn field_size(block: &[u16]) -> usize
     ensures { result ≡ length (field_units block.now) }
 {
-    let mut i = 0;
-    while 4 <= block.len() - i {
-        let marks = marks_of(block, i);
+    let words = block.len() / 4;
+    for word in 0..words {
+        let marks = marks_of(block, 4 * word);
         if marks != MARKS {
-            return i + first_unmarked(marks);
+            return 4 * word + first_unmarked(marks);
         }
-        i += 4;
     }
-    scan_rest(block, i)
+    4 * words + scan(&block[4 * words..])
 }
 
-// Lays the first `size` units of a block over the buffer behind the units held.
-fn lay(buffer: &mut [u16], held: usize, block: &[u16], size: usize)
-    requires { (held + size ≤ length buffer.old) × (size ≤ length block.now) }
-    ensures { buffer.new ≡ over_from held buffer.old (take size block.now) }
+// Lays units over the buffer behind the units held.
+fn lay(buffer: &mut [u16], held: usize, units: &[u16])
+    requires { held + length units.now ≤ length buffer.old }
+    ensures { buffer.new ≡ over_from held buffer.old units.now }
 {
-    let mut i = 0;
-    while i < size {
-        buffer[held + i] = block[i];
-        i += 1;
-    }
+    buffer[held..held + units.len()].copy_from_slice(units);
 }
 
 // The units of the block that a field takes: its own, and one for the separator that ended it.
@@ -221,98 +243,49 @@ fn read_with(end: End, size: usize) -> usize
     }
 }
 
-// The text's end ends a field that has units.
+// Whether the text's end ends a field: it has units.
 fn ends_text(last: bool, count: usize) -> bool
     ensures { result ≡ (last && ltb 0 count) }
 {
-    if last {
-        return 0 < count;
-    }
-    false
-}
-
-// The result of a refused call: its refusal, and the state it was handed.
-fn refused(refusal: Refusal, state: Held) -> Outcome
-    ensures { (result.answer ≡ Answer.Refused refusal) × (result.state.count ≡ state.count) }
-{
-    Outcome {
-        answer: Answer::Refused(refusal),
-        state,
-    }
-}
-
-// The next field: the units held and the first `size` units of the block.
-fn complete(held: usize, buffer: &mut [u16], block: &[u16], size: usize, end: End) -> Outcome
-    requires { (held + size ≤ length buffer.old) × (size ≤ length block.now) × (size ≤ piece_limit) }
-    ensures { FieldAnswered (found_call held buffer.old (take size block.now) end) result buffer.new }
-{
-    let read = read_with(end, size);
-    let state = Held::fresh();
-    if held == 0 {
-        let found = Found {
-            end,
-            place: Place::Block,
-            count: size,
-            read,
-        };
-        return Outcome {
-            answer: Answer::Field(found),
-            state,
-        };
-    }
-    lay(buffer, held, block, size);
-    let found = Found {
-        end,
-        place: Place::Buffer,
-        count: held + size,
-        read,
-    };
-    Outcome {
-        answer: Answer::Field(found),
-        state,
-    }
-}
-
-// Holds the whole block.
-fn hold(held: usize, buffer: &mut [u16], block: &[u16]) -> Outcome
-    requires { held + length block.now ≤ length buffer.old }
-    ensures { FieldAnswered (held_call held buffer.old block.now) result buffer.new }
-{
-    let size = block.len();
-    lay(buffer, held, block, size);
-    Outcome {
-        answer: Answer::Incomplete(size),
-        state: Held { count: held + size },
-    }
+    last && 0 < count
 }
 
 // Gives the next field of a text, or holds the block. Each block begins at the first unread unit; a call marked last has the
-// text's end. State and buffer are as the call before left them, at first a fresh state and any buffer of 256 units or more.
-pub fn next_field(state: Held, buffer: &mut [u16], block: &[u16], last: bool) -> Outcome
-    ensures { FieldAnswered (field_call state.count buffer.old block.now last) result buffer.new }
+// text's end. State and buffer are as the call before left them, at first a fresh state and any buffer of 256 units or more. A call
+// that is refused leaves both as they were.
+pub fn next_field(
+    state: &mut Held,
+    buffer: &mut [u16],
+    block: &[u16],
+    last: bool,
+) -> Result<Answer, Refusal>
+    ensures { FieldAnswered (field_call state.old.count buffer.old block.now last) result state.new buffer.new }
 {
     let held = state.count;
     if buffer.len() < Held::LIMIT {
-        return refused(Refusal::BufferTooShort, state);
+        return Err(Refusal::BufferTooShort);
     }
     if Run::PIECE_LIMIT < block.len() {
-        return refused(Refusal::BlockTooLong, state);
+        return Err(Refusal::BlockTooLong);
     }
     if Held::LIMIT < held {
-        return refused(Refusal::InvalidState, state);
+        return Err(Refusal::InvalidState);
     }
     let size = field_size(block);
     if Held::LIMIT < held + size {
-        return refused(Refusal::FieldTooLong, state);
+        return Err(Refusal::FieldTooLong);
     }
     if size < block.len() {
         let end = end_of(block[size]);
-        return complete(held, buffer, block, size, end);
+        let found = state.complete(buffer, &block[..size], end);
+        return Ok(Answer::Field(found));
     }
     if ends_text(last, held + size) {
-        return complete(held, buffer, block, size, End::Text);
+        let found = state.complete(buffer, &block[..size], End::Text);
+        return Ok(Answer::Field(found));
     }
-    hold(held, buffer, block)
+    let read = state.hold(buffer, block);
+    Ok(Answer::Incomplete(read))
 }
 
 // The first units of a slice, or none if it is too short.

@@ -1,5 +1,5 @@
 -- Laws of the findings from a place on: the code there, codes that have characters, the text's end.
-use mathlib.Core.Bool.{Bool, true, false, true≢false, false≢true}
+use mathlib.Core.Bool.{Bool, true, false}
 use mathlib.Core.List.{List, [], ◌∷◌}
 use mathlib.Core.Logic.{◌⊎◌, inl, inr}
 use mathlib.Core.Option.{Option, none}
@@ -15,8 +15,8 @@ use Rattle.codepage.specs.CodePage.{pick, entry_at, is_lead}
 use Rattle.codepage.specs.Reading.{Reader, decoder, byte_alone, Code, units_of, size_of, alone, together, left_pending, codes}
 use Rattle.codepage.specs.declared.Kind.{Kind}
 use Rattle.codepage.specs.declared.Kind.TheVariants.{UndefinedSingle, UndefinedPair, Invalid}
-use Rattle.codepage.specs.declared.Lookup.{Lookup}
-use Rattle.codepage.specs.declared.Lookup.TheVariants.{Found, Lacking}
+use Rattle.codepage.specs.Reading.{Lookup}
+use Rattle.std.specs.Prelude.{Ok, Err}
 use Rattle.codepage_walk.specs.declared.CodeRead.{CodeRead}
 use Rattle.codepage_walk.specs.Walk.{placed_from, placed, CodeAt, ReadAs}
 use Rattle.codepage_walk.proofs.WalkLaws.{codes_end, codes_next, at_one, at_end, at_two, at_alone, placed_next}
@@ -25,11 +25,12 @@ use Rattle.engine.specs.declared.progress.Progress.{Progress}
 use Rattle.engine.specs.Policies.{digits, action_of}
 use Rattle.engine.specs.Engine.{effect_of, converter, endless, fits, room_left, Fed, after, stop_at, take_when, take_code, take_codes, feed_from}
 use Rattle.engine.specs.Steps.{summary}
-use Rattle.engine_fastpath.specs.Words.{PlainPage}
+use Rattle.codepage_lookup.specs.Profile.{PlainPage}
 use Rattle.findings.specs.declared.Finding.{Finding}
 use Rattle.findings.specs.declared.Looked.{Looked}
 use Rattle.findings.specs.Findings.{second_of, code_finding, until_stop, finding_then, findings_in, findings_of, findings_from}
-use Rattle.findings.specs.Steps.{finding_at, behind, LookedAt, Passed, FoundFrom}
+use Rattle.std.specs.Prelude.{Option as RustOption, Some, None}
+use Rattle.findings.specs.Steps.{finding_at, behind, with_behind, LookedAt, Passed, FoundAt}
 
 -- ---- the bytes of the code at a place are the text's: the first two there are a and b
 pub record BytesAre (text : List ℕ) (place a b : ℕ) (k : Code) : Type 0 where
@@ -115,11 +116,11 @@ module _ (r : Reader) (policy : Policy) (text : List ℕ) where
   from_code place k at = ap (findings_in policy) (placed_next r text place k at)
 
   -- a code that has a character
-  pub from_found : (place : ℕ) (k : Code) (unit : ℕ) → CodeAt r text place k → k.means ≡ Found unit → findings_from r policy text place ≡ findings_from r policy text (place + size_of k)
+  pub from_found : (place : ℕ) (k : Code) (unit : ℕ) → CodeAt r text place k → k.means ≡ Ok unit → findings_from r policy text place ≡ findings_from r policy text (place + size_of k)
   from_found place k unit at e = from_code place k at ∙ ap (λ (m : Lookup). finding_then policy (record { place = place; code = k }) m (findings_from r policy text (place + size_of k))) e
 
   -- one that has none
-  pub from_lacking : (place : ℕ) (k : Code) (kind : Kind) → CodeAt r text place k → k.means ≡ Lacking kind
+  pub from_lacking : (place : ℕ) (k : Code) (kind : Kind) → CodeAt r text place k → k.means ≡ Err kind
       → findings_from r policy text place ≡ finding_at policy kind text place (size_of k) ∷ behind r policy text (finding_at policy kind text place (size_of k)) (place + size_of k)
   unfolding behind
   from_lacking place k kind at e =
@@ -134,23 +135,21 @@ module _ (r : Reader) (policy : Policy) (text : List ℕ) where
   -- ---- looking at the code at a place
   module _ (place : ℕ) (c : CodeRead) (w : ReadAs r text place c) (h : place < length text) where
     -- it has a character
-    pub looked_found : (unit : ℕ) (f : Finding) → c.means ≡ Found unit → LookedAt r policy text place (record { found = false; finding = f; end = place + c.size })
-    looked_found unit f e =
+    pub looked_found : (unit : ℕ) → c.means ≡ Ok unit → LookedAt r policy text place (record { finding = None; end = place + c.size })
+    looked_found unit e =
         record {
           ahead = omega (arith, (read_inside r text place c w).0);
           inside = (read_inside r text place c w).2;
-          none = λ _. from_found place w.code unit w.at (sym w.means ∙ e) ∙ ap (λ (n : ℕ). findings_from r policy text (place + n)) (sym w.size);
-          one = λ q. absurd (false≢true q);
+          all = from_found place w.code unit w.at (sym w.means ∙ e) ∙ ap (λ (n : ℕ). findings_from r policy text (place + n)) (sym w.size);
         }
 
     -- it has none
-    pub looked_lacking : (kind : Kind) (f : Finding) → c.means ≡ Lacking kind → f ≡ finding_at policy kind text place c.size → LookedAt r policy text place (record { found = true; finding = f; end = place + c.size })
+    pub looked_lacking : (kind : Kind) (f : Finding) → c.means ≡ Err kind → f ≡ finding_at policy kind text place c.size → LookedAt r policy text place (record { finding = Some f; end = place + c.size })
     looked_lacking kind f e q =
         record {
           ahead = omega (arith, (read_inside r text place c w).0);
           inside = (read_inside r text place c w).2;
-          none = λ z. absurd (true≢false z);
-          one = λ _.
+          all =
               from_lacking place w.code kind w.at (sym w.means ∙ e)
               ∙ ap (λ (n : ℕ). finding_at policy kind text place n ∷ behind r policy text (finding_at policy kind text place n) (place + n)) (sym w.size)
               ∙ ap (λ (g : Finding). g ∷ behind r policy text g (place + c.size)) (sym q);
@@ -170,37 +169,30 @@ module _ {r : Reader} {policy : Policy} {text : List ℕ} where
   passed_at {from} e a = subst (Passed r policy text from) e a
 
   -- a code that has a character, and what was passed behind it
-  pub passed_code : {from place to : ℕ} {s : Looked} → Passed r policy text from place → LookedAt r policy text place s → s.found ≡ false → Passed r policy text s.end to → Passed r policy text from to
-  passed_code a l e b =
+  pub passed_code : {from place to : ℕ} {s : Looked} → Passed r policy text from place → LookedAt r policy text place s → s.finding ≡ None → Passed r policy text s.end to → Passed r policy text from to
+  passed_code {s = s} a l e b =
       record {
         ahead = omega (arith, a.ahead, l.ahead, b.ahead);
         inside = b.inside;
-        same = a.same ∙ l.none e ∙ b.same;
+        same = a.same ∙ l.all ∙ ap (λ (o : RustOption Finding). with_behind r policy text o s.end) e ∙ b.same;
       }
 
   -- the first finding behind what was passed
-  pub found_behind : {from place : ℕ} {s : Looked} → Passed r policy text from place → LookedAt r policy text place s → s.found ≡ true → FoundFrom r policy text from s
-  found_behind a l e =
+  pub found_behind : {from place : ℕ} {s : Looked} (f : Finding) → Passed r policy text from place → LookedAt r policy text place s → s.finding ≡ Some f → FoundAt r policy text from (record { finding = f; end = s.end })
+  found_behind {s = s} f a l e =
       record {
-        ahead = λ _. omega (arith, a.ahead, l.ahead);
-        inside = λ _. l.inside;
-        none = λ z. absurd (true≢false (sym e ∙ z));
-        one = λ z. a.same ∙ l.one z;
+        ahead = omega (arith, a.ahead, l.ahead);
+        inside = l.inside;
+        one = a.same ∙ l.all ∙ ap (λ (o : RustOption Finding). with_behind r policy text o s.end) e;
       }
 
   -- there is none up to the text's end
-  pub none_behind : {from place : ℕ} (f : Finding) → Passed r policy text from place → length text ≤ place → FoundFrom r policy text from (record { found = false; finding = f; end = place })
-  none_behind {from} {place} f a h =
-      record {
-        ahead = λ z. absurd (false≢true z);
-        inside = λ z. absurd (false≢true z);
-        none = λ _. a.same ∙ from_end r policy text place h;
-        one = λ z. absurd (false≢true z);
-      }
+  pub none_behind : {from place : ℕ} → Passed r policy text from place → length text ≤ place → findings_from r policy text from ≡ []
+  none_behind {from} {place} a h = a.same ∙ from_end r policy text place h
 
 -- one byte that is a code alone and has a character
 passed_one : (policy : Policy) (classes singles pairs text : List ℕ) (place unit : ℕ) → place < length text → is_lead (entry_at classes (entry_at text place)) ≡ false
-    → byte_alone classes singles (entry_at text place) ≡ Found unit → Passed (decoder classes singles pairs) policy text place (place + 1)
+    → byte_alone classes singles (entry_at text place) ≡ Ok unit → Passed (decoder classes singles pairs) policy text place (place + 1)
 unfolding decoder
 passed_one policy classes singles pairs text place unit h e q =
     record {
@@ -222,12 +214,12 @@ passed_plain policy classes singles pairs text page place (suc n) h all =
 
 -- ---- reading under 000 stops at the first code without a character
 take_clean : (writes : ℕ → List ℕ) (default first n : ℕ) (g : Fed) (m : Lookup) → (take_code endless n (effect_of writes (digits 0 0 0) default first m) g).answer ≡ 0
-    → ((unit : ℕ) × (m ≡ Found unit)) × (g.answer ≡ 0)
+    → ((unit : ℕ) × (m ≡ Ok unit)) × (g.answer ≡ 0)
 unfolding effect_of action_of take_code take_when stop_at fits after
-take_clean writes default first n g (Found unit) e = ((unit, refl), e)
-take_clean writes default first n g (Lacking UndefinedSingle) e = absurd (omega (arith, e))
-take_clean writes default first n g (Lacking UndefinedPair) e = absurd (omega (arith, e))
-take_clean writes default first n g (Lacking Invalid) e = absurd (omega (arith, e))
+take_clean writes default first n g (Ok unit) e = ((unit, refl), e)
+take_clean writes default first n g (Err UndefinedSingle) e = absurd (omega (arith, e))
+take_clean writes default first n g (Err UndefinedPair) e = absurd (omega (arith, e))
+take_clean writes default first n g (Err Invalid) e = absurd (omega (arith, e))
 
 module _ (r : Reader) (default : ℕ) (policy : Policy) where
   -- read to the end: every code has a character, and there are no findings, whatever the policy

@@ -1,5 +1,5 @@
 pub mod FindingLaws
-pub mod TurnLaws
+pub mod CountLaws
 pub mod CallLaws
 pub mod FillLaws
 pub mod AnswerLaws

@@ -15,8 +15,8 @@ use Rattle.codepage.specs.CodePage.{CodePage, pick}
 use Rattle.codepage.specs.Reading.{Reader, Code, size_of, codes}
 use Rattle.codepage.specs.declared.Kind.{Kind}
 use Rattle.codepage.specs.declared.Kind.TheVariants.{UndefinedSingle, UndefinedPair, Invalid}
-use Rattle.codepage.specs.declared.Lookup.{Lookup}
-use Rattle.codepage.specs.declared.Lookup.TheVariants.{Found, Lacking}
+use Rattle.codepage.specs.Reading.{Lookup}
+use Rattle.std.specs.Prelude.{Ok, Err}
 use Rattle.engine.specs.declared.Policy.{Policy}
 use Rattle.engine.specs.declared.policies.Action.{Action}
 use Rattle.engine.specs.declared.policies.Action.TheVariants.{Stop, Skip, Write}
@@ -38,8 +38,8 @@ module _ (p : CodePage) (policy : Policy) (text : List ℕ) where
   until_read f fs false h all = (h, all)
 
   then_read : (c : Placed) (m : Lookup) (later : List Finding) → CodeAt (bytes_reader p) text c.place c.code → c.code.means ≡ m → AllRead p policy text later → AllRead p policy text (finding_then policy c m later)
-  then_read c (Found unit) later at e all = all
-  then_read c (Lacking kind) later at e all =
+  then_read c (Ok unit) later at e all = all
+  then_read c (Err kind) later at e all =
       until_read (code_finding policy kind c) later (eqb (digit_of policy kind) 0)
       (record {
         code = c.code;
@@ -71,8 +71,8 @@ module _ (policy : Policy) where
   rises_more from to (f ∷ fs) h (g, all) = (omega (arith, h, g), all)
 
   then_rises : (from : ℕ) (k : Code) (m : Lookup) (later : List Finding) → Rising (from + size_of k) later → Rising from (finding_then policy (record { place = from; code = k }) m later)
-  then_rises from k (Found unit) later all = rises_more from (from + size_of k) later (omega arith) all
-  then_rises from k (Lacking kind) later all =
+  then_rises from k (Ok unit) later all = rises_more from (from + size_of k) later (omega arith) all
+  then_rises from k (Err kind) later all =
       until_rises from (code_finding policy kind (record { place = from; code = k })) later (eqb (digit_of policy kind) 0) (omega arith) (omega arith) all
 
   rises_in : (from : ℕ) (ks : List Code) → Rising from (findings_in policy (placed_from from ks))
@@ -87,15 +87,15 @@ module _ (policy : Policy) where
   -- ---- NONE IS LEFT OUT: a code that the reading comes to and that has no character is the entry behind those of the codes before it. If
   -- its digit is 0, it is the last.
   past_one : (c : Placed) (m : Lookup) (before later : List Finding) → GoesOn policy m → finding_then policy c m (before ++ later) ≡ finding_then policy c m before ++ later
-  past_one c (Found unit) before later h = refl
-  past_one c (Lacking kind) before later h = rw (ne_eqb (digit_of policy kind) 0 h)
+  past_one c (Ok unit) before later h = refl
+  past_one c (Err kind) before later h = rw (ne_eqb (digit_of policy kind) 0 h)
 
   past : (before rest : List Placed) → NoStop policy before → findings_in policy (before ++ rest) ≡ findings_in policy before ++ findings_in policy rest
   unfolding findings_in
   past [] rest h = refl
   past (c ∷ cs) rest (g, h) = ap (finding_then policy c c.code.means) (past cs rest h) ∙ past_one c c.code.means (findings_in policy cs) (findings_in policy rest) g
 
-  pub none_left_out : (r : Reader) (text : List ℕ) (before : List Placed) (c : Placed) (after : List Placed) (kind : Kind) → placed r text ≡ before ++ (c ∷ after) → c.code.means ≡ Lacking kind → NoStop policy before
+  pub none_left_out : (r : Reader) (text : List ℕ) (before : List Placed) (c : Placed) (after : List Placed) (kind : Kind) → placed r text ≡ before ++ (c ∷ after) → c.code.means ≡ Err kind → NoStop policy before
       → findings_of r policy text ≡ findings_in policy before ++ until_stop (code_finding policy kind c) (findings_in policy after)
   unfolding findings_of findings_in
   none_left_out r text before c after kind e q h =
@@ -125,8 +125,8 @@ module _ (r : Reader) (policy : Policy) (default : ℕ) where
   one_flags : (c : Placed) (m : Lookup) (rest : Fed) (later : List Finding) → ((later ≡ []) ↔ (kind_flags rest.flags ≡ 0))
       → (finding_then policy c m later ≡ []) ↔ (kind_flags (take_code endless (size_of c.code) (effect_of r.writes policy default c.code.first m) rest).flags ≡ 0)
   unfolding take_code take_when after fits effect_of
-  one_flags c (Found unit) rest later h = (λ e. ap kind_flags (or_zero_l rest.flags) ∙ h.0 e, λ e. h.1 (ap kind_flags (sym (or_zero_l rest.flags)) ∙ e))
-  one_flags c (Lacking kind) rest later h =
+  one_flags c (Ok unit) rest later h = (λ e. ap kind_flags (or_zero_l rest.flags) ∙ h.0 e, λ e. h.1 (ap kind_flags (sym (or_zero_l rest.flags)) ∙ e))
+  one_flags c (Err kind) rest later h =
       let set = acted_flag (flag_of kind) (size_of c.code) (action_of (digit_of policy kind) default c.code.first) rest in (
         λ e. absurd (let z : ◌≡◌ {A = ℕ} 0 1 = cc in omega arith),
         λ e. absurd (kind_flagged kind set.0 (ap kind_flags (sym set.1) ∙ e)),
@@ -152,8 +152,8 @@ module _ (r : Reader) (policy : Policy) (text : List ℕ) (f : Finding) (fs : Li
 
   at_code : (k : Code) (place : ℕ) (m : Lookup) → finding_then policy (record { place = place; code = k }) m (findings_from r policy text (place + size_of k)) ≡ f ∷ fs
       → (findings_from r policy text (place + size_of k) ≡ f ∷ fs → Behind) → Behind
-  at_code k place (Found unit) e later = later e
-  at_code k place (Lacking kind) e later =
+  at_code k place (Ok unit) e later = later e
+  at_code k place (Err kind) e later =
       let same : code_finding policy kind (record { place = place; code = k }) ≡ f = cc in
       let rest : pick (eqb (digit_of policy kind) 0) [] (findings_from r policy text (place + size_of k)) ≡ fs = cc in
       sym rest ∙ ap (λ (g : Finding). pick (eqb g.digit 0) [] (findings_from r policy text (g.place + g.size))) same

@@ -10,7 +10,7 @@ use Rattle.engine.specs.Policies.{replacing, policy_allowed}
 use Rattle.convert.specs.Sample.{sample_page}
 use Rattle.convert.proofs.SampleRows.{sample_good}
 use Rattle.findings.specs.declared.Refusal.TheVariants.{TooLong}
-use Rattle.findings.specs.declared.Listed.TheVariants as listed
+use Rattle.std.specs.Prelude.{Err}
 use Rattle.findings.specs.Calls.{findings_call}
 use Rattle.findings.proofs.AnswerLaws.{findings_refused_exact}
 
@@ -27,5 +27,5 @@ unfolding policy_allowed
 allowed = refl
 
 -- 11 IS MET: 65,537 bytes.
-pub long_refused : (findings_call replacing sample_page (times 65537 0x80)).answer ≡ listed.Refused TooLong
+pub long_refused : (findings_call replacing sample_page (times 65537 0x80)).answer ≡ Err TooLong
 long_refused = (findings_refused_exact replacing sample_page (times 65537 0x80) TooLong).1 (allowed, sample_good, omega (arith, times_size 65537 0x80))

@@ -3,8 +3,8 @@ use Rattle.std.specs.Prelude.{List, [], ◌∷◌, ◌≡◌, ℕ, ◌+◌, ◌<
 use Rattle.codepage.specs.CodePage.{CodePage, GoodShape}
 use Rattle.codepage.specs.Reading.{Code, units_of}
 use Rattle.codepage.specs.declared.Kind.{Kind}
-use Rattle.codepage.specs.declared.Lookup.{Lookup}
-use Rattle.codepage.specs.declared.Lookup.TheVariants.{Found, Lacking}
+use Rattle.codepage.specs.Reading.{Lookup}
+use Rattle.std.specs.Prelude.{Ok, Err}
 use Rattle.engine.specs.declared.Direction.TheVariants.{Decoding}
 use Rattle.engine.specs.declared.Policy.{Policy}
 use Rattle.engine.specs.Policies.{digit_of, policy_allowed}
@@ -22,7 +22,7 @@ pub record IsRead (p : CodePage) (policy : Policy) (text : List ℕ) (f : Findin
   pub code : Code
   pub kind : Kind
   pub at : CodeAt (bytes_reader p) text f.place code
-  pub lacking : code.means ≡ Lacking kind
+  pub lacking : code.means ≡ Err kind
   pub told : f ≡ code_finding policy kind (record { place = f.place; code = code })
   pub bytes : take f.size (drop f.place text) ≡ units_of code
 
@@ -38,8 +38,8 @@ Rising from (f ∷ fs) = (from ≤ f.place) × ((1 ≤ f.size) × Rising (f.plac
 
 -- a code that does not stop the reading: it has a character, or its digit is not 0
 abbrev pub GoesOn : Policy → Lookup → Type 0
-GoesOn policy (Found unit) = Unit {0}
-GoesOn policy (Lacking kind) = digit_of policy kind ≡ 0 → ⊥
+GoesOn policy (Ok unit) = Unit {0}
+GoesOn policy (Err kind) = digit_of policy kind ≡ 0 → ⊥
 
 -- the reading comes past these codes
 abbrev pub NoStop : Policy → List Placed → Type 0

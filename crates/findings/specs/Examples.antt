@@ -1,13 +1,12 @@
 -- Document 02, CR 7: worked calls on the sample page.
-use Rattle.std.specs.Prelude.{List, [], ◌∷◌, ◌≡◌, ℕ}
+use Rattle.std.specs.Prelude.{List, [], ◌∷◌, ◌≡◌, ℕ, Result, Ok, Err}
 use Rattle.codepage.specs.CodePage.{CodePage}
 use Rattle.engine.specs.declared.Policy.{Policy}
 use Rattle.engine.specs.Policies.{digits}
 use Rattle.convert.specs.Sample.{sample_page}
 use Rattle.findings.specs.declared.Finding.{Finding}
+use Rattle.findings.specs.declared.Refusal.{Refusal}
 use Rattle.findings.specs.declared.Refusal.TheVariants.{BadPolicy, BadShape}
-use Rattle.findings.specs.declared.Listed.{Listed}
-use Rattle.findings.specs.declared.Listed.TheVariants as listed
 use Rattle.findings.specs.Findings.{filled_front}
 use Rattle.findings.specs.Calls.{findings_call}
 
@@ -28,11 +27,11 @@ pub record FindingsRow : Type 0 where
   pub policy : Policy
   pub text : List ℕ
   pub before : List Finding
-  pub answer : Listed
+  pub answer : Result ℕ Refusal
   pub after : List Finding
 
 abbrev finds_row : Policy → List ℕ → List Finding → ℕ → List Finding → FindingsRow
-finds_row policy text before number after = record { page = sample_page; policy = policy; text = text; before = before; answer = listed.Number number; after = after }
+finds_row policy text before number after = record { page = sample_page; policy = policy; text = text; before = before; answer = Ok number; after = after }
 
 -- the text of document 02's readings: an undefined single, a lead before a byte that is read afresh, and a lead at the end
 abbrev damaged : List ℕ
@@ -70,8 +69,8 @@ findings_rows =
     -- a lead and a byte of 80 or more that may not be second: two bytes; and 00 behind a lead is read afresh
     ∷ finds_row (digits 5 5 5) (0x82 ∷ 0x80 ∷ 0x82 ∷ 0x00 ∷ []) (old ∷ old ∷ []) 2 (of_two_bytes 0 4 0x82 0x80 5 ∷ of_one_byte 2 4 0x82 5 ∷ [])
     -- refused: 17 before 10, and the list is as it was
-    ∷ record { page = pageless; policy = digits 5 6 5; text = damaged; before = old ∷ []; answer = listed.Refused BadPolicy; after = old ∷ [] }
-    ∷ record { page = pageless; policy = digits 5 5 5; text = damaged; before = old ∷ []; answer = listed.Refused BadShape; after = old ∷ [] }
+    ∷ record { page = pageless; policy = digits 5 6 5; text = damaged; before = old ∷ []; answer = Err BadPolicy; after = old ∷ [] }
+    ∷ record { page = pageless; policy = digits 5 5 5; text = damaged; before = old ∷ []; answer = Err BadShape; after = old ∷ [] }
     ∷ []
 
 -- what a row says

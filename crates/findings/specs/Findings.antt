@@ -3,8 +3,8 @@ use Rattle.std.specs.Prelude.{List, [], ◌∷◌, ℕ, eqb, drop}
 use Rattle.codepage.specs.CodePage.{pick}
 use Rattle.codepage.specs.Reading.{Reader, size_of, codes}
 use Rattle.codepage.specs.declared.Kind.{Kind}
-use Rattle.codepage.specs.declared.Lookup.{Lookup}
-use Rattle.codepage.specs.declared.Lookup.TheVariants.{Found, Lacking}
+use Rattle.codepage.specs.Reading.{Lookup}
+use Rattle.std.specs.Prelude.{Ok, Err}
 use Rattle.engine.specs.declared.Policy.{Policy}
 use Rattle.engine.specs.Policies.{digit_of, flag_of}
 use Rattle.codepage_walk.specs.Walk.{Placed, placed_from, placed}
@@ -34,8 +34,8 @@ until_stop f later = f ∷ pick (eqb f.digit 0) [] later
 
 -- a code that has a character is no finding
 abbrev pub finding_then : Policy → Placed → Lookup → (later : List Finding) → List Finding
-finding_then policy c (Found unit) later = later
-finding_then policy c (Lacking kind) later = until_stop (code_finding policy kind c) later
+finding_then policy c (Ok unit) later = later
+finding_then policy c (Err kind) later = until_stop (code_finding policy kind c) later
 
 -- the findings among codes that follow one another: "in order of place, until .. the reading ends"
 unfoldable pub findings_in : Policy → List Placed → List Finding

@@ -1,36 +1,39 @@
 // Why a flag is up: the codes of a byte text that have no character, each with its place, its kind, its bytes and the policy digit that
 // was applied. (Document 02, CR 7; docs/RULES.md, "Findings".) They come in order of place, up to the text's end or the first stop.
 //
-//     let listed = findings::list_findings(policy, numbers, classes, singles, pairs, index, blocks, text, list);
-//     // Listed::Number(count): how many there are, as many of them as fit at the front of `list`; or Listed::Refused(why): why.number()
+//     let listed = findings::list_findings(policy, &tables, text, list);
+//     // Ok(count): how many there are, as many of them as fit at the front of `list`; or Err(why): why.number()
 //
 // An empty list only counts. Entries beyond those filled, and all of them in a refused call, stay as they were.
 
 #![tactic(auto)]
 
-ghost use Rattle.std.specs.Prelude.{◌≡◌, true, List, [], ℕ, ◌+◌, ◌≤◌, ◌<◌, ltb, length};
-ghost use Rattle.codepage.specs.CodePage.{code_page, pick, entry_at};
+ghost use Rattle.std.specs.Prelude.{◌≡◌, true, List, [], ℕ, ◌+◌, ◌≤◌, ◌<◌, ltb, length, MatchOption, OnOk, IfErr};
+ghost use Rattle.codepage.specs.CodePage.{page_of, pick, entry_at};
 ghost use Rattle.codepage.specs.Reading.{decoder};
 ghost use Rattle.engine.specs.Policies.{flag_of, digit_of};
-ghost use Rattle.engine.specs.Steps.{DecodeSizes};
-ghost use Rattle.engine_fastpath.specs.Words.{PlainPage};
+ghost use Rattle.codepage_lookup.specs.Profile.{PlainPage};
+ghost use Rattle.codepage_lookup.specs.Tables.{byte_reader};
 ghost use Rattle.convert.specs.Runs.{piece_limit};
 ghost use Rattle.findings.specs.Findings.{findings_from};
 ghost use Rattle.findings.specs.Calls.{findings_number, findings_call, FindingsListed, next_of};
-ghost use Rattle.findings.specs.Steps.{no_finding, finding_at, end_turn, ByteTables, LookedAt, Passed, FoundFrom, TurnGoesOn, CallTurn, TurnedFrom, NextTurn};
+ghost use Rattle.findings.specs.Steps.{finding_at, LookedAt, Passed, FoundAt, Filled};
+ghost use Rattle.findings.specs.Claims.{FindingsPasses, FindingsSays};
 
-use codepage::{Kind, Lookup, Numbers};
-use codepage_lookup::profile::Leads;
-use codepage_lookup::{profile, words};
+use codepage::{Kind, TableSet};
+use codepage_lookup::tables::{ByteTables, LeadTables};
+use codepage_lookup::words;
 use convert::Run;
+use engine::converters::ByteConverter;
 use engine::{Direction, Policy, policies};
 use engine_fastpath::mixed;
 use engine_loops::counter;
 
 // A code without a character: the place of its first byte, its kind by its flag (1 undefined single, 2 undefined pair, 4 invalid), how
 // many bytes it has, 1 or 2, these (the second is 0 where there is one), and the policy digit that was applied.
+// Kept: numbers, since C is handed this struct.
 #[repr(C)]
-#[derive(Clone, Copy)]
+#[derive(Clone, Copy, PartialEq, Eq)]
 pub struct Finding {
     pub place: usize,
     pub kind: u8,
@@ -51,14 +54,6 @@ pub enum Refusal {
     TooLong,
 }
 
-// What the call answers.
-#[derive(Clone, Copy)]
-pub enum Listed {
-    // There are so many findings, however many the list has room for.
-    Number(usize),
-    Refused(Refusal),
-}
-
 impl Refusal {
     // The number that document 01 gives the refusal.
     pub fn number(self) -> u8
@@ -72,49 +67,29 @@ impl Refusal {
     }
 }
 
-// What the call for the next finding answers.
+// A byte text, and what its findings are told by: the tables of a page whose shape was found good, whether the page keeps text below 80 as
+// it is, and the policy.
 #[derive(Clone, Copy)]
-pub enum Next {
-    // The first finding from the place on.
-    Found(Finding),
-    // There is none.
-    Nothing,
-    Refused(Refusal),
+struct Search<'a> {
+    tables: LeadTables<'a>,
+    plain: bool,
+    policy: Policy,
+    text: &'a [u8],
+    ghost plain_page: { plain ≡ true → PlainPage tables.tables.classes.now tables.tables.singles.now },
 }
 
-// What is found at a place of a text, or from there on: whether it is a code without a character, which, and the place behind it.
+// A finding, and the place behind its code.
+#[derive(Clone, Copy)]
+struct Located {
+    finding: Finding,
+    end: usize,
+}
+
+// What is at a place of a text: its finding, if the code there has no character, and the place behind the code.
 #[derive(Clone, Copy)]
 struct Looked {
-    found: bool,
-    finding: Finding,
+    finding: Option<Finding>,
     end: usize,
-}
-
-// A turn of the call: whether a finding is to be stored, which, at which place of the list, and the place of the text behind it; what
-// is known of the page; and the answer, where the call ends.
-#[derive(Clone, Copy)]
-struct Turn {
-    going: bool,
-    count: usize,
-    finding: Finding,
-    end: usize,
-    plain: bool,
-    leads: Leads,
-    answer: Listed,
-}
-
-// No finding.
-fn no_finding() -> Finding
-    ensures { result ≡ no_finding }
-{
-    Finding {
-        place: 0,
-        kind: 0,
-        size: 0,
-        first: 0,
-        second: 0,
-        digit: 0,
-    }
 }
 
 // The flag of a kind.
@@ -168,43 +143,6 @@ fn finding_at(policy: Policy, kind: Kind, text: &[u8], place: usize, size: usize
     }
 }
 
-// The code at a place.
-fn look_at(
-    policy: Policy,
-    classes: &[u8],
-    singles: &[u16],
-    pairs: &[u16],
-    leads: Leads,
-    text: &[u8],
-    place: usize,
-) -> Looked
-    requires { ByteTables classes.now singles.now pairs.now leads × (place < length text.now) }
-    ensures { LookedAt (decoder classes.now singles.now pairs.now) policy text.now place result }
-{
-    let read = codepage_walk::code_at(classes, singles, pairs, leads, text, place);
-    let size = read.size;
-    let end = place + size;
-    let means = read.means;
-    match means {
-        Lookup::Found(_) => {
-            let finding = no_finding();
-            Looked {
-                found: false,
-                finding,
-                end,
-            }
-        }
-        Lookup::Lacking(kind) => {
-            let finding = finding_at(policy, kind, text, place, size);
-            Looked {
-                found: true,
-                finding,
-                end,
-            }
-        }
-    }
-}
-
 // Passes over plain bytes, eight at a time, where the page keeps them as they are: the place behind them. The last seven may be left.
 fn pass_plain(plain: bool, text: &[u8], from: usize) -> usize
     requires { from ≤ length text.now }
@@ -214,6 +152,7 @@ fn pass_plain(plain: bool, text: &[u8], from: usize) -> usize
         return from;
     }
     let mut place = from;
+    // Kept: a turn moves by the plain bytes that it read, so there is no range to go over.
     while 8 <= text.len() - place {
         let count = mixed::plain_count(words::word_at(text, place));
         place += count;
@@ -224,277 +163,185 @@ fn pass_plain(plain: bool, text: &[u8], from: usize) -> usize
     place
 }
 
-// The first finding from a place on.
-fn find_from(
-    policy: Policy,
-    classes: &[u8],
-    singles: &[u16],
-    pairs: &[u16],
-    leads: Leads,
-    plain: bool,
-    text: &[u8],
-    from: usize,
-) -> Looked
-    requires { ByteTables classes.now singles.now pairs.now leads × (plain ≡ true → PlainPage classes.now singles.now) × (from ≤ length text.now) }
-    ensures { FoundFrom (decoder classes.now singles.now pairs.now) policy text.now from result }
-{
-    let mut place = pass_plain(plain, text, from);
-    while place < text.len() {
-        let code = look_at(policy, classes, singles, pairs, leads, text, place);
-        if code.found {
-            return code;
-        }
-        place = pass_plain(plain, text, code.end);
-    }
-    let finding = no_finding();
-    Looked {
-        found: false,
-        finding,
-        end: place,
-    }
-}
-
-// How many findings there are from a place on.
-fn count_from(
-    policy: Policy,
-    classes: &[u8],
-    singles: &[u16],
-    pairs: &[u16],
-    leads: Leads,
-    plain: bool,
-    text: &[u8],
-    from: usize,
-) -> usize
-    requires { ByteTables classes.now singles.now pairs.now leads × (plain ≡ true → PlainPage classes.now singles.now) × (from ≤ length text.now) × (length text.now ≤ piece_limit) }
-    ensures { (result ≡ length (findings_from (decoder classes.now singles.now pairs.now) policy text.now from)) × (result ≤ length text.now) }
-{
-    let mut place = from;
-    let mut count: usize = 0;
-    while place < text.len() {
-        let next = find_from(policy, classes, singles, pairs, leads, plain, text, place);
-        if !next.found {
-            return count;
-        }
-        count += 1;
-        let finding = next.finding;
-        if finding.digit == 0 {
-            return count;
-        }
-        place = next.end;
-    }
-    count
-}
-
 // Whether every code of a text has a character: counting it, stopped at the first that has none, goes to its end.
-fn is_clean(classes: &[u8], singles: &[u16], pairs: &[u16], text: &[u8]) -> bool
-    requires { DecodeSizes classes.now singles.now pairs.now }
-    ensures { result ≡ true → (policy : Policy) → findings_from (decoder classes.now singles.now pairs.now) policy text.now 0 ≡ [] }
+fn is_clean(tables: &ByteTables<'_>, text: &[u8]) -> bool
+    ensures { result ≡ true → (policy : Policy) → findings_from (byte_reader tables.now) policy text.now 0 ≡ [] }
 {
     let stopping = Policy {
         single: 0,
         pair: 0,
         invalid: 0,
     };
-    let counted = counter::count_decoded(stopping, 0, classes, singles, pairs, text);
+    let converter = ByteConverter {
+        tables: *tables,
+        policy: stopping,
+        default: 0,
+    };
+    let counted = counter::count_decoded(&converter, text);
     counted.answer == 0
 }
 
-// The end of a call that is accepted: `count` findings are stored, and there are `total`.
-fn ended(count: usize, total: usize) -> Turn
-    ensures { result ≡ end_turn count (Listed.Number total) }
-{
-    let finding = no_finding();
-    let leads = Leads { low: 0, high: 0 };
-    let answer = Listed::Number(total);
-    Turn {
-        going: false,
-        count,
-        finding,
-        end: 0,
-        plain: false,
-        leads,
-        answer,
-    }
-}
-
-// The end of a call that is refused: nothing is stored.
-fn refused(why: Refusal) -> Turn
-    ensures { result ≡ end_turn 0 (Listed.Refused why) }
-{
-    let finding = no_finding();
-    let leads = Leads { low: 0, high: 0 };
-    let answer = Listed::Refused(why);
-    Turn {
-        going: false,
-        count: 0,
-        finding,
-        end: 0,
-        plain: false,
-        leads,
-        answer,
-    }
-}
-
-// The turn of the first finding from a place on, if the list has room for it. If not, or if there is none, the call ends.
-fn turn_from(
-    policy: Policy,
-    classes: &[u8],
-    singles: &[u16],
-    pairs: &[u16],
-    leads: Leads,
-    plain: bool,
-    text: &[u8],
-    room: usize,
-    count: usize,
-    from: usize,
-) -> Turn
-    requires byte_tables { ByteTables classes.now singles.now pairs.now leads × (plain ≡ true → PlainPage classes.now singles.now) }
-    requires text_len_bound { (length text.now ≤ piece_limit) × (count ≤ from) × (from ≤ length text.now) }
-    ensures { TurnedFrom classes.now singles.now pairs.now policy text.now room count from result }
-{
-    if room <= count {
-        let rest = count_from(policy, classes, singles, pairs, leads, plain, text, from);
-        return ended(count, count + rest);
-    }
-    let next = find_from(policy, classes, singles, pairs, leads, plain, text, from);
-    if !next.found {
-        return ended(count, count);
-    }
-    let finding = next.finding;
-    let answer = Listed::Number(0);
-    Turn {
-        going: true,
-        count,
-        finding,
-        end: next.end,
-        plain,
-        leads,
-        answer,
-    }
-}
-
-// The first turn: what the checks refuse, nothing more where the text is clean, else its first finding.
-fn first_turn(
-    policy: Policy,
-    numbers: Numbers,
-    classes: &[u8],
-    singles: &[u16],
-    pairs: &[u16],
-    index: &[u8],
-    blocks: &[u16],
-    text: &[u8],
-    room: usize,
-) -> Turn
-    ensures { CallTurn (findings_call policy (code_page numbers classes.now singles.now pairs.now index.now blocks.now) text.now) classes.now singles.now pairs.now policy text.now room result × (result.count ≡ 0) }
+// The checks of a call: the first that fails is its refusal.
+fn check(policy: Policy, tables: &TableSet, text: &[u8]) -> Result<(), Refusal>
+    ensures passes { OnOk result (FindingsPasses policy (page_of tables.now) text.now) }
+    ensures refused { IfErr result (λ why. FindingsSays policy (page_of tables.now) text.now why) }
 {
     if !policies::allowed(Direction::Decoding, policy) {
-        return refused(Refusal::BadPolicy);
+        return Err(Refusal::BadPolicy);
     }
-    if !codepage::shape::good_shape(numbers, classes, singles, pairs, index, blocks) {
-        return refused(Refusal::BadShape);
+    if !codepage::shape::good_shape(tables) {
+        return Err(Refusal::BadShape);
     }
     if Run::PIECE_LIMIT < text.len() {
-        return refused(Refusal::TooLong);
+        return Err(Refusal::TooLong);
     }
-    if is_clean(classes, singles, pairs, text) {
-        return ended(0, 0);
-    }
-    let leads = profile::leads_of(classes);
-    let plain = profile::plain_bytes(classes, singles);
-    turn_from(
-        policy, classes, singles, pairs, leads, plain, text, room, 0, 0,
-    )
+    Ok(())
 }
 
-// The turn behind one whose finding was stored.
-fn next_turn(
-    policy: Policy,
-    classes: &[u8],
-    singles: &[u16],
-    pairs: &[u16],
-    text: &[u8],
-    room: usize,
-    t: Turn,
-) -> Turn
-    requires { TurnGoesOn classes.now singles.now pairs.now text.now room t }
-    ensures { NextTurn classes.now singles.now pairs.now policy text.now room t result }
-{
-    let finding = t.finding;
-    let count = t.count + 1;
-    if finding.digit == 0 {
-        return ended(count, count);
+impl Search<'_> {
+    // The code at a place.
+    fn look_at(&self, place: usize) -> Looked
+        requires { place < length self.now.text.now }
+        ensures { LookedAt (byte_reader self.now.tables.tables) self.now.policy self.now.text.now place result }
+    {
+        let text = self.text;
+        let read = codepage_walk::code_at(&self.tables, text, place);
+        let size = read.size;
+        let end = place + size;
+        let means = read.means;
+        match means {
+            Ok(_) => Looked { finding: None, end },
+            Err(kind) => {
+                let finding = finding_at(self.policy, kind, text, place, size);
+                Looked {
+                    finding: Some(finding),
+                    end,
+                }
+            }
+        }
     }
-    let leads = t.leads;
-    turn_from(
-        policy, classes, singles, pairs, leads, t.plain, text, room, count, t.end,
-    )
+
+    // The first finding from a place on, if there is one.
+    fn find_from(&self, from: usize) -> Option<Located>
+        requires { from ≤ length self.now.text.now }
+        ensures { MatchOption result (findings_from (byte_reader self.now.tables.tables) self.now.policy self.now.text.now from ≡ []) (λ next. FoundAt (byte_reader self.now.tables.tables) self.now.policy self.now.text.now from next) }
+    {
+        let text = self.text;
+        let mut place = pass_plain(self.plain, text, from);
+        // Kept: a turn moves by the code that it read, so there is no range to go over.
+        while place < text.len() {
+            let code = self.look_at(place);
+            if let Some(finding) = code.finding {
+                return Some(Located {
+                    finding,
+                    end: code.end,
+                });
+            }
+            place = pass_plain(self.plain, text, code.end);
+        }
+        None
+    }
+
+    // How many findings there are from a place on.
+    fn count_from(&self, from: usize) -> usize
+        requires { (from ≤ length self.now.text.now) × (length self.now.text.now ≤ piece_limit) }
+        ensures { (result ≡ length (findings_from (byte_reader self.now.tables.tables) self.now.policy self.now.text.now from)) × (result ≤ length self.now.text.now) }
+    {
+        let text = self.text;
+        let mut place = from;
+        let mut count: usize = 0;
+        // Kept: a turn moves behind the finding that it read, so there is no range to go over.
+        while place < text.len() {
+            let Some(next) = self.find_from(place) else {
+                return count;
+            };
+            count += 1;
+            if next.finding.digit == 0 {
+                return count;
+            }
+            place = next.end;
+        }
+        count
+    }
+
+    // Puts the findings of a text to the front of a list, as many as it has room for: how many there are.
+    fn fill_list(&self, list: &mut [Finding]) -> usize
+        requires { length self.now.text.now ≤ piece_limit }
+        ensures { Filled (findings_from (byte_reader self.now.tables.tables) self.now.policy self.now.text.now 0) result list.old list.new }
+    {
+        let mut place: usize = 0;
+        for count in 0..list.len() {
+            let Some(next) = self.find_from(place) else {
+                return count;
+            };
+            let finding = next.finding;
+            list[count] = finding;
+            if finding.digit == 0 {
+                return count + 1;
+            }
+            place = next.end;
+        }
+        let rest = self.count_from(place);
+        list.len() + rest
+    }
 }
 
 // Lists the findings of a text under a policy: as many as fit at the front of the list.
 pub fn list_findings(
     policy: Policy,
-    numbers: Numbers,
-    classes: &[u8],
-    singles: &[u16],
-    pairs: &[u16],
-    index: &[u8],
-    blocks: &[u16],
+    tables: &TableSet,
     text: &[u8],
     list: &mut [Finding],
-) -> Listed
-    ensures { FindingsListed (findings_call policy (code_page numbers classes.now singles.now pairs.now index.now blocks.now) text.now) result list.old list.new }
+) -> Result<usize, Refusal>
+    ensures { FindingsListed (findings_call policy (page_of tables.now) text.now) result list.old list.new }
 {
-    let mut t = first_turn(
-        policy,
-        numbers,
-        classes,
-        singles,
-        pairs,
-        index,
-        blocks,
-        text,
-        list.len(),
-    );
-    while t.going {
-        list[t.count] = t.finding;
-        t = next_turn(policy, classes, singles, pairs, text, list.len(), t);
+    check(policy, tables, text)?;
+    let bytes = ByteTables {
+        classes: tables.classes,
+        singles: tables.singles,
+        pairs: tables.pairs,
+    };
+    if is_clean(&bytes, text) {
+        return Ok(0);
     }
-    t.answer
+    let leads = bytes.with_leads();
+    let plain = bytes.keeps_plain();
+    let search = Search {
+        tables: leads,
+        plain,
+        policy,
+        text,
+    };
+    Ok(search.fill_list(list))
 }
 
 // The first finding of a text from a place on, at which a code begins, by value. Behind it, at its place and size, the next is asked for,
 // unless its digit is 0: it stopped the reading.
 pub fn next_finding(
     policy: Policy,
-    numbers: Numbers,
-    classes: &[u8],
-    singles: &[u16],
-    pairs: &[u16],
-    index: &[u8],
-    blocks: &[u16],
+    tables: &TableSet,
     text: &[u8],
     from: usize,
-) -> Next
-    ensures { result ≡ next_of policy (code_page numbers classes.now singles.now pairs.now index.now blocks.now) text.now from }
+) -> Result<Option<Finding>, Refusal>
+    ensures { result ≡ next_of policy (page_of tables.now) text.now from }
 {
-    if !policies::allowed(Direction::Decoding, policy) {
-        return Next::Refused(Refusal::BadPolicy);
-    }
-    if !codepage::shape::good_shape(numbers, classes, singles, pairs, index, blocks) {
-        return Next::Refused(Refusal::BadShape);
-    }
-    if Run::PIECE_LIMIT < text.len() {
-        return Next::Refused(Refusal::TooLong);
-    }
+    check(policy, tables, text)?;
     if text.len() <= from {
-        return Next::Nothing;
+        return Ok(None);
     }
-    let leads = profile::leads_of(classes);
-    let plain = profile::plain_bytes(classes, singles);
-    let next = find_from(policy, classes, singles, pairs, leads, plain, text, from);
-    if !next.found {
-        return Next::Nothing;
-    }
-    let finding = next.finding;
-    Next::Found(finding)
+    let bytes = ByteTables {
+        classes: tables.classes,
+        singles: tables.singles,
+        pairs: tables.pairs,
+    };
+    let leads = bytes.with_leads();
+    let plain = bytes.keeps_plain();
+    let search = Search {
+        tables: leads,
+        plain,
+        policy,
+        text,
+    };
+    let next = search.find_from(from);
+    Ok(next.map(|next| next.finding))
 }

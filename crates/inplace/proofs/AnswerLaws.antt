@@ -9,7 +9,7 @@ use native.Mathlib.Omega.{arith}
 use lib.Dec.{leb, eqb}
 use lib.ListN.{length}
 use borrow.Author.Tests.{eqb-true, eqb-false, leb-true, leb-false}
-use Rattle.codepage.specs.CodePage.{CodePage, pick, first_fault, is_good}
+use Rattle.codepage.specs.CodePage.{CodePage, first_fault, is_good}
 use Rattle.codepage.specs.Reading.{Code, codes}
 use Rattle.codepage.specs.Lent.{over}
 use Rattle.codepage.proofs.ShapeLaws.{shape_exact}
@@ -18,12 +18,12 @@ use Rattle.utf16.specs.Utf16.{utf16_units}
 use Rattle.engine.specs.declared.Direction.TheVariants.{Encoding}
 use Rattle.engine.specs.declared.Policy.{Policy}
 use Rattle.engine.specs.Policies.{policy_allowed}
-use Rattle.engine.specs.Engine.{Converter, endless, Fed, whole, converter_of, reader_of}
+use Rattle.engine.specs.Engine.{Converter, endless, whole, converter_of, reader_of}
 use Rattle.engine.proofs.AnswerLaws.{Goes, StopsAt, codes_exact, AnswerCases, answer_cases}
 use Rattle.convert.specs.Runs.{piece_limit}
 use Rattle.inplace.specs.declared.Refusal.{Refusal}
 use Rattle.inplace.specs.declared.Refusal.TheVariants.{BadPolicy, BadShape, OddBytes, TooLong}
-use Rattle.inplace.specs.declared.Encoded.TheVariants as encoded
+use Rattle.std.specs.Prelude.{Ok, Err}
 use Rattle.inplace.specs.InPlace.{encoded_number, buffer_refusal, held_reading, encoded_by, in_place_unless, in_place_of}
 use Rattle.inplace.specs.Claims.{RefusalSays, BufferPasses}
 use Rattle.inplace.proofs.CallLaws.{bad_policy, bad_shape, odd_bytes, too_long, all_pass}
@@ -64,28 +64,21 @@ module _ (policy : Policy) (p : CodePage) (buffer : List ℕ) where
   refusal_exact : (why : Refusal) → (buffer_refusal policy p buffer ≡ some why) ↔ RefusalSays policy p buffer why
   refusal_exact = checks.refused_exact (RefusalSays policy p buffer) (BufferPasses policy p buffer) (buffer_refusal policy p buffer) says passes cases
 
-  -- an accepted call's answer is no refusal
-  by_reading : (f : Fed) (why : Refusal) → encoded_by f ≡ encoded.Refused why → ⊥
-  unfolding encoded_by
-  by_reading f why = by (eqb f.answer 3)
-    where
-      by : (t : Bool) → pick t (encoded.Stopped f.flags f.used (length f.output)) (encoded.All f.flags f.used (length f.output)) ≡ encoded.Refused why → ⊥
-      by true e = let z : ◌≡◌ {A = ℕ} 0 1 = cc in omega arith
-      by false e = let z : ◌≡◌ {A = ℕ} 0 1 = cc in omega arith
-
   -- the answer by the refusal
   answer_by : (o : Option Refusal) → buffer_refusal policy p buffer ≡ o → (in_place_of policy p buffer).answer ≡ (in_place_unless o buffer (held_reading policy p buffer)).answer
   unfolding in_place_of
   answer_by o e = ap (λ (x : Option Refusal). (in_place_unless x buffer (held_reading policy p buffer)).answer) e
 
   -- EACH REFUSAL EXACTLY IN ITS CASE: it is the first check that fails.
-  pub refused_exact : (why : Refusal) → ((in_place_of policy p buffer).answer ≡ encoded.Refused why) ↔ RefusalSays policy p buffer why
+  pub refused_exact : (why : Refusal) → ((in_place_of policy p buffer).answer ≡ Err why) ↔ RefusalSays policy p buffer why
   refused_exact why = (λ e. by (buffer_refusal policy p buffer) refl e, λ h. answer_by (some why) (says why h))
     where
-      by : (o : Option Refusal) → buffer_refusal policy p buffer ≡ o → (in_place_of policy p buffer).answer ≡ encoded.Refused why → RefusalSays policy p buffer why
-      by none q e = absurd (by_reading (held_reading policy p buffer) why (sym (answer_by none q) ∙ e))
+      by : (o : Option Refusal) → buffer_refusal policy p buffer ≡ o → (in_place_of policy p buffer).answer ≡ Err why → RefusalSays policy p buffer why
+      by none q e =
+          let z : Ok (encoded_by (held_reading policy p buffer)) ≡ Err why = sym (answer_by none q) ∙ e in
+          absurd (let n : ◌≡◌ {A = ℕ} 0 1 = cc in omega arith)
       by (some other) q e =
-          let z : encoded.Refused other ≡ encoded.Refused why = sym (answer_by (some other) q) ∙ e in
+          let z : Err other ≡ Err why = sym (answer_by (some other) q) ∙ e in
           let same : other ≡ why = cc in
           (refusal_exact why).0 (q ∙ ap some same)
 
@@ -103,7 +96,7 @@ module _ (policy : Policy) (p : CodePage) (buffer : List ℕ) where
   accepted_number : BufferPasses policy p buffer → encoded_number (in_place_of policy p buffer).answer ≡ (held_reading policy p buffer).answer
   accepted_number h = ap encoded_number (answer_by none (passes h)) ∙ number_by (held_reading policy p buffer) (reading_ends policy p buffer)
 
-  refused_number : (why : Refusal) → 10 ≤ encoded_number (encoded.Refused why)
+  refused_number : (why : Refusal) → 10 ≤ encoded_number (Err why)
   refused_number BadPolicy = omega arith
   refused_number BadShape = omega arith
   refused_number OddBytes = omega arith

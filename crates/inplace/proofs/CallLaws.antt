@@ -24,7 +24,7 @@ use Rattle.convert.proofs.CallLaws.{index_high}
 use Rattle.inplace.specs.declared.Refusal.{Refusal}
 use Rattle.inplace.specs.declared.Refusal.TheVariants.{BadPolicy, BadShape, OddBytes, TooLong}
 use Rattle.inplace.specs.declared.Encoded.{Encoded}
-use Rattle.inplace.specs.declared.Encoded.TheVariants as encoded
+use Rattle.std.specs.Prelude.{Ok, Err}
 use Rattle.inplace.specs.InPlace.{buffer_refusal, held_reading, encoded_by, in_place_of, EncodedAs}
 use Rattle.inplace.specs.Steps.{answered}
 
@@ -70,12 +70,12 @@ module _ (policy : Policy) (p : CodePage) (buffer : List ℕ) where
         all_pass h = rw (a, e, eq-eqb (length buffer % 2) 0 o, le-leb (length (utf16_units buffer)) piece_limit h)
 
   -- a refused call leaves the buffer as it was
-  pub encoded_refused : (why : Refusal) → buffer_refusal policy p buffer ≡ some why → EncodedAs (in_place_of policy p buffer) (encoded.Refused why) buffer
+  pub encoded_refused : (why : Refusal) → buffer_refusal policy p buffer ≡ some why → EncodedAs (in_place_of policy p buffer) (Err why) buffer
   unfolding in_place_of
   encoded_refused why e = rw e (record { answer = refl; lent = refl })
 
   -- an accepted call whose numbers and buffer are the whole reading's keeps the promise
   pub encoded_done : (s : Progress) (r : Encoded) (after : List ℕ) → buffer_refusal policy p buffer ≡ none → Ends (held_reading policy p buffer) buffer after s → r ≡ answered s
-      → EncodedAs (in_place_of policy p buffer) r after
+      → EncodedAs (in_place_of policy p buffer) (Ok r) after
   unfolding in_place_of encoded_by summary
-  encoded_done s r after e d a = rw e (record { answer = a ∙ ap answered d.result; lent = d.laid })
+  encoded_done s r after e d a = rw e (record { answer = ap Ok (a ∙ ap answered d.result); lent = d.laid })

@@ -27,8 +27,9 @@ use Rattle.convert.specs.Calls as calls
 use Rattle.oneshot.specs.Texts.{text_refusal, answer_of, accepted_text, refused_text, text_fed, text_of}
 use Rattle.oneshot.proofs.TextLaws.{never_full, ample, text_answer}
 use Rattle.inplace.specs.declared.Refusal.TheVariants.{BadPolicy, BadShape, TooLong}
-use Rattle.inplace.specs.declared.Encoded.TheVariants as encoded
-use Rattle.inplace.specs.InPlace.{encoded_number, buffer_refusal, held_reading, encoded_by, in_place_unless, in_place_of}
+use Rattle.std.specs.Prelude.{Ok}
+use Rattle.inplace.specs.declared.Ending.TheVariants.{All, Stopped}
+use Rattle.inplace.specs.InPlace.{encoded_number, ending_number, buffer_refusal, held_reading, encoded_by, in_place_unless, in_place_of}
 use Rattle.inplace.specs.Claims.{encoded_totals, AsSeparate}
 
 -- ---- why one buffer is enough
@@ -71,25 +72,20 @@ module _ (policy : Policy) (p : CodePage) (buffer : List ℕ) where
 
 -- ---- the answer of an accepted call
 -- its number is the reading's
-pub number_by : (f : Fed) → (f.answer ≡ 0) ⊎ (f.answer ≡ 3) → encoded_number (encoded_by f) ≡ f.answer
+pub number_by : (f : Fed) → (f.answer ≡ 0) ⊎ (f.answer ≡ 3) → encoded_number (Ok (encoded_by f)) ≡ f.answer
 unfolding encoded_by
 number_by f ends = by (eqb f.answer 3) refl ends
   where
     by : (t : Bool) → eqb f.answer 3 ≡ t → (f.answer ≡ 0) ⊎ (f.answer ≡ 3)
-        → encoded_number (pick t (encoded.Stopped f.flags f.used (length f.output)) (encoded.All f.flags f.used (length f.output))) ≡ f.answer
+        → ending_number (pick t Stopped All) ≡ f.answer
     by true q e = sym (eqb-true _ _ q)
     by false q (inl e) = sym e
     by false q (inr e) = absurd (eqb-false _ _ q e)
 
 -- and so are its totals
-pub totals_by_lem : (f : Fed) → encoded_totals (encoded_by f) ≡ some (record { flags = f.flags; read = f.used; need = length f.output; written = length f.output })
+pub totals_by_lem : (f : Fed) → encoded_totals (Ok (encoded_by f)) ≡ some (record { flags = f.flags; read = f.used; need = length f.output; written = length f.output })
 unfolding encoded_by
-totals_by_lem f = by (eqb f.answer 3)
-  where
-    by : (t : Bool) → encoded_totals (pick t (encoded.Stopped f.flags f.used (length f.output)) (encoded.All f.flags f.used (length f.output)))
-        ≡ some (record { flags = f.flags; read = f.used; need = length f.output; written = length f.output })
-    by true = refl
-    by false = refl
+totals_by_lem f = refl
 
 -- ---- beside the one call of CR 10
 module _ (policy : Policy) (p : CodePage) (buffer : List ℕ) (room : ℕ) (fits : length (held_reading policy p buffer).output ≤ room) where
@@ -107,7 +103,7 @@ module _ (policy : Policy) (p : CodePage) (buffer : List ℕ) (room : ℕ) (fits
   unfolding text_fed
   whole_is = sym (reading_is policy p buffer)
 
-  accepted_as : AsSeparate (record { answer = encoded_by held; buffer = over buffer held.output })
+  accepted_as : AsSeparate (record { answer = Ok (encoded_by held); buffer = over buffer held.output })
       (accepted_text (text_fed Encoding policy p endless (utf16_units buffer)) (text_fed Encoding policy p (limit room) (utf16_units buffer)) room) buffer
   unfolding accepted_text answer_of
   accepted_as =

@@ -11,7 +11,7 @@ use Rattle.engine.specs.Policies.{policy_allowed, standard}
 use Rattle.convert.specs.Sample.{sample_page}
 use Rattle.convert.proofs.SampleRows.{sample_good}
 use Rattle.inplace.specs.declared.Refusal.TheVariants.{BadShape, OddBytes, TooLong}
-use Rattle.inplace.specs.declared.Encoded.TheVariants as encoded
+use Rattle.std.specs.Prelude.{Err}
 use Rattle.inplace.specs.InPlace.{encoded_number, in_place_of}
 use Rattle.inplace.proofs.AnswerLaws.{refused_exact, accepted_exact}
 
@@ -33,13 +33,13 @@ units_size : (size : ℕ) → length (utf16_units (letters size)) ≡ size / 2
 units_size size = units_length (letters size) ∙ ap (λ (n : ℕ). n / 2) (letters_size size)
 
 -- 10: also ahead of 26
-pub shape_refused : (in_place_of standard pageless (letters 1)).answer ≡ encoded.Refused BadShape
+pub shape_refused : (in_place_of standard pageless (letters 1)).answer ≡ Err BadShape
 unfolding pageless policy_allowed
 shape_refused = (refused_exact standard pageless (letters 1) BadShape).1 (refl, λ g. g.page refl)
 
 -- 131,073 BYTES ARE REFUSED WITH 26, 131,074 WITH 11, AND 131,072 ARE ACCEPTED.
-pub edges_refused : ((in_place_of standard sample_page (letters 131073)).answer ≡ encoded.Refused OddBytes)
-    × (((in_place_of standard sample_page (letters 131074)).answer ≡ encoded.Refused TooLong) × (encoded_number (in_place_of standard sample_page (letters 131072)).answer < 10))
+pub edges_refused : ((in_place_of standard sample_page (letters 131073)).answer ≡ Err OddBytes)
+    × (((in_place_of standard sample_page (letters 131074)).answer ≡ Err TooLong) × (encoded_number (in_place_of standard sample_page (letters 131072)).answer < 10))
 unfolding policy_allowed
 edges_refused = (
   (refused_exact standard sample_page (letters 131073) OddBytes).1 ((refl, sample_good), ap (λ (n : ℕ). n % 2) (letters_size 131073)),

@@ -1,5 +1,5 @@
 -- Document 02, CR 9: the cases of the answers, and what is claimed beside the one call of CR 10.
-use Rattle.std.specs.Prelude.{List, ◌≡◌, ℕ, ◌%◌, ◌≤◌, ◌<◌, length, true}
+use Rattle.std.specs.Prelude.{List, ◌≡◌, ℕ, ◌%◌, ◌≤◌, ◌<◌, length, true, Result, Ok, Err}
 use Rattle.std.proofs.Math.Option.{Option, none, some}
 use Rattle.codepage.specs.CodePage.{CodePage, GoodShape}
 use Rattle.codepage.specs.Lent.{over}
@@ -13,7 +13,6 @@ use Rattle.oneshot.specs.Texts.{Text}
 use Rattle.inplace.specs.declared.Refusal.{Refusal}
 use Rattle.inplace.specs.declared.Refusal.TheVariants.{BadPolicy, BadShape, OddBytes, TooLong}
 use Rattle.inplace.specs.declared.Encoded.{Encoded}
-use Rattle.inplace.specs.declared.Encoded.TheVariants as encoded
 use Rattle.inplace.specs.InPlace.{encoded_number, InPlace}
 
 -- 17 and 10 pass
@@ -36,10 +35,9 @@ abbrev pub BufferPasses : Policy → CodePage → (buffer : List ℕ) → Type 0
 BufferPasses policy p buffer = EvenPasses policy p buffer × (length (utf16_units buffer) ≤ piece_limit)
 
 -- flags, read, need and written, as the one call of CR 10 tells them; what is needed is written; a refusal has none
-abbrev pub encoded_totals : Encoded → Option Totals
-encoded_totals (encoded.All flags read written) = some (record { flags = flags; read = read; need = written; written = written })
-encoded_totals (encoded.Stopped flags read written) = some (record { flags = flags; read = read; need = written; written = written })
-encoded_totals (encoded.Refused why) = none
+abbrev pub encoded_totals : Result Encoded Refusal → Option Totals
+encoded_totals (Ok encoded) = some (record { flags = encoded.flags; read = encoded.read; need = encoded.written; written = encoded.written })
+encoded_totals (Err why) = none
 
 -- The call gives what the one call of CR 10 gives from a separate buffer: number, flags, read and written, and its output at the front.
 pub record AsSeparate (c : InPlace) (t : Text) (before : List ℕ) : Type 0 where

@@ -1,5 +1,5 @@
 -- Document 02, CR 9: units encoded inside the one lent buffer that holds them. docs/RULES.md, "One buffer".
-use Rattle.std.specs.Prelude.{List, ◌≡◌, ℕ, ◌%◌, leb, eqb, length}
+use Rattle.std.specs.Prelude.{List, ◌≡◌, ℕ, ◌%◌, leb, eqb, length, Result, Ok, Err}
 use Rattle.std.proofs.Math.Option.{Option, none, some}
 use Rattle.codepage.specs.CodePage.{CodePage, pick, first_fault, is_good}
 use Rattle.codepage.specs.Lent.{over}
@@ -13,7 +13,8 @@ use Rattle.convert.specs.Runs.{piece_limit}
 use Rattle.inplace.specs.declared.Refusal.{Refusal}
 use Rattle.inplace.specs.declared.Refusal.TheVariants.{BadPolicy, BadShape, OddBytes, TooLong}
 use Rattle.inplace.specs.declared.Encoded.{Encoded}
-use Rattle.inplace.specs.declared.Encoded.TheVariants as encoded
+use Rattle.inplace.specs.declared.Ending.{Ending}
+use Rattle.inplace.specs.declared.Ending.TheVariants.{All, Stopped}
 
 -- The numbers of the refusals.
 abbrev pub buffer_number : Refusal → ℕ
@@ -23,10 +24,13 @@ buffer_number OddBytes = 26
 buffer_number TooLong = 11
 
 -- The number of each answer.
-abbrev pub encoded_number : Encoded → ℕ
-encoded_number (encoded.All flags read written) = 0
-encoded_number (encoded.Stopped flags read written) = 3
-encoded_number (encoded.Refused why) = buffer_number why
+abbrev pub ending_number : Ending → ℕ
+ending_number All = 0
+ending_number Stopped = 3
+
+abbrev pub encoded_number : Result Encoded Refusal → ℕ
+encoded_number (Ok encoded) = ending_number encoded.ending
+encoded_number (Err why) = buffer_number why
 
 -- "Checks: 17, 10, then 26 odd number of bytes, then 11 by units"; the buffer holds "units as two bytes each, low byte first"
 unfoldable pub buffer_refusal : Policy → CodePage → (buffer : List ℕ) → Option Refusal
@@ -43,23 +47,23 @@ held_reading policy p buffer = whole (reader_of Encoding p) policy (default_of E
 
 -- "The result, counts and flags equal" those of the reading: 3 if it stopped, else 0; its flags, what it read and what it wrote
 unfoldable pub encoded_by : Fed → Encoded
-encoded_by f = pick (eqb f.answer 3) (encoded.Stopped f.flags f.used (length f.output)) (encoded.All f.flags f.used (length f.output))
+encoded_by f = record { ending = pick (eqb f.answer 3) Stopped All; flags = f.flags; read = f.used; written = length f.output }
 
 -- What the call gives: its answer, and the buffer after it.
 pub record InPlace : Type 0 where
-  pub answer : Encoded
+  pub answer : Result Encoded Refusal
   pub buffer : List ℕ
 
 -- "result at the front", "bytes beyond the result are unchanged"; of a refused call "the buffer is untouched"
 abbrev pub in_place_unless : Option Refusal → (buffer : List ℕ) → Fed → InPlace
-in_place_unless none buffer f = record { answer = encoded_by f; buffer = over buffer f.output }
-in_place_unless (some refusal) buffer f = record { answer = encoded.Refused refusal; buffer = buffer }
+in_place_unless none buffer f = record { answer = Ok (encoded_by f); buffer = over buffer f.output }
+in_place_unless (some refusal) buffer f = record { answer = Err refusal; buffer = buffer }
 
 -- THE CALL.
 unfoldable pub in_place_of : Policy → CodePage → (buffer : List ℕ) → InPlace
 in_place_of policy p buffer = in_place_unless (buffer_refusal policy p buffer) buffer (held_reading policy p buffer)
 
 -- The promise of the call: c is what the rules give, r what it returns, and the buffer after it.
-pub record EncodedAs (c : InPlace) (r : Encoded) (after : List ℕ) : Type 0 where
+pub record EncodedAs (c : InPlace) (r : Result Encoded Refusal) (after : List ℕ) : Type 0 where
   pub answer : r ≡ c.answer
   pub lent : after ≡ c.buffer

@@ -7,11 +7,11 @@ use Rattle.engine.specs.declared.progress.Progress.{Progress}
 use Rattle.engine.specs.Engine.{Converter, endless, feed}
 use Rattle.engine.specs.Steps.{sofar, Ends}
 use Rattle.inplace.specs.declared.Encoded.{Encoded}
-use Rattle.inplace.specs.declared.Encoded.TheVariants as encoded
+use Rattle.inplace.specs.declared.Ending.TheVariants.{All, Stopped}
 
 -- the answer, from the numbers of the reading
 abbrev pub answered : Progress → Encoded
-answered s = pick (eqb s.answer 3) (encoded.Stopped s.flags s.used s.written) (encoded.All s.flags s.used s.written)
+answered s = record { ending = pick (eqb s.answer 3) Stopped All; flags = s.flags; read = s.used; written = s.written }
 
 -- what a chunk gave, behind what was before it: a stop ends the call, and a unit that stays pending is not read yet
 abbrev pub chunk_added : (s made : Progress) → Progress

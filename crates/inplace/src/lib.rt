@@ -3,25 +3,26 @@
 // The buffer holds units as two bytes each, low byte first. The bytes that they encode to stand at its front after the call; behind
 // them the buffer is as it was.
 //
-//     let encoded = inplace::encode_in_place(policy, numbers, classes, singles, pairs, index, blocks, buffer);
-//     // Encoded::All { flags, read, written }: the result is buffer[..written]; Encoded::Stopped { .. }: the result so far is there;
-//     // Encoded::Refused(why): why.number(), and the buffer is untouched
+//     let encoded = inplace::encode_in_place(policy, &tables, buffer);
+//     // Ok(encoded): the result, or the result so far where encoded.ending is Stopped, is buffer[..encoded.written];
+//     // Err(why): why.number(), and the buffer is untouched
 
 #![tactic(auto)]
 
-ghost use Rattle.std.specs.Prelude.{true, List, ◌≡◌, ℕ, ◌+◌, ◌*◌, ◌/◌, ◌<◌, ◌≤◌, ◌^◌, eqb, length};
-ghost use Rattle.codepage.specs.CodePage.{code_page, entry_at, pick};
-ghost use Rattle.codepage.specs.Reading.{encoder};
+ghost use Rattle.std.specs.Prelude.{Ok, List, ◌≡◌, ℕ, ◌+◌, ◌*◌, ◌/◌, ◌<◌, ◌≤◌, ◌^◌, eqb, length};
+ghost use Rattle.codepage.specs.CodePage.{page_of, pick};
+ghost use Rattle.codepage_lookup.specs.Tables.{unit_reader};
+ghost use Rattle.engine.specs.Converters.{by_units};
 ghost use Rattle.utf16.specs.Utf16.{utf16_units};
-ghost use Rattle.engine.specs.declared.Direction.TheVariants.{Encoding};
-ghost use Rattle.engine.specs.Policies.{policy_allowed};
-ghost use Rattle.engine.specs.Engine.{converter, whole};
+ghost use Rattle.engine.specs.Engine.{whole};
 ghost use Rattle.engine.specs.Steps.{Ends};
 ghost use Rattle.inplace.specs.InPlace.{buffer_number, encoded_number, in_place_of, EncodedAs};
 ghost use Rattle.inplace.specs.Steps.{answered, chunk_added, PartDone, ChunkDone};
 
-use codepage::Numbers;
+use codepage::TableSet;
+use codepage_lookup::tables::UnitTables;
 use convert::Run;
+use engine::converters::UnitConverter;
 use engine::progress::Progress;
 use engine::{Direction, Policy, policies};
 use engine_loops::encoder;
@@ -43,22 +44,22 @@ pub enum Refusal {
     TooLong,
 }
 
-// What the call answers: the flags, the units read, and the bytes written at the buffer's front.
+// How a call that was not refused ended.
 #[derive(Clone, Copy)]
-pub enum Encoded {
+pub enum Ending {
     // 0: all read.
-    All {
-        flags: u8,
-        read: usize,
-        written: usize,
-    },
+    All,
     // 3: stopped by policy digit 0.
-    Stopped {
-        flags: u8,
-        read: usize,
-        written: usize,
-    },
-    Refused(Refusal),
+    Stopped,
+}
+
+// What a call that was not refused answers: how it ended, the flags, the units read, and the bytes written at the buffer's front.
+#[derive(Clone, Copy)]
+pub struct Encoded {
+    pub ending: Ending,
+    pub flags: u8,
+    pub read: usize,
+    pub written: usize,
 }
 
 impl Refusal {
@@ -78,39 +79,31 @@ impl Refusal {
 impl Encoded {
     // The number that documents 01 and 02 give the answer.
     pub fn number(self) -> u8
-        ensures { result ≡ encoded_number self }
+        ensures { result ≡ encoded_number (Ok self) }
     {
-        match self {
-            Encoded::All {
-                flags: _,
-                read: _,
-                written: _,
-            } => 0,
-            Encoded::Stopped {
-                flags: _,
-                read: _,
-                written: _,
-            } => 3,
-            Encoded::Refused(why) => why.number(),
+        match self.ending {
+            Ending::All => 0,
+            Ending::Stopped => 3,
         }
     }
 }
 
-// The answer of a call that was not refused.
-fn answer_of(s: Progress) -> Encoded
-    ensures { result ≡ answered s }
-{
-    if s.answer == 3 {
-        return Encoded::Stopped {
+impl From<Progress> for Encoded {
+    ghost from_gives = { λ s e. e ≡ answered s };
+
+    // The answer of a call that was not refused.
+    fn from(s: Progress) -> Encoded {
+        let ending = if s.answer == 3 {
+            Ending::Stopped
+        } else {
+            Ending::All
+        };
+        Encoded {
+            ending,
             flags: s.flags,
             read: s.used,
             written: s.written,
-        };
-    }
-    Encoded::All {
-        flags: s.flags,
-        read: s.used,
-        written: s.written,
+        }
     }
 }
 
@@ -140,51 +133,21 @@ fn add_chunk(s: Progress, made: Progress) -> Progress
 // Takes a chunk of the units that are left: they are copied out of the buffer, and then encoded into it, behind what was written. What is
 // written never reaches the units that are left behind the chunk. A high surrogate at the chunk's end stays pending, and begins the
 // next one.
-fn take_chunk(
-    policy: Policy,
-    default: u8,
-    index: &[u8],
-    blocks: &[u16],
-    s: Progress,
-    chunk: &mut [u16],
-    buffer: &mut [u8],
-) -> Progress
-    requires policy_value { policy_allowed Encoding policy ≡ true }
-    requires index_len { length index.now ≡ 256 }
-    requires by_index { (high : ℕ) → 256 * entry_at index.now high + 256 ≤ length blocks.now }
-    requires written_bound { (s.written ≤ 2 * s.used) × (s.used < length buffer.old / 2) × (2 ≤ length chunk.old) }
-    ensures { (before : List ℕ) → PartDone (converter (encoder index.now blocks.now) policy default) before s buffer.old → ChunkDone (converter (encoder index.now blocks.now) policy default) before s buffer.new result }
+fn take_chunk(v: &UnitConverter<'_>, s: Progress, chunk: &mut [u16], buffer: &mut [u8]) -> Progress
+    requires { (s.written ≤ 2 * s.used) × (s.used < length buffer.old / 2) × (2 ≤ length chunk.old) }
+    ensures { (before : List ℕ) → PartDone (by_units v.now) before s buffer.old → ChunkDone (by_units v.now) before s buffer.new result }
 {
     let from = 2 * s.used;
     let count = utf16::to_units(&buffer[from..], chunk);
     let last = s.used + count == buffer.len() / 2;
     let at = s.written;
-    let made = encoder::encode_loop(
-        policy,
-        default,
-        index,
-        blocks,
-        false,
-        0,
-        &chunk[..count],
-        last,
-        &mut buffer[at..],
-    );
+    let made = encoder::encode_loop(v, None, &chunk[..count], last, &mut buffer[at..]);
     add_chunk(s, made)
 }
 
 // Encodes the units that a buffer holds, chunk after chunk.
-fn encode_units(
-    policy: Policy,
-    default: u8,
-    index: &[u8],
-    blocks: &[u16],
-    buffer: &mut [u8],
-) -> Progress
-    requires policy_value { policy_allowed Encoding policy ≡ true }
-    requires index_len { length index.now ≡ 256 }
-    requires by_index { (high : ℕ) → 256 * entry_at index.now high + 256 ≤ length blocks.now }
-    ensures { Ends (whole (encoder index.now blocks.now) policy default (utf16_units buffer.old)) buffer.old buffer.new result }
+fn encode_units(v: &UnitConverter<'_>, buffer: &mut [u8]) -> Progress
+    ensures { Ends (whole (unit_reader v.now.tables) v.now.policy v.now.default (utf16_units buffer.old)) buffer.old buffer.new result }
 {
     let mut s = Progress {
         answer: 0,
@@ -193,8 +156,9 @@ fn encode_units(
         flags: 0,
     };
     let mut chunk = [0u16; CHUNK];
+    // Kept: each turn moves by the units that it read, so there is no range to go over.
     while s.used < buffer.len() / 2 {
-        s = take_chunk(policy, default, index, blocks, s, &mut chunk, buffer);
+        s = take_chunk(v, s, &mut chunk, buffer);
         if s.answer != 0 {
             return s;
         }
@@ -205,28 +169,33 @@ fn encode_units(
 // Encodes the units that the buffer holds inside it, the result at its front.
 pub fn encode_in_place(
     policy: Policy,
-    numbers: Numbers,
-    classes: &[u8],
-    singles: &[u16],
-    pairs: &[u16],
-    index: &[u8],
-    blocks: &[u16],
+    tables: &TableSet,
     buffer: &mut [u8],
-) -> Encoded
-    ensures { EncodedAs (in_place_of policy (code_page numbers classes.now singles.now pairs.now index.now blocks.now) buffer.old) result buffer.new }
+) -> Result<Encoded, Refusal>
+    ensures { EncodedAs (in_place_of policy (page_of tables.now) buffer.old) result buffer.new }
 {
     if !policies::allowed(Direction::Encoding, policy) {
-        return Encoded::Refused(Refusal::BadPolicy);
+        return Err(Refusal::BadPolicy);
     }
-    if !codepage::shape::good_shape(numbers, classes, singles, pairs, index, blocks) {
-        return Encoded::Refused(Refusal::BadShape);
+    if !codepage::shape::good_shape(tables) {
+        return Err(Refusal::BadShape);
     }
     if buffer.len() % 2 != 0 {
-        return Encoded::Refused(Refusal::OddBytes);
+        return Err(Refusal::OddBytes);
     }
     if Run::PIECE_LIMIT < buffer.len() / 2 {
-        return Encoded::Refused(Refusal::TooLong);
+        return Err(Refusal::TooLong);
     }
-    let s = encode_units(policy, numbers.default_byte, index, blocks, buffer);
-    answer_of(s)
+    let units = UnitTables {
+        index: tables.index,
+        blocks: tables.blocks,
+    };
+    let numbers = tables.numbers;
+    let converter = UnitConverter {
+        tables: units,
+        policy,
+        default: numbers.default_byte,
+    };
+    let s = encode_units(&converter, buffer);
+    Ok(Encoded::from(s))
 }

@@ -4,6 +4,7 @@ use mathlib.Core.List.{List, []}
 use mathlib.Core.Logic.{◌↔◌, ◌⊎◌, inl, inr}
 use mathlib.Core.Option.{Option, none, some}
 use mathlib.Core.Path.{◌≡◌, refl, sym, ap, ◌∙◌}
+use Rattle.std.proofs.Common.{Ok, Err}
 use Prim.Native.Nat.{ℕ}
 use native.Mathlib.Omega.{arith}
 use lib.Dec.{leb}
@@ -16,8 +17,6 @@ use Rattle.codepage_walk.specs.Checks.{bytes_reader, TextPasses, TextFails}
 use Rattle.codepage_walk.proofs.CheckLaws.{refused_exact, passed_exact, text_cases, not_good}
 use Rattle.linebreak.specs.declared.Refusal.{Refusal}
 use Rattle.linebreak.specs.declared.Refusal.TheVariants.{BadShape, TooLong, NotAcceptable, NoneExists, ListTooShort}
-use Rattle.linebreak.specs.declared.Checked.TheVariants as checked
-use Rattle.linebreak.specs.declared.Proposed.TheVariants as proposed
 use Rattle.linebreak.specs.Breaks.{acceptable, ours, breakable}
 use Rattle.linebreak.specs.Calls.{check_refusal, check_answer, check_of, propose_refusal, proposal_unless, proposal_of}
 use Rattle.linebreak.specs.Claims.{CheckSays, CheckPasses, OursExist, ProposeSays, ProposePasses}
@@ -26,22 +25,22 @@ use Rattle.linebreak.proofs.Theorems.{ours_acceptable, exist_breakable, none_exi
 
 -- ---- checking
 module _ (p : CodePage) (text : List ℕ) (width : ℕ) (breaks : List ℕ) where
-  check_says : (why : Refusal) → CheckSays p text width breaks why → check_of p text width breaks ≡ checked.Refused why
+  check_says : (why : Refusal) → CheckSays p text width breaks why → check_of p text width breaks ≡ Err why
   check_says BadShape h = check_bad p text width breaks (not_good p h)
   check_says TooLong (g, h) = check_long p text width breaks ((shape_exact p).1 g) h
   check_says NotAcceptable ((g, h), a) = check_refused p text width breaks ((shape_exact p).1 g) h a
   check_says NoneExists h = absurd h
   check_says ListTooShort h = absurd h
 
-  check_passes : CheckPasses p text width breaks → check_of p text width breaks ≡ checked.Acceptable
+  check_passes : CheckPasses p text width breaks → check_of p text width breaks ≡ Ok tt
   check_passes ((g, h), a) = check_accepted p text width breaks ((shape_exact p).1 g) h a
 
   -- the answer, and the first check that fails
-  answer_refused : (o : Option Refusal) (why : Refusal) → check_answer o ≡ checked.Refused why → o ≡ some why
+  answer_refused : (o : Option Refusal) (why : Refusal) → check_answer o ≡ Err why → o ≡ some why
   answer_refused none why e = absurd (let z : ◌≡◌ {A = ℕ} 0 1 = cc in omega arith)
   answer_refused (some other) why e = let same : other ≡ why = cc in ap (λ (w : Refusal). some w) same
 
-  answer_accepted : (o : Option Refusal) → check_answer o ≡ checked.Acceptable → o ≡ none
+  answer_accepted : (o : Option Refusal) → check_answer o ≡ Ok tt → o ≡ none
   answer_accepted none e = refl
   answer_accepted (some other) e = absurd (let z : ◌≡◌ {A = ℕ} 0 1 = cc in omega arith)
 
@@ -66,7 +65,7 @@ module _ (p : CodePage) (text : List ℕ) (width : ℕ) (breaks : List ℕ) wher
   refusal_passed h = answer_accepted (check_refusal p text width breaks) (check_passes h)
 
   -- EACH ANSWER OF A CHECK EXACTLY IN ITS CASE: 10, 11, 30; and accepted exactly the acceptable breaks.
-  pub check_refused_exact : (why : Refusal) → (check_of p text width breaks ≡ checked.Refused why) ↔ CheckSays p text width breaks why
+  pub check_refused_exact : (why : Refusal) → (check_of p text width breaks ≡ Err why) ↔ CheckSays p text width breaks why
   unfolding check_of
   check_refused_exact why = (
     λ e. (refused_exact (CheckSays p text width breaks) (CheckPasses p text width breaks) (check_refusal p text width breaks) refusal_said refusal_passed check_cases why).0
@@ -74,7 +73,7 @@ module _ (p : CodePage) (text : List ℕ) (width : ℕ) (breaks : List ℕ) wher
     check_says why,
   )
 
-  pub check_accepted_exact : (check_of p text width breaks ≡ checked.Acceptable) ↔ CheckPasses p text width breaks
+  pub check_accepted_exact : (check_of p text width breaks ≡ Ok tt) ↔ CheckPasses p text width breaks
   unfolding check_of
   check_accepted_exact = (
     λ e. (passed_exact (CheckSays p text width breaks) (CheckPasses p text width breaks) (check_refusal p text width breaks) refusal_said refusal_passed check_cases).0
@@ -113,16 +112,16 @@ module _ (p : CodePage) (text : List ℕ) (width room : ℕ) where
       by (inl (inr h)) = inl (TooLong, h)
       by (inr h) = by_codes h (breakable (bytes_reader p) text width) refl
 
-  given_refused : (o : Option Refusal) (breaks : List ℕ) (why : Refusal) → (proposal_unless o breaks).answer ≡ proposed.Refused why → o ≡ some why
+  given_refused : (o : Option Refusal) (breaks : List ℕ) (why : Refusal) → (proposal_unless o breaks).answer ≡ Err why → o ≡ some why
   given_refused none breaks why e = absurd (let z : ◌≡◌ {A = ℕ} 0 1 = cc in omega arith)
   given_refused (some other) breaks why e = let same : other ≡ why = cc in ap (λ (w : Refusal). some w) same
 
-  given_breaks : (o : Option Refusal) (breaks : List ℕ) (count : ℕ) → (proposal_unless o breaks).answer ≡ proposed.Breaks count → (o ≡ none) × (count ≡ length breaks)
+  given_breaks : (o : Option Refusal) (breaks : List ℕ) (count : ℕ) → (proposal_unless o breaks).answer ≡ Ok count → (o ≡ none) × (count ≡ length breaks)
   given_breaks none breaks count e = (refl, cc)
   given_breaks (some other) breaks count e = absurd (let z : ◌≡◌ {A = ℕ} 0 1 = cc in omega arith)
 
   -- EACH ANSWER OF A PROPOSAL EXACTLY IN ITS CASE: 10, 11, 31, 32, with nothing written; else ours, and how many they are.
-  pub propose_refused_exact : (why : Refusal) → ((proposal_of p text width room).answer ≡ proposed.Refused why) ↔ ProposeSays p text width room why
+  pub propose_refused_exact : (why : Refusal) → ((proposal_of p text width room).answer ≡ Err why) ↔ ProposeSays p text width room why
   unfolding proposal_of
   propose_refused_exact why = (
     λ e. (refused_exact (ProposeSays p text width room) (ProposePasses p text width room) (propose_refusal p text width room) propose_says propose_passes propose_cases why).0
@@ -130,17 +129,17 @@ module _ (p : CodePage) (text : List ℕ) (width room : ℕ) where
     λ h. ap (λ (o : Option Refusal). (proposal_unless o (ours (bytes_reader p) text width)).answer) (propose_says why h),
   )
 
-  pub refused_untouched : (why : Refusal) → (proposal_of p text width room).answer ≡ proposed.Refused why → (proposal_of p text width room).breaks ≡ []
+  pub refused_untouched : (why : Refusal) → (proposal_of p text width room).answer ≡ Err why → (proposal_of p text width room).breaks ≡ []
   unfolding proposal_of
   refused_untouched why e =
       ap (λ (o : Option Refusal). (proposal_unless o (ours (bytes_reader p) text width)).breaks) (given_refused (propose_refusal p text width room) (ours (bytes_reader p) text width) why e)
 
-  pub propose_accepted_exact : (count : ℕ) → ((proposal_of p text width room).answer ≡ proposed.Breaks count) ↔ (ProposePasses p text width room × (count ≡ length (ours (bytes_reader p) text width)))
+  pub propose_accepted_exact : (count : ℕ) → ((proposal_of p text width room).answer ≡ Ok count) ↔ (ProposePasses p text width room × (count ≡ length (ours (bytes_reader p) text width)))
   unfolding proposal_of
   propose_accepted_exact count = (
     λ e. let (accepted, n) = given_breaks (propose_refusal p text width room) (ours (bytes_reader p) text width) count e in
         ((passed_exact (ProposeSays p text width room) (ProposePasses p text width room) (propose_refusal p text width room) propose_says propose_passes propose_cases).0 accepted, n),
-    λ (h, n). ap (λ (o : Option Refusal). (proposal_unless o (ours (bytes_reader p) text width)).answer) (propose_passes h) ∙ ap (λ (k : ℕ). proposed.Breaks k) (sym n),
+    λ (h, n). ap (λ (o : Option Refusal). (proposal_unless o (ours (bytes_reader p) text width)).answer) (propose_passes h) ∙ ap (λ (k : ℕ). Ok k) (sym n),
   )
 
   pub accepted_ours : ProposePasses p text width room → (proposal_of p text width room).breaks ≡ ours (bytes_reader p) text width

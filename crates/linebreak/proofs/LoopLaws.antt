@@ -1,18 +1,20 @@
 -- Laws of the loops that count and write our breaks: one turn, and the end.
-use mathlib.Core.Bool.{true, false, true≢false, false≢true}
+use mathlib.Core.Bool.{Bool, true, false}
 use mathlib.Core.List.{List, [], ◌∷◌, ◌++◌}
 use mathlib.Core.Path.{◌≡◌, refl, sym, ap, ◌∙◌, subst}
 use Prim.Native.Nat.{ℕ, ◌+◌, ◌-◌, ◌/◌, ◌≤◌, ◌<◌}
 use native.Mathlib.Numerals.{add-one}
 use native.Mathlib.Omega.{arith}
-use lib.Dec.{leb}
+use lib.Dec.{leb, ltb}
 use lib.ListN.{length, take, drop, set, length-append, take-append-drop}
 use lib.Seq.{take-suc-set, drop-set-lt, drop-drop, length-take-le}
-use borrow.Author.Tests.{le-leb, lt-leb}
+use borrow.Author.Tests.{le-leb, lt-leb, ltb-true, ltb-false}
+use Rattle.std.proofs.Common.{Some, None}
+use Rattle.codepage.specs.CodePage.{pick}
 use Rattle.codepage.specs.Lent.{over}
 use Rattle.codepage.specs.Reading.{Reader, codes}
 use Rattle.linebreak.specs.Breaks.{ours, breakable}
-use Rattle.linebreak.specs.Steps.{CountedAs, sure_to_fit}
+use Rattle.linebreak.specs.Steps.{our_count, sure_to_fit}
 use Rattle.linebreak.proofs.OursLaws.{Going, line_end, last_from, last_within, going_start, going_turn, going_room, going_stuck, going_exists, going_all}
 
 -- a line's end lies at or behind its start, and at most the width behind it
@@ -47,17 +49,33 @@ module _ (r : Reader) (text : List ℕ) (width start count : ℕ) (c : Counting 
       }
 
   -- where more than a line is left and the line would have no byte, no acceptable breaks exist
-  pub counting_stuck : (end : ℕ) → start + width < length text → end ≡ line_end r text width start → end ≡ start → CountedAs r text width (record { exist = false; count = 0 })
-  counting_stuck end more e s =
-      record { exist = sym (going_stuck r text width start c.done c.going more (sym e ∙ s)); count = λ t. absurd (false≢true t) }
+  pub counting_stuck : (end : ℕ) → start + width < length text → end ≡ line_end r text width start → end ≡ start → None ≡ our_count r text width
+  unfolding our_count
+  counting_stuck end more e s = rw (going_stuck r text width start c.done c.going more (sym e ∙ s))
 
   -- where what is left fits the line, acceptable breaks exist and ours are as many as were counted
-  pub counting_end : start ≤ length text → length text ≤ start + width → CountedAs r text width (record { exist = true; count = count })
+  pub counting_end : start ≤ length text → length text ≤ start + width → Some count ≡ our_count r text width
+  unfolding our_count
   counting_end inside last =
-      record {
-        exist = sym (going_exists r text width start c.done c.going inside last);
-        count = λ t. sym c.size ∙ ap length (sym (going_all r text width start c.done c.going inside last));
-      }
+      rw (going_exists r text width start c.done c.going inside last)
+      (ap (λ (n : ℕ). Some n) (sym c.size ∙ ap length (sym (going_all r text width start c.done c.going inside last))))
+
+-- what counting tells: whether acceptable breaks exist, and then how many ours are
+pub counted_none : (r : Reader) (text : List ℕ) (width : ℕ) → our_count r text width ≡ None → breakable r text width ≡ false
+unfolding our_count
+counted_none r text width e = by (breakable r text width) refl e
+  where
+    by : (t : Bool) → breakable r text width ≡ t → pick t (Some (length (ours r text width))) None ≡ None → breakable r text width ≡ false
+    by false q e = q
+    by true q e = let z : ◌≡◌ {A = ℕ} 0 1 = cc in absurd (omega arith)
+
+pub counted_some : (r : Reader) (text : List ℕ) (width count : ℕ) → our_count r text width ≡ Some count → (breakable r text width ≡ true) × (count ≡ length (ours r text width))
+unfolding our_count
+counted_some r text width count e = by (breakable r text width) refl e
+  where
+    by : (t : Bool) → breakable r text width ≡ t → pick t (Some (length (ours r text width))) None ≡ Some count → (breakable r text width ≡ true) × (count ≡ length (ours r text width))
+    by true q e = (q, cc)
+    by false q e = let z : ◌≡◌ {A = ℕ} 0 1 = cc in absurd (omega arith)
 
 -- ---- writing
 module _ (r : Reader) (text : List ℕ) (width start i : ℕ) (out : List ℕ) (g : Going r text width start (take i out)) where
@@ -66,9 +84,13 @@ module _ (r : Reader) (text : List ℕ) (width start i : ℕ) (out : List ℕ) (
     pub writing_room : i ≤ length out → i < length (ours r text width)
     writing_room h = omega (arith, going_room r text width start (take i out) g more exists, length-take-le i out h)
 
-    -- where more than a line is left and acceptable breaks exist, the line's end is not its start
-    pub writing_moves : (end : ℕ) → end ≡ line_end r text width start → end ≡ start → ⊥
-    writing_moves end e s = true≢false (sym exists ∙ going_stuck r text width start (take i out) g more (sym e ∙ s))
+  -- where ours are no more than those written, what is left fits the line
+  pub writing_full : breakable r text width ≡ true → i ≤ length out → length (ours r text width) ≤ i → length text ≤ start + width
+  writing_full exists h full = by (ltb (start + width) (length text)) refl
+    where
+      by : (t : Bool) → ltb (start + width) (length text) ≡ t → length text ≤ start + width
+      by true e = absurd (omega (arith, writing_room (ltb-true _ _ e) exists h))
+      by false e = ltb-false _ _ e
 
   -- where more than a line is left, the line's end, written at `i`, is one break more, and the next line begins at that end
   pub writing_turn : (end : ℕ) → start + width < length text → i < length out → end ≡ line_end r text width start → Going r text width end (take (i + 1) (set out i end))

@@ -1,6 +1,7 @@
 -- Each refusal is met, on the sample page.
 use mathlib.Core.List.{List, [], ◌∷◌}
 use mathlib.Core.Path.{◌≡◌, refl}
+use Rattle.std.proofs.Common.{Err}
 use Prim.Native.Nat.{ℕ}
 use native.Mathlib.Omega.{arith}
 use lib.ListN.{length, replicate, length-replicate}
@@ -8,8 +9,6 @@ use Rattle.codepage.specs.CodePage.{CodePage}
 use Rattle.convert.specs.Sample.{sample_page}
 use Rattle.convert.proofs.SampleRows.{sample_good}
 use Rattle.linebreak.specs.declared.Refusal.TheVariants.{BadShape, TooLong, NotAcceptable, NoneExists, ListTooShort}
-use Rattle.linebreak.specs.declared.Checked.TheVariants as checked
-use Rattle.linebreak.specs.declared.Proposed.TheVariants as proposed
 use Rattle.linebreak.specs.Calls.{check_of, proposal_of}
 use Rattle.linebreak.specs.Examples.{pair_and_byte}
 use Rattle.linebreak.proofs.AnswerLaws.{check_refused_exact, propose_refused_exact}
@@ -27,7 +26,7 @@ pub long_size : length long ≡ 65537
 unfolding long
 long_size = length-replicate {A = ℕ} 65537 0x41
 
-pub checks_refused : (check_of pageless [] 1 [] ≡ checked.Refused BadShape) × (check_of sample_page long 1 [] ≡ checked.Refused TooLong) × (check_of sample_page pair_and_byte 2 (1 ∷ []) ≡ checked.Refused NotAcceptable)
+pub checks_refused : (check_of pageless [] 1 [] ≡ Err BadShape) × (check_of sample_page long 1 [] ≡ Err TooLong) × (check_of sample_page pair_and_byte 2 (1 ∷ []) ≡ Err NotAcceptable)
 unfolding break_rules pageless
 checks_refused = (
   (check_refused_exact pageless [] 1 [] BadShape).1 (λ g. g.page refl),
@@ -35,8 +34,8 @@ checks_refused = (
   refl,
 )
 
-pub proposals_refused : ((proposal_of pageless [] 1 0).answer ≡ proposed.Refused BadShape) × ((proposal_of sample_page long 1 0).answer ≡ proposed.Refused TooLong)
-    × ((proposal_of sample_page pair_and_byte 1 0).answer ≡ proposed.Refused NoneExists) × ((proposal_of sample_page pair_and_byte 2 0).answer ≡ proposed.Refused ListTooShort)
+pub proposals_refused : ((proposal_of pageless [] 1 0).answer ≡ Err BadShape) × ((proposal_of sample_page long 1 0).answer ≡ Err TooLong)
+    × ((proposal_of sample_page pair_and_byte 1 0).answer ≡ Err NoneExists) × ((proposal_of sample_page pair_and_byte 2 0).answer ≡ Err ListTooShort)
 unfolding break_rules pageless
 proposals_refused = (
   (propose_refused_exact pageless [] 1 0 BadShape).1 (λ g. g.page refl),

@@ -1,5 +1,5 @@
 -- Document 02, CR 12: the two calls. One checks breaks that are proposed, one proposes ours.
-use Rattle.std.specs.Prelude.{List, [], ◌≡◌, ℕ, leb, length}
+use Rattle.std.specs.Prelude.{Result, Ok, Err, List, [], ◌≡◌, ℕ, leb, length}
 use Rattle.std.proofs.Math.Option.{Option, none, some}
 use Rattle.codepage.specs.CodePage.{CodePage}
 use Rattle.codepage.specs.Lent.{over}
@@ -7,10 +7,6 @@ use Rattle.convert.specs.Runs.{piece_limit}
 use Rattle.codepage_walk.specs.Checks.{refuse_unless, text_checks, bytes_reader}
 use Rattle.linebreak.specs.declared.Refusal.{Refusal}
 use Rattle.linebreak.specs.declared.Refusal.TheVariants.{BadShape, TooLong, NotAcceptable, NoneExists, ListTooShort}
-use Rattle.linebreak.specs.declared.Checked.{Checked}
-use Rattle.linebreak.specs.declared.Checked.TheVariants as checked
-use Rattle.linebreak.specs.declared.Proposed.{Proposed}
-use Rattle.linebreak.specs.declared.Proposed.TheVariants as proposed
 use Rattle.linebreak.specs.Breaks.{acceptable, ours, breakable}
 
 -- The numbers of the refusals.
@@ -26,12 +22,12 @@ unfoldable pub check_refusal : CodePage → (text : List ℕ) → (width : ℕ) 
 check_refusal p text width breaks = text_checks BadShape TooLong p piece_limit (length text) (refuse_unless NotAcceptable (acceptable (bytes_reader p) text width breaks) none)
 
 -- the answer of a check: the refusal, or acceptable if there is none
-abbrev pub check_answer : Option Refusal → Checked
-check_answer none = checked.Acceptable
-check_answer (some refusal) = checked.Refused refusal
+abbrev pub check_answer : Option Refusal → Result (Unit {0}) Refusal
+check_answer none = Ok tt
+check_answer (some refusal) = Err refusal
 
 -- THE CHECK.
-unfoldable pub check_of : CodePage → (text : List ℕ) → (width : ℕ) → (breaks : List ℕ) → Checked
+unfoldable pub check_of : CodePage → (text : List ℕ) → (width : ℕ) → (breaks : List ℕ) → Result (Unit {0}) Refusal
 check_of p text width breaks = check_answer (check_refusal p text width breaks)
 
 -- ---- proposing, 10 and 11 first: 31 exactly if no acceptable breaks exist, 32 exactly if ours do not fit the lent list
@@ -44,19 +40,19 @@ propose_refusal p text width room =
 
 -- What proposing gives: its answer, and what is written to the lent list.
 pub record Proposal : Type 0 where
-  pub answer : Proposed
+  pub answer : Result ℕ Refusal
   pub breaks : List ℕ
 
 -- With no refusal the breaks are written and the answer is their count. Refused, nothing is written.
 abbrev pub proposal_unless : Option Refusal → (breaks : List ℕ) → Proposal
-proposal_unless none breaks = record { answer = proposed.Breaks (length breaks); breaks = breaks }
-proposal_unless (some refusal) breaks = record { answer = proposed.Refused refusal; breaks = [] }
+proposal_unless none breaks = record { answer = Ok (length breaks); breaks = breaks }
+proposal_unless (some refusal) breaks = record { answer = Err refusal; breaks = [] }
 
 -- THE PROPOSAL.
 unfoldable pub proposal_of : CodePage → (text : List ℕ) → (width : ℕ) → (room : ℕ) → Proposal
 proposal_of p text width room = proposal_unless (propose_refusal p text width room) (ours (bytes_reader p) text width)
 
 -- The promise of proposing: c is what the rules give, r what it returns, and the lent list before and after.
-pub record ProposedAs (c : Proposal) (r : Proposed) (before after : List ℕ) : Type 0 where
+pub record ProposedAs (c : Proposal) (r : Result ℕ Refusal) (before after : List ℕ) : Type 0 where
   pub answer : r ≡ c.answer
   pub lent : after ≡ over before c.breaks

@@ -1,10 +1,9 @@
 -- Definitions that the private functions' contracts cite, and that no promise does.
-use Rattle.std.specs.Prelude.{Bool, true, false, ◌&&◌, List, [], ◌∷◌, ◌≡◌, ℕ, ◌+◌, ◌-◌, ◌/◌, ◌≤◌, ◌<◌, leb, ltb, eqb, length, drop}
-use Rattle.codepage.specs.CodePage.{entry_at, is_lead}
+use Rattle.std.specs.Prelude.{Option, Some, None, Bool, true, false, ◌&&◌, List, [], ◌∷◌, ◌≡◌, ℕ, ◌+◌, ◌-◌, ◌/◌, ◌≤◌, ◌<◌, leb, ltb, eqb, length, drop}
+use Rattle.codepage.specs.CodePage.{pick, entry_at, is_lead}
 use Rattle.codepage.specs.Marks.{NoLowLead}
 use Rattle.codepage.specs.Reading.{Reader, Code, size_of, codes}
 use Rattle.linebreak.specs.Breaks.{ours, breakable}
-use Rattle.linebreak.specs.declared.Counted.{Counted}
 
 -- what the walk asks of the classes: one for each byte, and no lead below 80
 pub record GoodClasses (classes : List ℕ) : Type 0 where
@@ -38,7 +37,6 @@ lines_good r text width start (b ∷ breaks) = line_good r text width start b &&
 unfoldable pub sure_to_fit : (size width room : ℕ) → Bool
 sure_to_fit size width room = leb 2 width && leb (size / (width - 1)) room
 
--- The promise of counting: whether acceptable breaks exist, and then how many ours are.
-pub record CountedAs (r : Reader) (text : List ℕ) (width : ℕ) (c : Counted) : Type 0 where
-  pub exist : c.exist ≡ breakable r text width
-  pub count : c.exist ≡ true → c.count ≡ length (ours r text width)
+-- How many our breaks are, if acceptable breaks exist.
+unfoldable pub our_count : Reader → (text : List ℕ) → (width : ℕ) → Option ℕ
+our_count r text width = pick (breakable r text width) (Some (length (ours r text width))) None

@@ -4,22 +4,22 @@
 // `check_breaks` says whether the breaks that a layout tool proposes are acceptable, `propose_breaks` writes breaks of our own to the
 // front of a lent list: each line from the first on as long as it can be, so that no acceptable breaks have fewer lines.
 //
-//     let proposed = linebreak::propose_breaks(numbers, classes, singles, pairs, index, blocks, text, width, list);
-//     // Proposed::Breaks(count), or Proposed::Refused(why): why.number()
+//     let proposed = linebreak::propose_breaks(&tables, text, width, list);
+//     // Ok(count), or Err(why): why.number()
 
 #![tactic(auto)]
 
 ghost use Rattle.std.specs.Prelude.{◌≡◌, true, ◌+◌, ◌≤◌, ◌<◌, length, drop};
-ghost use Rattle.codepage.specs.CodePage.{code_page};
+ghost use Rattle.codepage.specs.CodePage.{page_of};
 ghost use Rattle.codepage.specs.Lent.{over};
 ghost use Rattle.codepage.specs.Reading.{Reader, codes};
 ghost use Rattle.convert.specs.Runs.{piece_limit};
 ghost use Rattle.codepage_walk.specs.Checks.{ForClasses};
 ghost use Rattle.linebreak.specs.Breaks.{ours, breakable};
 ghost use Rattle.linebreak.specs.Calls.{break_number, check_of, proposal_of, ProposedAs};
-ghost use Rattle.linebreak.specs.Steps.{last_code_place, GoodClasses, LeadsBefore, line_good, lines_good, CountedAs, sure_to_fit};
+ghost use Rattle.linebreak.specs.Steps.{last_code_place, GoodClasses, LeadsBefore, line_good, lines_good, our_count, sure_to_fit};
 
-use codepage::Numbers;
+use codepage::TableSet;
 use convert::Run;
 
 // Why a call is refused.
@@ -35,21 +35,6 @@ pub enum Refusal {
     NoneExists,
     // 32: the lent list is too short for our breaks.
     ListTooShort,
-}
-
-// What a check answers.
-#[derive(Clone, Copy)]
-pub enum Checked {
-    Acceptable,
-    Refused(Refusal),
-}
-
-// What a proposal answers.
-#[derive(Clone, Copy)]
-pub enum Proposed {
-    // So many breaks were written to the front of the list.
-    Breaks(usize),
-    Refused(Refusal),
 }
 
 impl Refusal {
@@ -72,14 +57,12 @@ fn leads_before(classes: &[u8], text: &[u8], from: usize, to: usize) -> usize
     requires { (length classes.now ≡ 256) × (from ≤ to) × (to ≤ length text.now) }
     ensures { LeadsBefore classes.now text.now from to result }
 {
-    let mut place = to;
-    while from < place {
-        if !codepage_lookup::is_lead(classes, text[place - 1]) {
-            return place;
+    for place in (from..to).rev() {
+        if !codepage_lookup::is_lead(classes, text[place]) {
+            return place + 1;
         }
-        place -= 1;
     }
-    place
+    from
 }
 
 // The last place, not behind `to`, where a code begins or the text ends, of the codes that follow one another from `from`. Behind a
@@ -123,43 +106,32 @@ fn are_lines(classes: &[u8], text: &[u8], width: u64, breaks: &[u64]) -> bool
     ensures { ForClasses classes.now (λ (reader : Reader). result ≡ lines_good reader text.now width 0 breaks.now) }
 {
     let mut start: usize = 0;
-    let mut i = 0;
-    while i < breaks.len() {
-        if !is_line(classes, text, width, start, breaks[i]) {
+    for end in breaks {
+        if !is_line(classes, text, width, start, *end) {
             return false;
         }
-        start = breaks[i] as usize;
-        i += 1;
+        start = *end as usize;
     }
     ((text.len() - start) as u64) <= width
 }
 
-// Whether acceptable breaks exist, and then how many ours are.
-#[derive(Clone, Copy)]
-struct Counted {
-    exist: bool,
-    count: usize,
-}
-
-// Counts our breaks: while more than a line is left, a line as long as it can be.
-fn count_breaks(classes: &[u8], text: &[u8], width: u64) -> Counted
+// Counts our breaks, if acceptable ones exist: while more than a line is left, a line as long as it can be.
+fn count_breaks(classes: &[u8], text: &[u8], width: u64) -> Option<usize>
     requires { GoodClasses classes.now × (length text.now ≤ piece_limit) }
-    ensures { ForClasses classes.now (λ (reader : Reader). CountedAs reader text.now width result) }
+    ensures { ForClasses classes.now (λ (reader : Reader). result ≡ our_count reader text.now width) }
 {
     let mut count: usize = 0;
     let mut start: usize = 0;
+    // Kept: where a line begins is known only once the line before it ends, so there is no range to go over.
     while width < ((text.len() - start) as u64) {
         let end = last_place(classes, text, start, start + (width as usize));
         if end == start {
-            return Counted {
-                exist: false,
-                count: 0,
-            };
+            return None;
         }
         start = end;
         count += 1;
     }
-    Counted { exist: true, count }
+    Some(count)
 }
 
 // Writes our breaks to the front of a list that has room for them, and says how many they are.
@@ -168,14 +140,15 @@ fn write_breaks(classes: &[u8], text: &[u8], width: u64, out: &mut [u64]) -> usi
     requires for_classes { ForClasses classes.now (λ (reader : Reader). (breakable reader text.now width ≡ true) × (length (ours reader text.now width) ≤ length out.old)) }
     ensures { ForClasses classes.now (λ (reader : Reader). (out.new ≡ over out.old (ours reader text.now width)) × (result ≡ length (ours reader text.now width))) }
 {
-    let mut i: usize = 0;
     let mut start: usize = 0;
-    while width < ((text.len() - start) as u64) {
+    for i in 0..out.len() {
+        if ((text.len() - start) as u64) <= width {
+            return i;
+        }
         start = last_place(classes, text, start, start + (width as usize));
         out[i] = start as u64;
-        i += 1;
     }
-    i
+    out.len()
 }
 
 // Whether our breaks are sure to fit a list, told without the text: at a width of 2 or more acceptable breaks exist, and each line but the last
@@ -191,61 +164,50 @@ fn sure_to_fit(size: usize, width: u64, room: usize) -> bool
 
 // Checks breaks of a text into lines of at most `width` bytes: any numbers may be proposed.
 pub fn check_breaks(
-    numbers: Numbers,
-    classes: &[u8],
-    singles: &[u16],
-    pairs: &[u16],
-    index: &[u8],
-    blocks: &[u16],
+    tables: &TableSet,
     text: &[u8],
     width: u64,
     breaks: &[u64],
-) -> Checked
-    ensures { result ≡ check_of (code_page numbers classes.now singles.now pairs.now index.now blocks.now) text.now width breaks.now }
+) -> Result<(), Refusal>
+    ensures { result ≡ check_of (page_of tables.now) text.now width breaks.now }
 {
-    if !codepage::shape::good_shape(numbers, classes, singles, pairs, index, blocks) {
-        return Checked::Refused(Refusal::BadShape);
+    if !codepage::shape::good_shape(tables) {
+        return Err(Refusal::BadShape);
     }
     if Run::PIECE_LIMIT < text.len() {
-        return Checked::Refused(Refusal::TooLong);
+        return Err(Refusal::TooLong);
     }
-    if !are_lines(classes, text, width, breaks) {
-        return Checked::Refused(Refusal::NotAcceptable);
+    if !are_lines(tables.classes, text, width, breaks) {
+        return Err(Refusal::NotAcceptable);
     }
-    Checked::Acceptable
+    Ok(())
 }
 
 // Proposes breaks of a text into lines of at most `width` bytes, each line as long as it can be. Into a list that they are sure to fit
 // they are written in one pass. Else a first pass counts them, so that a refused call leaves the list as it was, and a second
 // writes them.
 pub fn propose_breaks(
-    numbers: Numbers,
-    classes: &[u8],
-    singles: &[u16],
-    pairs: &[u16],
-    index: &[u8],
-    blocks: &[u16],
+    tables: &TableSet,
     text: &[u8],
     width: u64,
     out: &mut [u64],
-) -> Proposed
-    ensures { ProposedAs (proposal_of (code_page numbers classes.now singles.now pairs.now index.now blocks.now) text.now width (length out.old)) result out.old out.new }
+) -> Result<usize, Refusal>
+    ensures { ProposedAs (proposal_of (page_of tables.now) text.now width (length out.old)) result out.old out.new }
 {
-    if !codepage::shape::good_shape(numbers, classes, singles, pairs, index, blocks) {
-        return Proposed::Refused(Refusal::BadShape);
+    if !codepage::shape::good_shape(tables) {
+        return Err(Refusal::BadShape);
     }
     if Run::PIECE_LIMIT < text.len() {
-        return Proposed::Refused(Refusal::TooLong);
+        return Err(Refusal::TooLong);
     }
     if sure_to_fit(text.len(), width, out.len()) {
-        return Proposed::Breaks(write_breaks(classes, text, width, out));
+        return Ok(write_breaks(tables.classes, text, width, out));
     }
-    let counted = count_breaks(classes, text, width);
-    if !counted.exist {
-        return Proposed::Refused(Refusal::NoneExists);
+    let Some(count) = count_breaks(tables.classes, text, width) else {
+        return Err(Refusal::NoneExists);
+    };
+    if out.len() < count {
+        return Err(Refusal::ListTooShort);
     }
-    if out.len() < counted.count {
-        return Proposed::Refused(Refusal::ListTooShort);
-    }
-    Proposed::Breaks(write_breaks(classes, text, width, out))
+    Ok(write_breaks(tables.classes, text, width, out))
 }

@@ -6,15 +6,18 @@ use Prim.Native.Nat.{ℕ, suc, ◌+◌, ◌*◌, ◌-◌, ◌≤◌, ◌<◌}
 use native.Mathlib.Numerals.{add-one}
 use native.Mathlib.Omega.{arith}
 use lib.Dec.{eqb, leb}
-use lib.ListN.{length, get_or, set, take, drop, length-append, take-append-drop, drop_of_length-le}
-use lib.Seq.{take-suc, take_all, drop-cons, paste-zero, take_at, drop-drop, length-take-le, sets-eq, drop-append-add}
+use lib.ListN.{length, get_or, set, take, drop, length-append, take-append-drop}
+use lib.Seq.{take-length, take-suc, take_all, drop-cons, paste-zero, take_at, drop-drop, length-take-le, sets-eq, drop-append-add}
 use borrow.Author.Tests.{eq-eqb, ne_eqb, le-leb, lt-leb, leb-true, leb-false}
 use Rattle.codepage.specs.CodePage.{pick}
 use Rattle.codepage.specs.Lent.{over}
-use Rattle.rfc4180.specs.declared.Put.TheVariants.{Units, NoRoom}
+use Rattle.std.proofs.Common.{Some, None, nat_eq, cond}
+use Rattle.std.proofs.lemmas.Slice.{put_mid-paste}
+use Rattle.std.proofs.lemmas.List.Recursion.{is_count_by}
+use borrow.Rule.Slice.PartMut.{put_mid}
 use Rattle.rfc4180.specs.Csv.{is_special, needs_quotes, escaped, escaped_field, quoted, field_text, line_end}
 use Rattle.rfc4180.specs.Records.{break_if, part_text, PutAs}
-use Rattle.rfc4180.specs.Steps.{laid_at, LaidAt, count_if, when, in_quotes, in_order}
+use Rattle.rfc4180.specs.Steps.{laid_at, LaidAt, count_if, quotes_in, when, in_quotes, in_order}
 
 -- nothing behind a list changes nothing
 pub append_none : (l : List ℕ) → l ++ [] ≡ l
@@ -57,13 +60,34 @@ both {before} {between} {after} {first} {second} {place} {next} {r} h a b =
       next = omega (arith, a.next, b.next, length-append first second);
     }
 
+-- units copied to a place
+pub laid_copied : (before : List ℕ) (place size : ℕ) (units copied : List ℕ) → size ≡ length units → copied ≡ units
+    → LaidAt before (put_mid place size before copied) place units (place + length units)
+unfolding laid_at
+laid_copied before place size units copied n e =
+    record {
+      lent =
+          put_mid-paste place size before copied units (length units) e (sym n) refl
+          ∙ ap (λ (l : List ℕ). (take place before ++ l) ++ drop (place + length units) before) (take-length units);
+      next = refl;
+    }
+
+-- units that are wanted are laid, those that are not are not
+pub laid_wanted : {before after : List ℕ} {place r : ℕ} (wanted : Bool) (units : List ℕ) → wanted ≡ true → LaidAt before after place units r → LaidAt before after place (when wanted units) r
+unfolding when
+laid_wanted wanted units w laid = rw w laid
+
+pub laid_unwanted : (before : List ℕ) (place : ℕ) (wanted : Bool) (units : List ℕ) → wanted ≡ false → LaidAt before before place (when wanted units) place
+unfolding when
+laid_unwanted before place wanted units w = rw w (record { lent = sym (laid_nothing before place); next = omega arith })
+
 -- from the front on: the promise of a call
-pub laid_all : (text before after : List ℕ) (r : ℕ) → length text ≤ length before → LaidAt before after 0 text r → PutAs text (Units r) before after
+pub laid_all : (text before after : List ℕ) (r : ℕ) → length text ≤ length before → LaidAt before after 0 text r → PutAs text (Some r) before after
 unfolding laid_at over
 laid_all text before after r h laid =
     let front : 0 + length text ≡ length text = omega arith in
     record {
-      result = ap Units (laid.next ∙ front) ∙ ap (λ (b : Bool). pick b (Units (length text)) NoRoom) (sym (le-leb _ _ h));
+      result = ap (λ (n : ℕ). Some n) (laid.next ∙ front) ∙ ap (λ (b : Bool). pick b (Some (length text)) None) (sym (le-leb _ _ h));
       lent =
           laid.lent
           ∙ ap (λ (n : ℕ). text ++ drop n before) front
@@ -71,20 +95,40 @@ laid_all text before after r h laid =
     }
 
 -- a text that does not fit: no room, and the lent slice is as before
-pub laid_none : (text before : List ℕ) → length before < length text → PutAs text NoRoom before before
+pub laid_none : (text before : List ℕ) → length before < length text → PutAs text None before before
 unfolding over
 laid_none text before h =
     record {
-      result = ap (λ (b : Bool). pick b (Units (length text)) NoRoom) (sym (lt-leb _ _ h));
+      result = ap (λ (b : Bool). pick b (Some (length text)) None) (sym (lt-leb _ _ h));
       lent = ap (λ (b : Bool). over before (pick b text [])) (sym (lt-leb _ _ h));
     }
 
+-- the line break of `put_close`
+pub close_all : (begun : Bool) (before after : List ℕ) (r : ℕ) → length (when begun line_end) ≤ length before → LaidAt before after 0 (when begun line_end) r → PutAs (break_if begun) (Some r) before after
+unfolding when break_if
+close_all begun before after r h laid = laid_all (break_if begun) before after r h laid
+
+pub close_none : (begun : Bool) (before : List ℕ) → length before < length (when begun line_end) → PutAs (break_if begun) None before before
+unfolding when break_if
+close_none begun before h = laid_none (break_if begun) before h
+
 -- ---- a unit, if it is wanted
 -- a unit that is wanted is one unit, else none
-pub when_length : (wanted : Bool) (unit : ℕ) → length (when wanted unit) ≡ count_if wanted
+pub when_length : (wanted : Bool) (unit : ℕ) → length (when wanted (unit ∷ [])) ≡ count_if wanted
 unfolding when
 when_length true unit = refl
 when_length false unit = refl
+
+-- and a line break two
+pub when_break_length : (wanted : Bool) → length (when wanted line_end) ≡ 2 * count_if wanted
+unfolding when
+when_break_length true = refl
+when_break_length false = refl
+
+-- units that are wanted
+pub when_wanted : (wanted : Bool) (units : List ℕ) → wanted ≡ true → when wanted units ≡ units
+unfolding when
+when_wanted wanted units e = rw e
 
 -- a test of what is left is one of the whole
 pub leb_rest : (a b c room : ℕ) → a ≤ room → b ≤ room - a → leb c (room - a - b) ≡ leb (a + b + c) room
@@ -104,24 +148,6 @@ module _ (before : List ℕ) (place unit : ℕ) where
   store_one : place < length before → set before place unit ≡ laid_at before place (unit ∷ [])
   unfolding laid_at
   store_one h = sets-eq (unit ∷ []) before place (omega arith)
-
-  -- a unit that is wanted is stored at the place
-  pub laid_wanted : (wanted : Bool) → wanted ≡ true → place < length before → LaidAt before (set before place unit) place (when wanted unit) (place + 1)
-  unfolding when
-  laid_wanted wanted e h =
-      record {
-        lent = store_one h ∙ ap (λ (b : Bool). laid_at before place (pick b (unit ∷ []) [])) (sym e);
-        next = ap (λ (b : Bool). place + length (pick b (unit ∷ []) [])) (sym e);
-      }
-
-  -- a unit that is not wanted: nothing is stored, and the place stays
-  pub laid_unwanted : (wanted : Bool) → wanted ≡ false → LaidAt before before place (when wanted unit) place
-  unfolding when
-  laid_unwanted wanted e =
-      record {
-        lent = sym (laid_nothing before place) ∙ ap (λ (b : Bool). laid_at before place (pick b (unit ∷ []) [])) (sym e);
-        next = let z : place ≡ place + 0 = omega arith in z ∙ ap (λ (b : Bool). place + length (pick b (unit ∷ []) [])) (sym e);
-      }
 
   -- a unit that is no quote is stored as it is
   pub laid_other : (unit ≡ 0x22 → ⊥) → place < length before → LaidAt before (set before place unit) place (escaped unit) (place + 1)
@@ -187,16 +213,24 @@ module _ (field : List ℕ) (i : ℕ) (h : i < length field) where
   laid_turn {before} {between} {after} {place} {at} {r} fits a b =
       subst (λ (l : List ℕ). LaidAt before after place l r) (sym escaped_turn) (both (omega (arith, escaped_rest)) a b)
 
-  -- and counted
-  pub count_turn : (count r : ℕ) → length (escaped_field (take i field)) ≡ i + count → length (escaped (get_or field i 0)) ≡ 1 + r
-      → length (escaped_field (take (i + 1) field)) ≡ (i + 1) + (count + r)
-  count_turn count r a b =
-      ap length escaped_turn ∙ omega (arith, length-append (escaped_field (take i field)) (escaped (get_or field i 0)))
+quotes : List ℕ → ℕ
+quotes [] = 0
+quotes (unit ∷ field) = cond (nat_eq unit 0x22) (1 + quotes field) (quotes field)
 
--- all units are looked at: the field as written is longer by the quotes counted
-pub count_end : (field : List ℕ) (i count : ℕ) → length (escaped_field (take i field)) ≡ i + count → length field ≤ i → i ≤ length field
-    → length (escaped_field field) ≡ length field + count
-count_end field i count e h k = ap (λ (l : List ℕ). length (escaped_field l)) (sym (take_all i field h)) ∙ omega arith
+counted : (field : List ℕ) → length (escaped_field field) ≡ length field + quotes field
+unfolding escaped_field escaped quotes
+counted [] = refl
+counted (unit ∷ field) = by (eqb unit 0x22) (counted field)
+  where
+    by : (t : Bool) → length (escaped_field field) ≡ length field + quotes field
+        → length (pick t (0x22 ∷ 0x22 ∷ []) (unit ∷ []) ++ escaped_field field) ≡ suc (length field) + cond t (1 + quotes field) (quotes field)
+    by true h = omega arith
+    by false h = omega arith
+
+-- a field as written is longer by its quotes
+pub quotes_counted : (field : List ℕ) → length (escaped_field field) ≡ length field + quotes_in field
+unfolding quotes
+quotes_counted field = counted field ∙ ap (λ (n : ℕ). length field + n) (is_count_by quotes (λ (unit : ℕ). nat_eq unit 0x22) refl (λ unit l. refl) field)
 
 -- before the first unit of a field nothing is laid
 pub laid_start : (before field : List ℕ) (place : ℕ) → LaidAt before before place (escaped_field (take 0 field)) place
@@ -207,25 +241,6 @@ laid_start before field place = record { lent = sym (laid_nothing before place);
 pub laid_whole : {before after : List ℕ} {place at : ℕ} (field : List ℕ) (i : ℕ) → length field ≤ i → LaidAt before after place (escaped_field (take i field)) at
     → LaidAt before after place (escaped_field field) at
 laid_whole {before} {after} {place} {at} field i h a = subst (λ (l : List ℕ). LaidAt before after place (escaped_field l) at) (take_all i field h) a
-
--- ---- whether a field has to be quoted
-module _ (field : List ℕ) (i : ℕ) (so_far : needs_quotes field ≡ needs_quotes (drop i field)) (h : i < length field) where
-  -- a unit that has to be quoted: the field has to be
-  pub needs_stop : is_special (get_or field i 0) ≡ true → true ≡ needs_quotes field
-  unfolding needs_quotes
-  needs_stop e = sym (so_far ∙ ap needs_quotes (drop-cons field i 0 h) ∙ ap (λ (b : Bool). b || needs_quotes (drop (suc i) field)) e)
-
-  -- any other unit: the units behind it decide
-  pub needs_turn : is_special (get_or field i 0) ≡ false → needs_quotes field ≡ needs_quotes (drop (i + 1) field)
-  unfolding needs_quotes
-  needs_turn e =
-      so_far ∙ ap needs_quotes (drop-cons field i 0 h) ∙ ap (λ (b : Bool). b || needs_quotes (drop (suc i) field)) e
-      ∙ ap (λ (n : ℕ). needs_quotes (drop n field)) (sym (add-one i))
-
--- no unit has to be quoted: the field stays without quotes
-pub needs_end : (field : List ℕ) (i : ℕ) → needs_quotes field ≡ needs_quotes (drop i field) → length field ≤ i → false ≡ needs_quotes field
-unfolding needs_quotes
-needs_end field i e h = sym (e ∙ ap needs_quotes (drop_of_length-le field h))
 
 -- ---- the order in which a part is laid
 -- neither of two tests holds if their disjunction does not
@@ -248,7 +263,7 @@ unfolding in_quotes when quoted
 field_in_order field true e = refl
 field_in_order field false e = append_none (escaped_field field) ∙ plain_escaped field e
 
-comma_in_order : (begun : Bool) → when begun 0x2C ≡ pick begun (0x2C ∷ []) []
+comma_in_order : (begun : Bool) → when begun (0x2C ∷ []) ≡ pick begun (0x2C ∷ []) []
 unfolding when
 comma_in_order begun = refl
 
@@ -271,8 +286,8 @@ module _ (quotes : Bool) (field : List ℕ) where
   quotes_length =
       omega (
         arith,
-        length-append (when quotes 0x22) (escaped_field field ++ when quotes 0x22),
-        length-append (escaped_field field) (when quotes 0x22),
+        length-append (when quotes (0x22 ∷ [])) (escaped_field field ++ when quotes (0x22 ∷ [])),
+        length-append (escaped_field field) (when quotes (0x22 ∷ [])),
         when_length quotes 0x22,
       )
 
@@ -282,7 +297,7 @@ module _ (quotes : Bool) (field : List ℕ) where
   order_length begun closed =
       omega (
         arith,
-        length-append (when begun 0x2C) (in_quotes quotes field ++ break_if closed),
+        length-append (when begun (0x2C ∷ [])) (in_quotes quotes field ++ break_if closed),
         length-append (in_quotes quotes field) (break_if closed),
         when_length begun 0x2C,
         quotes_length,
@@ -291,7 +306,7 @@ module _ (quotes : Bool) (field : List ℕ) where
 
 -- three parts, one behind the other
 pub quotes_laid : {before a b after : List ℕ} {place p q r : ℕ} (quotes : Bool) (field : List ℕ) → place + length (in_quotes quotes field) ≤ length before
-    → LaidAt before a place (when quotes 0x22) p → LaidAt a b p (escaped_field field) q → LaidAt b after q (when quotes 0x22) r → length a ≡ length before
+    → LaidAt before a place (when quotes (0x22 ∷ [])) p → LaidAt a b p (escaped_field field) q → LaidAt b after q (when quotes (0x22 ∷ [])) r → length a ≡ length before
     → LaidAt before after place (in_quotes quotes field) r
 unfolding in_quotes
 quotes_laid quotes field h x y z same =
@@ -300,57 +315,34 @@ quotes_laid quotes field h x y z same =
 
 -- the comma, the field and the line break, laid one behind the other from the front, are the call's text
 pub part_laid : {before a b after : List ℕ} {p q r : ℕ} (begun quotes closed : Bool) (field : List ℕ) → length (in_order begun quotes closed field) ≤ length before
-    → LaidAt before a 0 (when begun 0x2C) p → LaidAt a b p (in_quotes quotes field) q → LaidAt b after q (break_if closed) r → length a ≡ length before
+    → LaidAt before a 0 (when begun (0x2C ∷ [])) p → LaidAt a b p (in_quotes quotes field) q → LaidAt b after q (when closed line_end) r → length a ≡ length before
     → LaidAt before after 0 (in_order begun quotes closed field) r
-unfolding in_order
+unfolding in_order when break_if
 part_laid begun quotes closed field h x y z same =
     both (omega (arith, when_length begun 0x2C, order_length quotes field begun closed)) x
     (both (omega (arith, x.next, when_length begun 0x2C, quotes_length quotes field, order_length quotes field begun closed)) y z)
 
--- a line break
-module _ (before : List ℕ) (place : ℕ) (wanted : Bool) where
-  -- a line break that is wanted is stored as 000D 000A
-  pub break_laid : wanted ≡ true → place + 2 ≤ length before → LaidAt before (set (set before place 0x0D) (place + 1) 0x0A) place (break_if wanted) (place + 2)
-  unfolding break_if laid_at
-  break_laid e h =
-      record {
-        lent =
-            ap (λ (n : ℕ). set (set before place 0x0D) n 0x0A) (add-one place)
-            ∙ sets-eq line_end before place h
-            ∙ ap (λ (b : Bool). laid_at before place (pick b line_end [])) (sym e);
-        next = ap (λ (b : Bool). place + length (pick b line_end [])) (sym e);
-      }
-
-  -- a line break that is not wanted: nothing is stored, and the place stays
-  pub break_unwanted : wanted ≡ false → LaidAt before before place (break_if wanted) place
-  unfolding break_if
-  break_unwanted e =
-      record {
-        lent = sym (laid_nothing before place) ∙ ap (λ (b : Bool). laid_at before place (pick b line_end [])) (sym e);
-        next = let z : place ≡ place + 0 = omega arith in z ∙ ap (λ (b : Bool). place + length (pick b line_end [])) (sym e);
-      }
-
 -- ---- the call: what was counted is the part's length
 module _ (begun quotes closed : Bool) (field before : List ℕ) (count more : ℕ) (fits : Bool) (q : quotes ≡ needs_quotes field)
-    (n : length (escaped_field field) ≡ length field + count) (m : more ≡ count_if begun + 2 * count_if quotes + 2 * count_if closed)
+    (n : count ≡ quotes_in field) (m : more ≡ count_if begun + 2 * count_if quotes + 2 * count_if closed)
     (f : fits ≡ leb (length field + count + more) (length before)) where
   part_is : in_order begun quotes closed field ≡ part_text begun field closed
   part_is = ap (λ (b : Bool). in_order begun b closed field) q ∙ in_order_lem begun closed field
 
   part_size : length (in_order begun quotes closed field) ≡ length field + count + more
-  part_size = omega (arith, order_length quotes field begun closed)
+  part_size = omega (arith, order_length quotes field begun closed, quotes_counted field)
 
   -- the count is over the room: the promise holds with nothing written
-  pub part_none : fits ≡ false → PutAs (part_text begun field closed) NoRoom before before
+  pub part_none : fits ≡ false → PutAs (part_text begun field closed) None before before
   part_none e =
       let s : length before < length field + count + more = leb-false _ _ (sym f ∙ e) in
-      subst (λ (l : List ℕ). PutAs l NoRoom before before) part_is (laid_none (in_order begun quotes closed field) before (omega (arith, part_size)))
+      subst (λ (l : List ℕ). PutAs l None before before) part_is (laid_none (in_order begun quotes closed field) before (omega (arith, part_size)))
 
   -- the count is within the room: the text fits
   pub part_room : fits ≡ true → length (in_order begun quotes closed field) ≤ length before
   part_room e = let s : length field + count + more ≤ length before = leb-true _ _ (sym f ∙ e) in omega (arith, part_size)
 
   -- the count is within the room and the text is laid: the promise holds with its length
-  pub part_whole : {after : List ℕ} {r : ℕ} → fits ≡ true → LaidAt before after 0 (in_order begun quotes closed field) r → PutAs (part_text begun field closed) (Units r) before after
+  pub part_whole : {after : List ℕ} {r : ℕ} → fits ≡ true → LaidAt before after 0 (in_order begun quotes closed field) r → PutAs (part_text begun field closed) (Some r) before after
   part_whole {after} {r} e laid =
-      subst (λ (l : List ℕ). PutAs l (Units r) before after) part_is (laid_all (in_order begun quotes closed field) before after r (part_room e) laid)
+      subst (λ (l : List ℕ). PutAs l (Some r) before after) part_is (laid_all (in_order begun quotes closed field) before after r (part_room e) laid)

@@ -1,5 +1,6 @@
 -- RFC 4180: fields, records and a file as text. Comma 002C, quote 0022, carriage return 000D, line feed 000A.
-use Rattle.std.specs.Prelude.{Bool, false, ◌||◌, List, [], ◌∷◌, ◌++◌, ℕ, eqb}
+use Rattle.std.specs.Prelude.{Bool, ◌||◌, List, [], ◌∷◌, ◌++◌, ℕ, eqb}
+use Rattle.std.specs.List.{list_any}
 use Rattle.codepage.specs.CodePage.{pick}
 
 -- "Fields containing line breaks (CRLF), double quotes, and commas should be enclosed in double_quotes."
@@ -8,8 +9,7 @@ is_special unit = eqb unit 0x2C || (eqb unit 0x22 || (eqb unit 0x0D || eqb unit 
 
 -- whether a field has a comma, a quote, a carriage return or a line feed
 unfoldable pub needs_quotes : (field : List ℕ) → Bool
-needs_quotes [] = false
-needs_quotes (unit ∷ field) = is_special unit || needs_quotes field
+needs_quotes field = list_any is_special field
 
 -- "a double_quote appearing inside a field must be escaped by preceding it with another double quote."
 unfoldable pub escaped : (unit : ℕ) → List ℕ

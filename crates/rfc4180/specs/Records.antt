@@ -1,12 +1,10 @@
 -- The records of a text that was cut into fields, and what one call writes of them.
-use Rattle.std.specs.Prelude.{Bool, true, false, List, [], ◌∷◌, ◌++◌, ◌≡◌, ℕ, leb, length}
+use Rattle.std.specs.Prelude.{Option, Some, None, Bool, true, false, List, [], ◌∷◌, ◌++◌, ◌≡◌, ℕ, leb, length}
 use Rattle.codepage.specs.CodePage.{pick}
 use Rattle.codepage.specs.Lent.{over}
 use Rattle.fields.specs.declared.End.{End}
 use Rattle.fields.specs.declared.End.TheVariants.{Bar, LineFeed, Text}
 use Rattle.fields.specs.Fields.{Field}
-use Rattle.rfc4180.specs.declared.Put.{Put}
-use Rattle.rfc4180.specs.declared.Put.TheVariants.{Units, NoRoom}
 use Rattle.rfc4180.specs.Csv.{CsvRecord, field_text, line_end}
 
 -- A bar leaves the record open; a line feed closes it, and so does the text's end.
@@ -64,7 +62,7 @@ so_far begun (field ∷ fields) = part_text begun field.units (closes field.end)
 abbrev pub written_text : (text : List ℕ) → (room : ℕ) → List ℕ
 written_text text room = pick (leb (length text) room) text []
 
--- The promise of a call that writes a text at the front of a lent slice: r is its length, or no room; all else is as before.
-pub record PutAs (text : List ℕ) (r : Put) (before after : List ℕ) : Type 0 where
-  pub result : r ≡ pick (leb (length text) (length before)) (Units (length text)) NoRoom
+-- The promise of a call that writes a text at the front of a lent slice: r is its length, or none if there is no room; all else is as before.
+pub record PutAs (text : List ℕ) (r : Option ℕ) (before after : List ℕ) : Type 0 where
+  pub result : r ≡ pick (leb (length text) (length before)) (Some (length text)) None
   pub lent : after ≡ over before (written_text text (length before))

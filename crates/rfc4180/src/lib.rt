@@ -2,7 +2,7 @@
 // a line feed. Each call writes the next part of a file at the front of a lent slice: a field with the comma before it and the line
 // break behind it, where they are due.
 //
-//     let put = rfc4180::put_field(begun, field, rfc4180::closes_record(end), out);    // Put::Units(size), or Put::NoRoom
+//     let size = rfc4180::put_field(begun, field, rfc4180::closes_record(end), out)?;    // None: no room
 //
 // `put_close` closes a record that the text's end left open.
 
@@ -11,16 +11,9 @@
 ghost use Rattle.std.specs.Prelude.{◌≡◌, ◌+◌, ◌*◌, ◌≤◌, leb, length};
 ghost use Rattle.rfc4180.specs.Csv.{is_special, needs_quotes, escaped, escaped_field};
 ghost use Rattle.rfc4180.specs.Records.{closes, break_if, part_text, PutAs};
-ghost use Rattle.rfc4180.specs.Steps.{LaidAt, count_if, when, in_quotes, in_order};
+ghost use Rattle.rfc4180.specs.Steps.{LaidAt, count_if, quotes_in, when, in_quotes, in_order};
 
 use fields::End;
-
-// How many units a call wrote, or that they do not fit the slice, which is then as before.
-#[derive(Clone, Copy)]
-pub enum Put {
-    Units(usize),
-    NoRoom,
-}
 
 const COMMA: u16 = 0x2C;
 
@@ -34,71 +27,29 @@ const LINE_FEED: u16 = 0x0A;
 fn is_special(unit: u16) -> bool
     ensures { result ≡ is_special unit }
 {
-    if unit == COMMA {
-        return true;
-    }
-    if unit == QUOTE {
-        return true;
-    }
-    if unit == CARRIAGE_RETURN {
-        return true;
-    }
-    unit == LINE_FEED
+    matches!(unit, COMMA | QUOTE | CARRIAGE_RETURN | LINE_FEED)
 }
 
 // Whether a field has to be quoted.
+#[tactic(auto, unfolding(crate::specs::Csv::needs_quotes))]
 pub fn needs_quotes(field: &[u16]) -> bool
     ensures { result ≡ needs_quotes field.now }
 {
-    let mut i = 0;
-    while i < field.len() {
-        if is_special(field[i]) {
-            return true;
-        }
-        i += 1;
-    }
-    false
-}
-
-// How many units more a unit has inside quotes.
-fn added(unit: u16) -> usize
-    ensures unit_len { length (escaped unit) ≡ 1 + result }
-    ensures upper_bound { result ≤ 1 }
-{
-    if unit == QUOTE {
-        return 1;
-    }
-    0
+    field.iter().any(|unit| is_special(*unit))
 }
 
 // How many quotes a field has.
 fn quote_count(field: &[u16]) -> usize
-    ensures { length (escaped_field field.now) ≡ length field.now + result }
+    ensures { result ≡ quotes_in field.now }
 {
-    let mut count = 0;
-    let mut i = 0;
-    while i < field.len() {
-        count += added(field[i]);
-        i += 1;
-    }
-    count
-}
-
-// 1 for a unit that is wanted, else 0.
-fn one_if(wanted: bool) -> usize
-    ensures { result ≡ count_if wanted }
-{
-    if wanted {
-        return 1;
-    }
-    0
+    field.iter().filter(|unit| **unit == QUOTE).count()
 }
 
 // How many units stand before and behind a field.
 fn around(begun: bool, quotes: bool, closed: bool) -> usize
     ensures { result ≡ count_if begun + 2 * count_if quotes + 2 * count_if closed }
 {
-    one_if(begun) + 2 * one_if(quotes) + 2 * one_if(closed)
+    usize::from(begun) + 2 * usize::from(quotes) + 2 * usize::from(closed)
 }
 
 // Whether three numbers together are within a fourth.
@@ -114,14 +65,24 @@ fn fit(a: usize, b: usize, c: usize, room: usize) -> bool
     c <= room - a - b
 }
 
-// Lays a unit at a place, if it is wanted, and answers the place behind it.
-fn lay_if(wanted: bool, unit: u16, out: &mut [u16], place: usize) -> usize
-    requires { place + length (when wanted unit) ≤ length out.old }
-    ensures { LaidAt out.old out.new place (when wanted unit) result }
+// Lays units at a place, and answers the place behind them.
+// Kept: a struct of `out` and `place` would hold a &mut, so each method would promise one thing more, that it keeps that reference.
+fn lay(units: &[u16], out: &mut [u16], place: usize) -> usize
+    requires { place + length units.now ≤ length out.old }
+    ensures { LaidAt out.old out.new place units.now result }
+{
+    let end = place + units.len();
+    out[place..end].copy_from_slice(units);
+    end
+}
+
+// The same, if the units are wanted.
+fn lay_if(wanted: bool, units: &[u16], out: &mut [u16], place: usize) -> usize
+    requires { place + length (when wanted units.now) ≤ length out.old }
+    ensures { LaidAt out.old out.new place (when wanted units.now) result }
 {
     if wanted {
-        out[place] = unit;
-        return place + 1;
+        return lay(units, out, place);
     }
     place
 }
@@ -146,10 +107,8 @@ fn lay_field(field: &[u16], out: &mut [u16], place: usize) -> usize
     ensures { LaidAt out.old out.new place (escaped_field field.now) result }
 {
     let mut at = place;
-    let mut i = 0;
-    while i < field.len() {
-        at = lay_escaped(field[i], out, at);
-        i += 1;
+    for unit in field {
+        at = lay_escaped(*unit, out, at);
     }
     at
 }
@@ -159,22 +118,9 @@ fn lay_quoted(quotes: bool, field: &[u16], out: &mut [u16], place: usize) -> usi
     requires { place + length (in_quotes quotes field.now) ≤ length out.old }
     ensures { LaidAt out.old out.new place (in_quotes quotes field.now) result }
 {
-    let begin = lay_if(quotes, QUOTE, out, place);
+    let begin = lay_if(quotes, &[QUOTE], out, place);
     let end = lay_field(field, out, begin);
-    lay_if(quotes, QUOTE, out, end)
-}
-
-// Lays a line break, if it is wanted.
-fn lay_break(wanted: bool, out: &mut [u16], place: usize) -> usize
-    requires { place + length (break_if wanted) ≤ length out.old }
-    ensures { LaidAt out.old out.new place (break_if wanted) result }
-{
-    if wanted {
-        out[place] = CARRIAGE_RETURN;
-        out[place + 1] = LINE_FEED;
-        return place + 2;
-    }
-    place
+    lay_if(quotes, &[QUOTE], out, end)
 }
 
 // Lays a field with all that is before and behind it.
@@ -182,9 +128,9 @@ fn lay_part(begun: bool, quotes: bool, closed: bool, field: &[u16], out: &mut [u
     requires { length (in_order begun quotes closed field.now) ≤ length out.old }
     ensures { LaidAt out.old out.new 0 (in_order begun quotes closed field.now) result }
 {
-    let begin = lay_if(begun, COMMA, out, 0);
+    let begin = lay_if(begun, &[COMMA], out, 0);
     let end = lay_quoted(quotes, field, out, begin);
-    lay_break(closed, out, end)
+    lay_if(closed, &[CARRIAGE_RETURN, LINE_FEED], out, end)
 }
 
 // Whether a field closes its record.
@@ -199,26 +145,24 @@ pub fn closes_record(end: End) -> bool
 }
 
 // Writes the next field of a file: a comma first, if its record is begun; a line break behind it, if it closes its record.
-pub fn put_field(begun: bool, field: &[u16], closed: bool, out: &mut [u16]) -> Put
+pub fn put_field(begun: bool, field: &[u16], closed: bool, out: &mut [u16]) -> Option<usize>
     ensures { PutAs (part_text begun field.now closed) result out.old out.new }
 {
     let quotes = needs_quotes(field);
     let count = quote_count(field);
     let more = around(begun, quotes, closed);
     if !fit(field.len(), count, more, out.len()) {
-        return Put::NoRoom;
+        return None;
     }
-    let size = lay_part(begun, quotes, closed, field, out);
-    Put::Units(size)
+    Some(lay_part(begun, quotes, closed, field, out))
 }
 
 // Closes a record that is begun, at the end of the text.
-pub fn put_close(begun: bool, out: &mut [u16]) -> Put
+pub fn put_close(begun: bool, out: &mut [u16]) -> Option<usize>
     ensures { PutAs (break_if begun) result out.old out.new }
 {
-    if out.len() < 2 * one_if(begun) {
-        return Put::NoRoom;
+    if out.len() < 2 * usize::from(begun) {
+        return None;
     }
-    let size = lay_break(begun, out, 0);
-    Put::Units(size)
+    Some(lay_if(begun, &[CARRIAGE_RETURN, LINE_FEED], out, 0))
 }

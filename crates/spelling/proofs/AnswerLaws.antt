@@ -16,7 +16,7 @@ use Rattle.codepage_walk.specs.Checks.{TextPasses, TextFails}
 use Rattle.codepage_walk.proofs.CheckLaws.{refused_exact, passed_exact, text_cases, not_good}
 use Rattle.spelling.specs.declared.Refusal.{Refusal}
 use Rattle.spelling.specs.declared.Refusal.TheVariants.{BadShape, TooLong, AtFault, SpellingTooLong}
-use Rattle.spelling.specs.declared.Spelled.TheVariants as spelled
+use Rattle.std.specs.Prelude.{Ok, Err}
 use Rattle.spelling.specs.Calls.{fault_in, spelling_text, spelling_refusal, Spelling, spelling_unless, spelling_of}
 use Rattle.spelling.specs.Claims.{NoFault, units_meant, SpellingSays, SpellingPasses}
 use Rattle.spelling.proofs.CallLaws.{spelling_bad, spelling_long, spelling_fault, spelling_over, spelling_no_room, spelling_accepted}
@@ -24,11 +24,11 @@ use Rattle.spelling.proofs.FaultLaws.{fault_exact, clear_exact}
 use Rattle.spelling.proofs.Theorems.{spelling_clear, spelling_again, same_units}
 
 -- the answer, and the first check that fails
-answer_refused : (o : Option Refusal) (bytes : List ℕ) (why : Refusal) → (spelling_unless o bytes).answer ≡ spelled.Refused why → o ≡ some why
+answer_refused : (o : Option Refusal) (bytes : List ℕ) (why : Refusal) → (spelling_unless o bytes).answer ≡ Err why → o ≡ some why
 answer_refused none bytes why e = absurd (let z : ◌≡◌ {A = ℕ} 0 1 = cc in omega arith)
 answer_refused (some other) bytes why e = let same : other ≡ why = cc in ap (λ (w : Refusal). some w) same
 
-answer_bytes : (o : Option Refusal) (bytes : List ℕ) (n : ℕ) → (spelling_unless o bytes).answer ≡ spelled.Bytes n → (o ≡ none) × (length bytes ≡ n)
+answer_bytes : (o : Option Refusal) (bytes : List ℕ) (n : ℕ) → (spelling_unless o bytes).answer ≡ Ok n → (o ≡ none) × (length bytes ≡ n)
 answer_bytes none bytes n e = (refl, cc)
 answer_bytes (some other) bytes n e = absurd (let z : ◌≡◌ {A = ℕ} 0 1 = cc in omega arith)
 
@@ -70,7 +70,7 @@ module _ (p : CodePage) (text : List ℕ) (room : ℕ) where
 
   -- EACH REFUSAL EXACTLY IN ITS CASE: 10, 11; 24 if some code is at fault, with the place of the first such; 25 if none is, and the
   -- spelling is over the limit or does not fit the room.
-  pub spelling_refused_exact : (why : Refusal) → ((spelling_of p text room).answer ≡ spelled.Refused why) ↔ SpellingSays p text room why
+  pub spelling_refused_exact : (why : Refusal) → ((spelling_of p text room).answer ≡ Err why) ↔ SpellingSays p text room why
   unfolding spelling_of
   spelling_refused_exact why = (
     λ e. (refusal_said why).0 (answer_refused (spelling_refusal p text room) (spelling_text p text) why e),
@@ -83,25 +83,25 @@ module _ (p : CodePage) (text : List ℕ) (room : ℕ) where
   refused_untouched why h = ap (λ (o : Option Refusal). (spelling_unless o (spelling_text p text)).bytes) ((refusal_said why).1 h)
 
   -- what an accepted call gives
-  given : SpellingPasses p text room → spelling_of p text room ≡ record { answer = spelled.Bytes (length (spelling_text p text)); bytes = spelling_text p text }
+  given : SpellingPasses p text room → spelling_of p text room ≡ record { answer = Ok (length (spelling_text p text)); bytes = spelling_text p text }
   unfolding spelling_of
   given h = ap (λ (o : Option Refusal). spelling_unless o (spelling_text p text)) (passes h)
 
   -- ACCEPTED exactly if 10 and 11 pass, no code is at fault, and the spelling has at most 65,536 bytes and fits the room; the answer
   -- is its length.
-  pub spelling_accepted_exact : (n : ℕ) → ((spelling_of p text room).answer ≡ spelled.Bytes n) ↔ (SpellingPasses p text room × (length (spelling_text p text) ≡ n))
+  pub spelling_accepted_exact : (n : ℕ) → ((spelling_of p text room).answer ≡ Ok n) ↔ (SpellingPasses p text room × (length (spelling_text p text) ≡ n))
   unfolding spelling_of
   spelling_accepted_exact n = (
     λ e. let (o, size) = answer_bytes (spelling_refusal p text room) (spelling_text p text) n e in ((passed_exact (SpellingSays p text room) (SpellingPasses p text room) (spelling_refusal p text room) says passes cases).0 o, size),
-    λ (h, size). ap (λ (s : Spelling). s.answer) (given h) ∙ ap (λ (m : ℕ). spelled.Bytes m) size,
+    λ (h, size). ap (λ (s : Spelling). s.answer) (given h) ∙ ap (λ (m : ℕ). Ok m) size,
   )
 
   -- then the spelling is written
-  pub accepted_bytes : (n : ℕ) → (spelling_of p text room).answer ≡ spelled.Bytes n → (spelling_of p text room).bytes ≡ spelling_text p text
+  pub accepted_bytes : (n : ℕ) → (spelling_of p text room).answer ≡ Ok n → (spelling_of p text room).bytes ≡ spelling_text p text
   accepted_bytes n e = ap (λ (s : Spelling). s.bytes) (given ((spelling_accepted_exact n).0 e).0)
 
 -- A SPELLING IS ACCEPTED IN THAT ROOM AND ITS SPELLING IS ITSELF: the call on it gives the same answer and the same bytes.
-pub spelled_again : (p : CodePage) (text : List ℕ) (room n : ℕ) → (spelling_of p text room).answer ≡ spelled.Bytes n → spelling_of p (spelling_of p text room).bytes room ≡ spelling_of p text room
+pub spelled_again : (p : CodePage) (text : List ℕ) (room n : ℕ) → (spelling_of p text room).answer ≡ Ok n → spelling_of p (spelling_of p text room).bytes room ≡ spelling_of p text room
 spelled_again p text room n e =
     let ((whole, clear, l, s), size) = (spelling_accepted_exact p text room n).0 e in
     let again = spelling_again p text clear in
@@ -109,11 +109,11 @@ spelled_again p text room n e =
     ((whole.0, l), spelling_clear p text clear, subst (λ (bytes : List ℕ). length bytes ≤ piece_limit) (sym again) l, subst (λ (bytes : List ℕ). length bytes ≤ room) (sym again) s) in
     ap (λ (bytes : List ℕ). spelling_of p bytes room) (accepted_bytes p text room n e)
     ∙ given p (spelling_text p text) room passes_again
-    ∙ ap (λ (bytes : List ℕ). record { answer = spelled.Bytes (length bytes); bytes = bytes }) again
+    ∙ ap (λ (bytes : List ℕ). record { answer = Ok (length bytes); bytes = bytes }) again
     ∙ sym (given p text room (whole, clear, l, s))
 
 -- TWO ACCEPTED TEXTS MEAN THE SAME UNITS exactly if their spellings are equal bytes, whatever the rooms.
-pub spelled_alike : (p : CodePage) (a b : List ℕ) (room_a room_b m n : ℕ) → (spelling_of p a room_a).answer ≡ spelled.Bytes m → (spelling_of p b room_b).answer ≡ spelled.Bytes n
+pub spelled_alike : (p : CodePage) (a b : List ℕ) (room_a room_b m n : ℕ) → (spelling_of p a room_a).answer ≡ Ok m → (spelling_of p b room_b).answer ≡ Ok n
     → (units_meant p a ≡ units_meant p b) ↔ ((spelling_of p a room_a).bytes ≡ (spelling_of p b room_b).bytes)
 spelled_alike p a b room_a room_b m n e q =
     let alike = same_units p a b ((spelling_accepted_exact p a room_a m).0 e).0.1 ((spelling_accepted_exact p b room_b n).0 q).0.1 in

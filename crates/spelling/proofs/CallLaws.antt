@@ -2,71 +2,54 @@
 use mathlib.Core.Bool.{true, false}
 use mathlib.Core.List.{List}
 use mathlib.Core.Option.{Option, none, some}
-use mathlib.Core.Path.{◌≡◌, refl, sym, ap, ◌∙◌, subst}
-use Prim.Native.Nat.{ℕ, ◌≤◌, ◌<◌}
+use mathlib.Core.Path.{◌≡◌, refl, sym, ap, ◌∙◌}
+use Prim.Native.Nat.{ℕ, ◌+◌, ◌*◌, ◌≤◌, ◌<◌}
 use native.Mathlib.Omega.{arith}
 use lib.ListN.{length}
 use borrow.Author.Tests.{le-leb, lt-leb}
-use Rattle.codepage.specs.CodePage.{CodePage, GoodShape, first_fault, is_good}
+use Rattle.codepage.specs.CodePage.{CodePage, GoodShape, entry_at, leads, first_fault, is_good}
 use Rattle.codepage.specs.Lent.{over}
 use Rattle.codepage.specs.Marks.{NoLowLead}
-use Rattle.codepage.proofs.ShapeLaws.{shape_exact, inside}
-use Rattle.codepage_lookup.specs.declared.profile.Leads.{Leads}
-use Rattle.codepage_lookup.specs.Profile.{KnownClasses, LeadsAt}
+use Rattle.codepage.proofs.ShapeLaws.{shape_exact}
+use Rattle.codepage_lookup.specs.Profile.{KnownClasses}
 use Rattle.convert.specs.Runs.{piece_limit}
 use Rattle.convert.proofs.CallLaws.{index_high}
 use Rattle.codepage_walk.specs.Checks.{bytes_reader}
 use Rattle.spelling.specs.declared.Refusal.{Refusal}
 use Rattle.spelling.specs.declared.Refusal.TheVariants.{BadShape, TooLong, AtFault, SpellingTooLong}
-use Rattle.spelling.specs.declared.Spelled.{Spelled}
-use Rattle.spelling.specs.declared.Spelled.TheVariants as spelled
+use Rattle.std.specs.Prelude.{Result, Ok, Err}
 use Rattle.spelling.specs.Calls.{fault_in, spelling_text, spelling_refusal, spelling_of, SpelledAs}
-use Rattle.spelling.specs.Steps.{BytesTables, UnitsTables, counted_unless, counted_of}
+use Rattle.spelling.specs.Steps.{counted_unless, counted_of}
 
 -- ---- tables of a good shape
 module _ (p : CodePage) (e : is_good (first_fault p) ≡ true) where
   good : GoodShape p
   good = (shape_exact p).0 e
 
-  -- what finding the leads requires
-  pub leads_need : (length p.classes ≡ 256) × (KnownClasses p.classes × NoLowLead p.classes)
-  leads_need = (good.classes, (good.class, good.low))
+  -- what tables carry whose shape is good
+  pub byte_shape : (length p.classes ≡ 256) × (length p.singles ≡ 256) × (length p.pairs ≡ 256 * leads p.classes) × KnownClasses p.classes × NoLowLead p.classes
+  byte_shape = (good.classes, good.singles, good.pairs, good.class, good.low)
 
-  -- what looking up requires
-  pub bytes_tables : (leads : Leads) → LeadsAt p.classes leads → BytesTables p.classes p.singles p.pairs leads
-  bytes_tables leads h =
-      record {
-        classes_size = good.classes;
-        singles_size = good.singles;
-        pairs_size = λ lead b l. omega (arith, (inside p good).pair lead 255 b l (omega arith));
-        leads_at = h;
-      }
-
-  -- the tables of units of a good shape, as the lookups ask for them
-  pub units_tables : UnitsTables p.index p.blocks
-  units_tables =
-      record {
-        index_size = good.index;
-        blocks_size = λ high. index_high p.index (length p.blocks) high good.index good.number (omega (arith, good.blocks));
-      }
+  pub unit_shape : (length p.index ≡ 256) × ((high : ℕ) → 256 * entry_at p.index high + 256 ≤ length p.blocks)
+  unit_shape = (good.index, λ high. index_high p.index (length p.blocks) high good.index good.number (omega (arith, good.blocks)))
 
 -- ---- what counting found
-counted_cases : (o : Option ℕ) (n bytes : ℕ) → spelled.Bytes bytes ≡ counted_unless o n → (o ≡ none) × (n ≡ bytes)
+counted_cases : (o : Option ℕ) (n bytes : ℕ) → Ok bytes ≡ counted_unless o n → (o ≡ none) × (n ≡ bytes)
 counted_cases none n bytes e = (refl, cc)
 counted_cases (some place) n bytes e = absurd (let z : ◌≡◌ {A = ℕ} 0 1 = cc in omega arith)
 
-refused_cases : (o : Option ℕ) (n : ℕ) (why : Refusal) → spelled.Refused why ≡ counted_unless o n → (place : ℕ) × (o ≡ some place) × (why ≡ AtFault place)
+refused_cases : (o : Option ℕ) (n : ℕ) (why : Refusal) → Err why ≡ counted_unless o n → (place : ℕ) × (o ≡ some place) × (why ≡ AtFault place)
 refused_cases none n why e = absurd (let z : ◌≡◌ {A = ℕ} 0 1 = cc in omega arith)
 refused_cases (some place) n why e = (place, refl, cc)
 
-module _ (p : CodePage) (e : is_good (first_fault p) ≡ true) (text : List ℕ) (c : Spelled) (w : c ≡ counted_of (bytes_reader p) p.index p.blocks text) where
+module _ (p : CodePage) (e : is_good (first_fault p) ≡ true) (text : List ℕ) (c : Result ℕ Refusal) (w : c ≡ counted_of (bytes_reader p) p.index p.blocks text) where
   -- so many bytes: no code is at fault
-  pub counted_bytes : (bytes : ℕ) → c ≡ spelled.Bytes bytes → (fault_in p text ≡ none) × (length (spelling_text p text) ≡ bytes)
+  pub counted_bytes : (bytes : ℕ) → c ≡ Ok bytes → (fault_in p text ≡ none) × (length (spelling_text p text) ≡ bytes)
   unfolding counted_of
   counted_bytes bytes q = counted_cases (fault_in p text) (length (spelling_text p text)) bytes (sym q ∙ w)
 
   -- a refusal: the first code at fault
-  pub counted_fault : (why : Refusal) → c ≡ spelled.Refused why → (place : ℕ) × (fault_in p text ≡ some place) × (why ≡ AtFault place)
+  pub counted_fault : (why : Refusal) → c ≡ Err why → (place : ℕ) × (fault_in p text ≡ some place) × (why ≡ AtFault place)
   unfolding counted_of
   counted_fault why q = refused_cases (fault_in p text) (length (spelling_text p text)) why (sym q ∙ w)
 
@@ -109,20 +92,19 @@ module _ (p : CodePage) (text : List ℕ) (room : ℕ) where
 -- ---- what the call returns
 module _ (p : CodePage) (text before : List ℕ) where
   -- refused: the output is as before
-  pub spelled_refused : (why : Refusal) → spelling_refusal p text (length before) ≡ some why → SpelledAs (spelling_of p text (length before)) (spelled.Refused why) before before
+  pub spelled_refused : (why : Refusal) → spelling_refusal p text (length before) ≡ some why → SpelledAs (spelling_of p text (length before)) (Err why) before before
   unfolding spelling_of over
   spelled_refused why e = rw e (record { answer = refl; lent = refl })
 
   -- accepted: the spelling is written
   pub spelled_given : (bytes : ℕ) (after : List ℕ) → spelling_refusal p text (length before) ≡ none → length (spelling_text p text) ≡ bytes → after ≡ over before (spelling_text p text)
-      → SpelledAs (spelling_of p text (length before)) (spelled.Bytes bytes) before after
+      → SpelledAs (spelling_of p text (length before)) (Ok bytes) before after
   unfolding spelling_of
-  spelled_given bytes after e n w = rw e (record { answer = ap (λ (m : ℕ). spelled.Bytes m) (sym n); lent = w })
+  spelled_given bytes after e n w = rw e (record { answer = ap (λ (m : ℕ). Ok m) (sym n); lent = w })
 
 -- counting found a code at fault: the call returns what counting did
-pub spelled_fault : (p : CodePage) → is_good (first_fault p) ≡ true → (text before : List ℕ) → length text ≤ piece_limit → (c : Spelled) → c ≡ counted_of (bytes_reader p) p.index p.blocks text → (why : Refusal) → c ≡ spelled.Refused why
-    → SpelledAs (spelling_of p text (length before)) c before before
+pub spelled_fault : (p : CodePage) → is_good (first_fault p) ≡ true → (text before : List ℕ) → length text ≤ piece_limit → (c : Result ℕ Refusal) → c ≡ counted_of (bytes_reader p) p.index p.blocks text → (why : Refusal) → c ≡ Err why
+    → SpelledAs (spelling_of p text (length before)) (Err why) before before
 spelled_fault p e text before h c w why q =
     let (place, fault, same) = counted_fault p e text c w why q in
-    subst (λ (a : Spelled). SpelledAs (spelling_of p text (length before)) a before before) (sym (q ∙ ap (λ (r : Refusal). spelled.Refused r) same))
-    (spelled_refused p text before (AtFault place) (spelling_fault p text (length before) e h place fault))
+    rw same (spelled_refused p text before (AtFault place) (spelling_fault p text (length before) e h place fault))

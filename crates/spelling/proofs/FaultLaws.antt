@@ -9,8 +9,8 @@ use native.Mathlib.Omega.{arith}
 use borrow.Author.Tests.{eqb-true, eq-eqb}
 use Rattle.codepage.specs.CodePage.{CodePage, pick}
 use Rattle.codepage.specs.Reading.{is_surrogate, unit_code, bytes_of, Reader, encoder, Code, codes}
-use Rattle.codepage.specs.declared.Lookup.{Lookup}
-use Rattle.codepage.specs.declared.Lookup.TheVariants.{Found, Lacking}
+use Rattle.codepage.specs.Reading.{Lookup}
+use Rattle.std.specs.Prelude.{Ok, Err}
 use Rattle.codepage.proofs.ReadingLaws.{alone_looked_up}
 use Rattle.convert.specs.RoundTrips.{RoundTrips}
 use Rattle.codepage_walk.specs.Walk.{Placed}
@@ -21,11 +21,11 @@ use Rattle.spelling.specs.Claims.{Spellable, AllSpellable, NoFault, FaultAt}
 use Rattle.spelling.proofs.SpellLaws.{asked, surrogate_none, own_back}
 
 -- ---- reading back, and belonging together
-character_of_lem : (unit : ℕ) (means : Lookup) → is_character unit means ≡ true → means ≡ Found unit
-character_of_lem unit (Found found) e = ap (λ (n : ℕ). Found n) (eqb-true found unit e)
-character_of_lem unit (Lacking kind) e = absurd (let z : ◌≡◌ {A = Bool} false true = e in let n : ◌≡◌ {A = ℕ} 0 1 = cc in omega arith)
+character_of_lem : (unit : ℕ) (means : Lookup) → is_character unit means ≡ true → means ≡ Ok unit
+character_of_lem unit (Ok found) e = ap (λ (n : ℕ). Ok n) (eqb-true found unit e)
+character_of_lem unit (Err kind) e = absurd (let z : ◌≡◌ {A = Bool} false true = e in let n : ◌≡◌ {A = ℕ} 0 1 = cc in omega arith)
 
-one_code_of : (unit : ℕ) (ks : List Code) → is_one_code unit ks ≡ true → (k : Code) × (ks ≡ k ∷ []) × (k.means ≡ Found unit)
+one_code_of : (unit : ℕ) (ks : List Code) → is_one_code unit ks ≡ true → (k : Code) × (ks ≡ k ∷ []) × (k.means ≡ Ok unit)
 one_code_of unit [] e = absurd (let z : ◌≡◌ {A = Bool} false true = e in let n : ◌≡◌ {A = ℕ} 0 1 = cc in omega arith)
 one_code_of unit (k ∷ []) e = (k, refl, character_of_lem unit k.means e)
 one_code_of unit (k ∷ l ∷ ks) e = absurd (let z : ◌≡◌ {A = Bool} false true = e in let n : ◌≡◌ {A = ℕ} 0 1 = cc in omega arith)
@@ -40,7 +40,7 @@ module _ (p : CodePage) where
     pub able : Spellable p means
     pub same : able.code ≡ code
 
-  belongs : (unit code : ℕ) → is_surrogate unit ≡ false → unit_code p.index p.blocks unit ≡ Found code → reads_back (bytes_reader p) unit code ≡ true → RoundTrips p unit code
+  belongs : (unit code : ℕ) → is_surrogate unit ≡ false → unit_code p.index p.blocks unit ≡ Ok code → reads_back (bytes_reader p) unit code ≡ true → RoundTrips p unit code
   unfolding reads_back encoder
   belongs unit code s own back =
       let (k, one, character) = one_code_of unit (codes (bytes_reader p) (bytes_of code)) back in
@@ -48,23 +48,23 @@ module _ (p : CodePage) where
 
   -- what a code has that is spelled: a character that is no surrogate, and whose own code reads back as it
   pub spelled_by : (means : Lookup) (code : ℕ) → speller means ≡ some code → SpelledBy means code
-  spelled_by (Lacking kind) code e = absurd (let n : ◌≡◌ {A = ℕ} 0 1 = cc in omega arith)
-  spelled_by (Found unit) code e = by (is_surrogate unit) refl
+  spelled_by (Err kind) code e = absurd (let n : ◌≡◌ {A = ℕ} 0 1 = cc in omega arith)
+  spelled_by (Ok unit) code e = by (is_surrogate unit) refl
     where
       r : Reader
       r = bytes_reader p
 
-      by_back : is_surrogate unit ≡ false → (own : ℕ) → unit_code p.index p.blocks unit ≡ Found own → (t : Bool) → reads_back (bytes_reader p) unit own ≡ t → pick t (some own) none ≡ some code → SpelledBy (Found unit) code
+      by_back : is_surrogate unit ≡ false → (own : ℕ) → unit_code p.index p.blocks unit ≡ Ok own → (t : Bool) → reads_back (bytes_reader p) unit own ≡ t → pick t (some own) none ≡ some code → SpelledBy (Ok unit) code
       by_back s own l true b z =
           let same : own ≡ code = cc in
           record { able = record { unit = unit; code = own; character = refl; no_surrogate = s; belong = belongs unit own s l b }; same = same }
       by_back s own l false b z = absurd (let n : ◌≡◌ {A = ℕ} 0 1 = cc in omega arith)
 
-      by_own : is_surrogate unit ≡ false → (own : Lookup) → unit_code p.index p.blocks unit ≡ own → code_reading_back (bytes_reader p) unit own ≡ some code → SpelledBy (Found unit) code
-      by_own s (Found own) l q = by_back s own l (reads_back (bytes_reader p) unit own) refl q
-      by_own s (Lacking kind) l q = absurd (let n : ◌≡◌ {A = ℕ} 0 1 = cc in omega arith)
+      by_own : is_surrogate unit ≡ false → (own : Lookup) → unit_code p.index p.blocks unit ≡ own → code_reading_back (bytes_reader p) unit own ≡ some code → SpelledBy (Ok unit) code
+      by_own s (Ok own) l q = by_back s own l (reads_back (bytes_reader p) unit own) refl q
+      by_own s (Err kind) l q = absurd (let n : ◌≡◌ {A = ℕ} 0 1 = cc in omega arith)
 
-      by : (t : Bool) → is_surrogate unit ≡ t → SpelledBy (Found unit) code
+      by : (t : Bool) → is_surrogate unit ≡ t → SpelledBy (Ok unit) code
       by true s =
           let wrong : none ≡ some code = sym (surrogate_none (bytes_reader p) p.index p.blocks unit s) ∙ e in
           absurd (let n : ◌≡◌ {A = ℕ} 0 1 = cc in omega arith)

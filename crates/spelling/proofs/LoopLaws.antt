@@ -9,15 +9,15 @@ use lib.ListN.{length, take, drop, length-append, take-append-drop}
 use lib.Seq.{drop-drop, length-take-le, take_at, drop_at, sets, length-sets, sets-eq}
 use Rattle.codepage.specs.Lent.{over}
 use Rattle.codepage.specs.Reading.{bytes_of, Reader, Code, size_of, codes}
-use Rattle.codepage.specs.declared.Lookup.{Lookup}
+use Rattle.codepage.specs.Reading.{Lookup}
 use Rattle.codepage_walk.specs.Walk.{placed_from, placed, CodeAt}
 use Rattle.codepage_walk.proofs.WalkLaws.{codes_end, codes_next, placed_next}
+use Rattle.std.specs.Prelude.{Some, None, Ok, Err}
 use Rattle.spelling.specs.declared.Refusal.TheVariants.{AtFault}
-use Rattle.spelling.specs.declared.Spelled.TheVariants as spelled
 use Rattle.spelling.specs.declared.SpelledCode.{SpelledCode}
 use Rattle.spelling.specs.Spelling.{code_spelling, fault_or, first_at_fault, bytes_if, spelling_bytes, fault_of, bytes_for}
 use Rattle.spelling.specs.Steps.{SpelledRead, counted_unless, counted_of, SpanSpelled, Begun}
-use Rattle.spelling.proofs.SpellLaws.{none_spells, code_spells}
+use Rattle.spelling.proofs.SpellLaws.{some_of, none_of, some_unless_none}
 
 -- ---- codes passed
 module _ (r : Reader) (spell : Lookup → Option ℕ) (text : List ℕ) where
@@ -74,14 +74,14 @@ module _ (r : Reader) (index blocks text : List ℕ) (place : ℕ) (c : SpelledC
       by (inr e) h = (omega arith, omega arith, h)
 
   -- it is at fault
-  pub read_fault : c.code ≡ 0xFFFF → first_at_fault (code_spelling r index blocks) (placed_from place (codes r (drop place text))) ≡ some place
-  read_fault e = fault_here r (code_spelling r index blocks) text place w.code w.at (none_spells r index blocks w.code.means c.code w.spelling e)
+  pub read_fault : c.code ≡ None → first_at_fault (code_spelling r index blocks) (placed_from place (codes r (drop place text))) ≡ some place
+  read_fault e = fault_here r (code_spelling r index blocks) text place w.code w.at (none_of _ (sym w.spelling ∙ e))
 
   -- it is passed
-  pub read_passed : (c.code ≡ 0xFFFF → ⊥) → SpanSpelled r (code_spelling r index blocks) text place (place + c.size) (bytes_of c.code)
-  read_passed e =
-      subst (λ (n : ℕ). SpanSpelled r (code_spelling r index blocks) text place (place + n) (bytes_of c.code)) (sym w.size)
-      (passed_code r (code_spelling r index blocks) text place w.code w.at c.code (code_spells r index blocks w.code.means c.code w.spelling e))
+  pub read_passed : (code : ℕ) → c.code ≡ Some code → SpanSpelled r (code_spelling r index blocks) text place (place + c.size) (bytes_of code)
+  read_passed code e =
+      subst (λ (n : ℕ). SpanSpelled r (code_spelling r index blocks) text place (place + n) (bytes_of code)) (sym w.size)
+      (passed_code r (code_spelling r index blocks) text place w.code w.at code (some_of _ code (sym w.spelling ∙ e)))
 
 -- ---- counting
 -- up to a place no code is at fault, and the codes are spelled by so many bytes
@@ -102,18 +102,18 @@ module _ (r : Reader) (index blocks text : List ℕ) where
         }
 
     -- the code at the place is at fault
-    pub counting_fault : first_at_fault (code_spelling r index blocks) (placed_from place (codes r (drop place text))) ≡ some place → spelled.Refused (AtFault place) ≡ counted_of r index blocks text
+    pub counting_fault : first_at_fault (code_spelling r index blocks) (placed_from place (codes r (drop place text))) ≡ some place → Err (AtFault place) ≡ counted_of r index blocks text
     unfolding counted_of placed
     counting_fault e = sym (ap (λ (o : Option ℕ). counted_unless o (length (bytes_for r index blocks text))) (w.passed.fault ∙ e))
 
     -- behind the last code
-    pub counting_end : length text ≤ place → spelled.Bytes count ≡ counted_of r index blocks text
+    pub counting_end : length text ≤ place → Ok count ≡ counted_of r index blocks text
     unfolding counted_of placed
     counting_end h =
         let spell = code_spelling r index blocks in
         let total : length (bytes_for r index blocks text) ≡ count =
         ap (λ (l : List ℕ). length l) (w.passed.spelled ∙ ap (λ (l : List ℕ). w.bytes ++ l) (bytes_end r spell text place h) ∙ append-nil w.bytes) ∙ w.size in
-        sym (ap (λ (o : Option ℕ). counted_unless o (length (bytes_for r index blocks text))) (w.passed.fault ∙ fault_end r spell text place h) ∙ ap (λ (n : ℕ). spelled.Bytes n) total)
+        sym (ap (λ (o : Option ℕ). counted_unless o (length (bytes_for r index blocks text))) (w.passed.fault ∙ fault_end r spell text place h) ∙ ap (λ (n : ℕ). Ok n) total)
 
 -- ---- writing
 -- up to a place the spelling is written, and behind it the output is as before
@@ -156,12 +156,14 @@ module _ (r : Reader) (index blocks text before : List ℕ) where
         omega (arith, able.fits, ap (λ (l : List ℕ). length l) total, length-append (take written out) (bytes ++ rest), length-append bytes rest, length-take-le written out w.within, w.same)
 
     -- the code at the place is not at fault
-    pub writing_coded : Writable r index blocks text before → (c : SpelledCode) → SpelledRead r index blocks text place c → c.code ≡ 0xFFFF → ⊥
+    pub writing_coded : Writable r index blocks text before → (c : SpelledCode) → SpelledRead r index blocks text place c → (code : ℕ) × (c.code ≡ Some code)
     unfolding placed
-    writing_coded able c s e =
+    writing_coded able c s =
+        some_unless_none c.code
+        (λ e.
         let wrong : ◌≡◌ {A = Option ℕ} none (some place) = sym able.no_fault ∙ w.passed.fault ∙ read_fault r index blocks text place c s e in
         let z : ◌≡◌ {A = ℕ} 0 1 = cc in
-        omega arith
+        omega arith)
 
     -- one stretch more
     pub writing_more : (to : ℕ) (bytes after : List ℕ) → SpanSpelled r (code_spelling r index blocks) text place to bytes → written + length bytes ≤ length out → length after ≡ length out → after ≡ laid out written bytes
@@ -192,11 +194,11 @@ module _ (r : Reader) (index blocks text before : List ℕ) where
 
 -- one code more, written by its bytes
 pub writing_put : (r : Reader) (index blocks text before : List ℕ) (place written : ℕ) (out : List ℕ) → Writing r index blocks text before place written out → Writable r index blocks text before
-    → (c : SpelledCode) → SpelledRead r index blocks text place c → (next : ℕ) (after : List ℕ) → (next ≡ written + length (bytes_of c.code)) × (after ≡ sets out written (bytes_of c.code))
+    → (c : SpelledCode) → SpelledRead r index blocks text place c → (code : ℕ) → c.code ≡ Some code → (next : ℕ) (after : List ℕ) → (next ≡ written + length (bytes_of code)) × (after ≡ sets out written (bytes_of code))
     → Writing r index blocks text before (place + c.size) next after
-writing_put r index blocks text before place written out w able c s next after (e, put) =
-    let bytes = bytes_of c.code in
-    let passed = read_passed r index blocks text place c s (writing_coded r index blocks text before place written out w able c s) in
+writing_put r index blocks text before place written out w able c s code q next after (e, put) =
+    let bytes = bytes_of code in
+    let passed = read_passed r index blocks text place c s code q in
     let room = writing_room r index blocks text before place written out w able (place + c.size) bytes passed in
     subst (λ (n : ℕ). Writing r index blocks text before (place + c.size) n after) (sym e)
     (writing_more r index blocks text before place written out w (place + c.size) bytes after passed room (ap (λ (l : List ℕ). length l) put ∙ length-sets out written bytes) (put ∙ sets-eq bytes out written room))

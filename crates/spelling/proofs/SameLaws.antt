@@ -6,14 +6,14 @@ use mathlib.Core.Path.{◌≡◌, refl, sym, ap, ◌∙◌, subst}
 use Prim.Native.Nat.{ℕ, zero, suc, ◌+◌, ◌-◌, ◌*◌, ◌/◌, ◌%◌, ◌≤◌, ◌<◌}
 use native.Mathlib.Numerals.{add-one}
 use native.Mathlib.Omega.{arith}
-use lib.ListN.{length, take, drop, set, get_or, length-drop}
-use lib.Seq.{drop-cons, drop-drop, take-add, length-take-le, get_or-drop, paste, paste-suc, length-paste}
+use lib.ListN.{length, take, drop, length-drop}
+use lib.Seq.{drop-cons, drop-drop, take-add, length-take-le, take-length, paste, length-paste}
 use borrow.Author.Tests.{eq-eqb}
 use Rattle.codepage.specs.CodePage.{entry_at, is_lead}
 use Rattle.codepage.specs.Reading.{byte_alone, byte_pair, unit_alone, bytes_of, Reader, decoder, alone, together, codes}
 use Rattle.codepage.specs.Marks.{NoLowLead}
-use Rattle.codepage.specs.declared.Lookup.{Lookup}
-use Rattle.codepage.specs.declared.Lookup.TheVariants.{Found}
+use Rattle.codepage.specs.Reading.{Lookup}
+use Rattle.std.specs.Prelude.{Ok}
 use Rattle.codepage.proofs.ReadingLaws.{pair_joins}
 use Rattle.codepage_lookup.proofs.LeadLaws.{lead_high}
 use Rattle.convert.specs.Runs.{piece_limit}
@@ -26,21 +26,17 @@ use Rattle.spelling.proofs.LoopLaws.{passed_none, passed_join, passed_code, Coun
 
 -- ---- what is found of two bytes
 module _ (classes singles pairs index blocks : List ℕ) (first second : ℕ) where
-  -- nothing
-  pub same_none : SameSize classes singles pairs index blocks first second 0
-  same_none = record { few = omega arith; one = λ e. absurd (omega arith); two = λ e. absurd (omega arith) }
-
   -- the first is spelled by itself
-  pub same_single : is_lead (entry_at classes first) ≡ false → (unit : ℕ) → ((unit ≡ 0xFFFF → ⊥) → byte_alone classes singles first ≡ Found unit)
-      → (unit ≡ 0xFFFF → ⊥) × (unit_alone index blocks unit ≡ Found first) → SameSize classes singles pairs index blocks first second 1
+  pub same_single : is_lead (entry_at classes first) ≡ false → (unit : ℕ) → ((unit ≡ 0xFFFF → ⊥) → byte_alone classes singles first ≡ Ok unit)
+      → (unit ≡ 0xFFFF → ⊥) × (unit_alone index blocks unit ≡ Ok first) → SameSize classes singles pairs index blocks first second 1
   same_single l unit character (coded, own) =
-      record { few = omega arith; one = λ e. record { single = l; unit = unit; character = character coded; own = own }; two = λ e. absurd (omega arith) }
+      record { some = omega arith; few = omega arith; one = λ e. record { single = l; unit = unit; character = character coded; own = own }; two = λ e. absurd (omega arith) }
 
   -- both are
-  pub same_pair : is_lead (entry_at classes first) ≡ true → (unit : ℕ) → ((unit ≡ 0xFFFF → ⊥) → byte_pair classes pairs first second ≡ Found unit)
-      → (unit ≡ 0xFFFF → ⊥) × (unit_alone index blocks unit ≡ Found (256 * first + second)) → SameSize classes singles pairs index blocks first second 2
+  pub same_pair : is_lead (entry_at classes first) ≡ true → (unit : ℕ) → ((unit ≡ 0xFFFF → ⊥) → byte_pair classes pairs first second ≡ Ok unit)
+      → (unit ≡ 0xFFFF → ⊥) × (unit_alone index blocks unit ≡ Ok (256 * first + second)) → SameSize classes singles pairs index blocks first second 2
   same_pair l unit character (coded, own) =
-      record { few = omega arith; one = λ e. absurd (omega arith); two = λ e. record { lead = l; unit = unit; character = character coded; own = own } }
+      record { some = omega arith; few = omega arith; one = λ e. absurd (omega arith); two = λ e. record { lead = l; unit = unit; character = character coded; own = own } }
 
 -- ---- the code at a place is spelled as it stands
 module _ (classes singles pairs index blocks text : List ℕ) (place : ℕ) where
@@ -50,7 +46,7 @@ module _ (classes singles pairs index blocks text : List ℕ) (place : ℕ) wher
   abbrev spell : Lookup → Option ℕ
   spell = code_spelling (decoder classes singles pairs) index blocks
 
-  character_back : (unit : ℕ) (means : Lookup) → means ≡ Found unit → is_character unit means ≡ true
+  character_back : (unit : ℕ) (means : Lookup) → means ≡ Ok unit → is_character unit means ≡ true
   character_back unit means e = ap (is_character unit) e ∙ eq-eqb unit unit refl
 
   single_passed : place < length text → entry_at text place ≤ 0xFF → SameSingle classes singles index blocks (entry_at text place) → SpanSpelled (decoder classes singles pairs) spell text place (place + 1) (take 1 (drop place text))
@@ -89,12 +85,12 @@ module _ (classes singles pairs index blocks text : List ℕ) (place : ℕ) wher
 
   -- by the size that was found
   size_passed : place + 1 < length text → NoLowLead classes → entry_at text place ≤ 0xFF → entry_at text (place + 1) ≤ 0xFF → (size : ℕ)
-      → SameSize classes singles pairs index blocks (entry_at text place) (entry_at text (place + 1)) size → (size ≡ 0 → ⊥)
+      → SameSize classes singles pairs index blocks (entry_at text place) (entry_at text (place + 1)) size
       → SpanSpelled (decoder classes singles pairs) spell text place (place + size) (take size (drop place text))
-  size_passed h low a b zero s n = absurd (n refl)
-  size_passed h low a b (suc zero) s n = single_passed (omega arith) a (s.one refl)
-  size_passed h low a b (suc (suc zero)) s n = pair_passed h low b (s.two refl)
-  size_passed h low a b (suc (suc (suc size))) s n = absurd (omega (arith, s.few))
+  size_passed h low a b zero s = absurd (omega (arith, s.some))
+  size_passed h low a b (suc zero) s = single_passed (omega arith) a (s.one refl)
+  size_passed h low a b (suc (suc zero)) s = pair_passed h low b (s.two refl)
+  size_passed h low a b (suc (suc (suc size))) s = absurd (omega (arith, s.few))
 
 -- ---- passing over such codes
 module _ (r : Reader) (index blocks text : List ℕ) where
@@ -139,8 +135,8 @@ module _ (r : Reader) (index blocks text : List ℕ) where
 
 -- ---- a text below 80, on a page that keeps such text as it is both ways
 module _ (classes singles pairs index blocks text : List ℕ) (below : EachBelow 0x80 text)
-    (bytes : (byte : ℕ) → byte < 0x80 → (is_lead (entry_at classes byte) ≡ false) × (byte_alone classes singles byte ≡ Found byte))
-    (units : (unit : ℕ) → unit < 0x80 → unit_alone index blocks unit ≡ Found unit) where
+    (bytes : (byte : ℕ) → byte < 0x80 → (is_lead (entry_at classes byte) ≡ false) × (byte_alone classes singles byte ≡ Ok byte))
+    (units : (unit : ℕ) → unit < 0x80 → unit_alone index blocks unit ≡ Ok unit) where
   plain_byte_same : (place : ℕ) → place < length text → SameSingle classes singles index blocks (entry_at text place)
   plain_byte_same place h =
       let low = below place h in
@@ -161,26 +157,12 @@ module _ (classes singles pairs index blocks text : List ℕ) (below : EachBelow
 
 -- one code more that two bytes were looked at for
 pub same_turn : (classes singles pairs index blocks text : List ℕ) (from place size : ℕ) → SpanSame (decoder classes singles pairs) index blocks text from place → NoLowLead classes → place + 1 < length text
-    → entry_at text place ≤ 0xFF → entry_at text (place + 1) ≤ 0xFF → SameSize classes singles pairs index blocks (entry_at text place) (entry_at text (place + 1)) size → (size ≡ 0 → ⊥)
+    → entry_at text place ≤ 0xFF → entry_at text (place + 1) ≤ 0xFF → SameSize classes singles pairs index blocks (entry_at text place) (entry_at text (place + 1)) size
     → SpanSame (decoder classes singles pairs) index blocks text from (place + size)
-same_turn classes singles pairs index blocks text from place size w low h a b s n =
-    same_more (decoder classes singles pairs) index blocks text from place size w (omega (arith, s.few)) (size_passed classes singles pairs index blocks text place h low a b size s n)
+same_turn classes singles pairs index blocks text from place size w low h a b s =
+    same_more (decoder classes singles pairs) index blocks text from place size w (omega (arith, s.few)) (size_passed classes singles pairs index blocks text place h low a b size s)
 
--- ---- a part of the text, copied
-module _ (text before : List ℕ) (from at : ℕ) where
-  -- one byte more
-  pub copy_turn : (i : ℕ) (out : List ℕ) → out ≡ paste before at (drop from text) i → at + i < length before → from + i < length text
-      → set out (at + i) (get_or text (from + i) 0) ≡ paste before at (drop from text) (i + 1)
-  copy_turn i out e h k =
-      ap (λ (l : List ℕ). set l (at + i) (get_or text (from + i) 0)) e
-      ∙ ap (set (paste before at (drop from text) i) (at + i)) (sym (get_or-drop from text i 0))
-      ∙ paste-suc before at (drop from text) i 0 h (omega (arith, length-drop from text))
-      ∙ ap (paste before at (drop from text)) (sym (add-one i))
-
-  -- all of them
-  pub copy_end : (count i : ℕ) (out : List ℕ) → out ≡ paste before at (drop from text) i → i ≡ count → out ≡ paste before at (drop from text) count
-  copy_end count i out e k = e ∙ ap (paste before at (drop from text)) k
-
+-- ---- a stretch that is spelled as it stands, copied
 module _ (r : Reader) (index blocks text before : List ℕ) (place written : ℕ) (out : List ℕ) (w : Writing r index blocks text before place written out) (able : Writable r index blocks text before) (to : ℕ)
     (s : SpanSame r index blocks text place to) where
   -- a stretch that is spelled as it stands fits the room
@@ -188,24 +170,26 @@ module _ (r : Reader) (index blocks text before : List ℕ) (place written : ℕ
   same_room = omega (arith, writing_room r index blocks text before place written out w able to (take (to - place) (drop place text)) s.passed, same_count r index blocks text place to s)
 
   -- it is copied
-  pub writing_same : (next : ℕ) (after : List ℕ) → (next ≡ written + (to - place)) × (after ≡ paste out written (drop place text) (to - place)) → Writing r index blocks text before to next after
+  pub writing_same : (next : ℕ) (after : List ℕ) → (next ≡ written + length (take (to - place) (drop place text))) × (after ≡ paste out written (take (to - place) (drop place text)) (length (take (to - place) (drop place text))))
+      → Writing r index blocks text before to next after
   writing_same next after (e, put) =
       let bytes = take (to - place) (drop place text) in
-      let size : length bytes ≡ to - place = sym (same_count r index blocks text place to s) in
-      let room : written + length bytes ≤ length out = omega (arith, same_room) in
-      let fits : to - place ≤ length (drop place text) = omega (arith, length-drop place text, s.inside, s.from_on) in
-      let laid : after ≡ (take written out ++ bytes) ++ drop (written + length bytes) out = put ∙ ap (λ (n : ℕ). (take written out ++ bytes) ++ drop (written + n) out) (sym size) in
-      let kept : length after ≡ length out = ap (λ (l : List ℕ). length l) put ∙ length-paste out written (drop place text) (to - place) same_room fits in
-      subst (λ (n : ℕ). Writing r index blocks text before to n after) (ap (λ (n : ℕ). written + n) size ∙ sym e)
+      let room : written + length bytes ≤ length out = omega (arith, same_room, same_count r index blocks text place to s) in
+      let laid : after ≡ (take written out ++ bytes) ++ drop (written + length bytes) out = put ∙ ap (λ (l : List ℕ). (take written out ++ l) ++ drop (written + length bytes) out) (take-length bytes) in
+      let kept : length after ≡ length out = ap (λ (l : List ℕ). length l) put ∙ length-paste out written bytes (length bytes) room (omega arith) in
+      subst (λ (n : ℕ). Writing r index blocks text before to n after) (sym e)
       (writing_more r index blocks text before place written out w to bytes after s.passed room kept laid)
 
 -- the first stretch, copied: the spelling is begun
 pub same_begun : (r : Reader) (index blocks text before : List ℕ) (from : ℕ) (s : SpanSame r index blocks text 0 from) → length text ≤ piece_limit → Writable r index blocks text before
-    → (next : ℕ) (out : List ℕ) → (next ≡ 0 + (from - 0)) × (out ≡ paste before 0 (drop 0 text) (from - 0))
+    → (next : ℕ) (out : List ℕ) → (next ≡ 0 + length (take from text)) × (out ≡ paste before 0 (take from text) (length (take from text)))
     → Writing r index blocks text before from from out × Begun r index blocks text from out
 same_begun r index blocks text before from s short able next out (e, put) =
     let start = writing_start r index blocks text before in
-    let all : 0 + (from - 0) ≡ from = omega arith in
+    let all : from ≡ from - 0 = omega arith in
+    let bytes : take from text ≡ take (from - 0) (drop 0 text) = ap (λ (n : ℕ). take n text) all in
+    let behind : next ≡ from = omega (arith, e, length-take-le from text s.inside) in
     let w : Writing r index blocks text before from from out =
-    subst (λ (n : ℕ). Writing r index blocks text before from n out) all (writing_same r index blocks text before 0 0 before start able from s (0 + (from - 0)) out (refl, put)) in
+    subst (λ (n : ℕ). Writing r index blocks text before from n out) behind
+    (writing_same r index blocks text before 0 0 before start able from s next out (e ∙ ap (λ (l : List ℕ). 0 + length l) bytes, put ∙ ap (λ (l : List ℕ). paste before 0 l (length l)) bytes)) in
     (w, record { short = short; inside = s.inside; within = w.within; passed = w.passed; no_fault = able.no_fault; fits = omega (arith, able.fits, w.same) })

@@ -7,16 +7,15 @@ use mathlib.Core.Path.{◌≡◌, refl, sym, ap, ◌∙◌}
 use Prim.Native.Nat.{ℕ, ◌+◌, ◌/◌, ◌%◌, ◌≤◌, ◌<◌}
 use native.Mathlib.Numerals.{add-one}
 use native.Mathlib.Omega.{arith}
-use lib.Dec.{leb, eqb}
+use lib.Dec.{leb}
 use lib.ListN.{length, set}
 use lib.Seq.{sets}
-use borrow.Author.Tests.{le-leb, lt-leb, eqb-false, leb-true, leb-false}
+use borrow.Author.Tests.{le-leb, lt-leb, leb-true, leb-false}
 use Rattle.codepage.specs.CodePage.{pick, entry_at, is_lead}
-use Rattle.codepage.specs.Reading.{lookup, byte_alone, is_surrogate, unit_code, unit_alone, bytes_of, Reader, decoder, Code, alone, together, settled, codes_at_end, call_codes, codes}
+use Rattle.codepage.specs.Reading.{byte_alone, is_surrogate, unit_code, unit_alone, bytes_of, Reader, decoder, Code, alone, together, settled, codes_at_end, call_codes, codes}
 use Rattle.codepage.specs.declared.Kind.{Kind}
-use Rattle.codepage.specs.declared.Kind.TheVariants.{UndefinedSingle}
-use Rattle.codepage.specs.declared.Lookup.{Lookup}
-use Rattle.codepage.specs.declared.Lookup.TheVariants.{Found, Lacking}
+use Rattle.codepage.specs.Reading.{Lookup}
+use Rattle.std.specs.Prelude.{Ok, Err}
 use Rattle.codepage.proofs.ReadingLaws.{alone_looked_up, found_no_surrogate}
 use Rattle.codepage_lookup.specs.declared.SettledCode.{SettledCode}
 use Rattle.codepage_lookup.specs.Profile.{SettledAs}
@@ -24,7 +23,8 @@ use Rattle.codepage_walk.specs.declared.CodeRead.{CodeRead}
 use Rattle.codepage_walk.specs.Walk.{ReadAs}
 use Rattle.codepage_walk.proofs.WalkLaws.{at_one, at_last, at_two, at_alone}
 use Rattle.spelling.specs.Spelling.{is_character, is_one_code, reads_back, code_reading_back, unit_spelling, code_spelling}
-use Rattle.spelling.specs.Steps.{or_none, SpelledRead}
+use Rattle.std.specs.Prelude.{Option as RustOption, Some, None}
+use Rattle.spelling.specs.Steps.{option_of, SpelledRead}
 
 -- ---- how many bytes a code has
 
@@ -118,94 +118,55 @@ module _ (r : Reader) (index blocks : List ℕ) (unit : ℕ) where
   unfolding unit_spelling
   surrogate_none e = rw e
 
-  own_code : (code : ℕ) → unit_alone index blocks unit ≡ Found code → unit_spelling r index blocks unit ≡ pick (reads_back r unit code) (some code) none
+  own_code : (code : ℕ) → unit_alone index blocks unit ≡ Ok code → unit_spelling r index blocks unit ≡ pick (reads_back r unit code) (some code) none
   own_code code e =
       let s = found_no_surrogate index blocks unit code e in
       asked s ∙ ap (code_reading_back r unit) (sym (alone_looked_up index blocks unit s) ∙ e)
 
   -- its own code reads back
-  pub own_back : (code : ℕ) → unit_alone index blocks unit ≡ Found code → reads_back r unit code ≡ true → unit_spelling r index blocks unit ≡ some code
+  pub own_back : (code : ℕ) → unit_alone index blocks unit ≡ Ok code → reads_back r unit code ≡ true → unit_spelling r index blocks unit ≡ some code
   own_back code e b = own_code code e ∙ rw b
 
   -- it does not
-  pub own_not_back : (code : ℕ) → unit_alone index blocks unit ≡ Found code → reads_back r unit code ≡ false → unit_spelling r index blocks unit ≡ none
+  pub own_not_back : (code : ℕ) → unit_alone index blocks unit ≡ Ok code → reads_back r unit code ≡ false → unit_spelling r index blocks unit ≡ none
   own_not_back code e b = own_code code e ∙ rw b
 
   -- there is none
-  pub own_lacking : (kind : Kind) → unit_alone index blocks unit ≡ Lacking kind → unit_spelling r index blocks unit ≡ none
+  pub own_lacking : (kind : Kind) → unit_alone index blocks unit ≡ Err kind → unit_spelling r index blocks unit ≡ none
   own_lacking kind e = by (is_surrogate unit) refl
     where
       by : (t : Bool) → is_surrogate unit ≡ t → unit_spelling r index blocks unit ≡ none
       by true s = surrogate_none s
       by false s = asked s ∙ ap (code_reading_back r unit) (sym (alone_looked_up index blocks unit s) ∙ e)
 
--- ---- FFFF is none, and no code
-entry_coded : (kind : Kind) (value code : ℕ) → lookup kind value ≡ Found code → (code ≡ 0xFFFF) → ⊥
-unfolding lookup
-entry_coded kind value code e q = by (eqb value 0xFFFF) refl
-  where
-    by : (t : Bool) → eqb value 0xFFFF ≡ t → ⊥
-    by true t =
-        let z : Lacking kind ≡ Found code = rw t at e in
-        let n : ◌≡◌ {A = ℕ} 0 1 = cc in
-        omega arith
-    by false t =
-        let z : Found value ≡ Found code = rw t at e in
-        let same : value ≡ code = cc in
-        eqb-false value 0xFFFF t (same ∙ q)
+-- ---- a code or none, as the functions answer it
 
--- a code that spells a character is a code
-unit_coded : (r : Reader) (index blocks : List ℕ) (unit code : ℕ) → unit_spelling r index blocks unit ≡ some code → code ≡ 0xFFFF → ⊥
-unfolding unit_spelling unit_code
-unit_coded r index blocks unit code e q = by (is_surrogate unit) refl
-  where
-    by_back : (own : ℕ) → unit_code index blocks unit ≡ Found own → (t : Bool) → reads_back r unit own ≡ t → unit_spelling r index blocks unit ≡ pick t (some own) none → ⊥
-    by_back own l true b z =
-        let same : some own ≡ some code = sym z ∙ e in
-        let one : own ≡ code = cc in
-        entry_coded UndefinedSingle _ own l (one ∙ q)
-    by_back own l false b z = let wrong : none ≡ some code = sym z ∙ e in let n : ◌≡◌ {A = ℕ} 0 1 = cc in omega arith
+-- a code
+pub some_of : (o : Option ℕ) (code : ℕ) → option_of o ≡ Some code → o ≡ some code
+some_of none code e = absurd (let n : ◌≡◌ {A = ℕ} 0 1 = cc in omega arith)
+some_of (some other) code e = let same : other ≡ code = cc in ap (λ (n : ℕ). some n) same
 
-    by_own : is_surrogate unit ≡ false → (own : Lookup) → unit_code index blocks unit ≡ own → ⊥
-    by_own s (Found own) l = by_back own l (reads_back r unit own) refl (asked r index blocks unit s ∙ ap (code_reading_back r unit) l)
-    by_own s (Lacking kind) l =
-        let wrong : none ≡ some code = sym (asked r index blocks unit s ∙ ap (code_reading_back r unit) l) ∙ e in
-        let n : ◌≡◌ {A = ℕ} 0 1 = cc in
-        omega arith
+-- none
+pub none_of : (o : Option ℕ) → option_of o ≡ None → o ≡ none
+none_of none e = refl
+none_of (some other) e = absurd (let n : ◌≡◌ {A = ℕ} 0 1 = cc in omega arith)
 
-    by : (t : Bool) → is_surrogate unit ≡ t → ⊥
-    by true s = let wrong : none ≡ some code = sym (surrogate_none r index blocks unit s) ∙ e in let n : ◌≡◌ {A = ℕ} 0 1 = cc in omega arith
-    by false s = by_own s (unit_code index blocks unit) refl
-
-module _ (r : Reader) (index blocks : List ℕ) where
-  -- FFFF: the code is at fault
-  pub none_spells : (means : Lookup) (code : ℕ) → code ≡ or_none (code_spelling r index blocks means) → code ≡ 0xFFFF → code_spelling r index blocks means ≡ none
-  none_spells (Lacking kind) code e q = refl
-  none_spells (Found unit) code e q = by (unit_spelling r index blocks unit) refl
-    where
-      by : (o : Option ℕ) → unit_spelling r index blocks unit ≡ o → unit_spelling r index blocks unit ≡ none
-      by none t = t
-      by (some other) t = absurd (unit_coded r index blocks unit other t (sym (e ∙ ap or_none t) ∙ q))
-
-  -- any other number spells it
-  pub code_spells : (means : Lookup) (code : ℕ) → code ≡ or_none (code_spelling r index blocks means) → (code ≡ 0xFFFF → ⊥) → code_spelling r index blocks means ≡ some code
-  code_spells means code e q = by (code_spelling r index blocks means) refl
-    where
-      by : (o : Option ℕ) → code_spelling r index blocks means ≡ o → code_spelling r index blocks means ≡ some code
-      by none t = absurd (q (e ∙ ap or_none t))
-      by (some other) t = t ∙ ap (λ (n : ℕ). some n) (sym (e ∙ ap or_none t))
+-- what is not none is a code
+pub some_unless_none : (o : RustOption ℕ) → (o ≡ None → ⊥) → (code : ℕ) × (o ≡ Some code)
+some_unless_none None h = absurd (h refl)
+some_unless_none (Some code) h = (code, refl)
 
 -- ---- the code at a place, as it was read
 module _ (r : Reader) (index blocks text : List ℕ) (place : ℕ) (c : CodeRead) (w : ReadAs r text place c) where
   -- it has a character: what spells the character spells it
-  pub spelled_found : (unit code : ℕ) → c.means ≡ Found unit → code ≡ or_none (unit_spelling r index blocks unit) → SpelledRead r index blocks text place (record { size = c.size; code = code })
+  pub spelled_found : (unit : ℕ) (code : RustOption ℕ) → c.means ≡ Ok unit → code ≡ option_of (unit_spelling r index blocks unit) → SpelledRead r index blocks text place (record { size = c.size; code = code })
   spelled_found unit code e q =
-      record { code = w.code; at = w.at; size = w.size; spelling = q ∙ ap (λ (m : Lookup). or_none (code_spelling r index blocks m)) (sym e ∙ w.means) }
+      record { code = w.code; at = w.at; size = w.size; spelling = q ∙ ap (λ (m : Lookup). option_of (code_spelling r index blocks m)) (sym e ∙ w.means) }
 
   -- it has none: it is at fault
-  pub spelled_lacking : (kind : Kind) → c.means ≡ Lacking kind → SpelledRead r index blocks text place (record { size = c.size; code = 0xFFFF })
+  pub spelled_lacking : (kind : Kind) → c.means ≡ Err kind → SpelledRead r index blocks text place (record { size = c.size; code = None })
   spelled_lacking kind e =
-      record { code = w.code; at = w.at; size = w.size; spelling = ap (λ (m : Lookup). or_none (code_spelling r index blocks m)) (sym e ∙ w.means) }
+      record { code = w.code; at = w.at; size = w.size; spelling = ap (λ (m : Lookup). option_of (code_spelling r index blocks m)) (sym e ∙ w.means) }
 
 -- ---- the bytes of a code, written
 

@@ -6,8 +6,8 @@ use mathlib.Core.Path.{◌≡◌, refl, sym, ap, ◌∙◌, subst}
 use Prim.Native.Nat.{ℕ, ◌+◌}
 use Rattle.codepage.specs.CodePage.{CodePage}
 use Rattle.codepage.specs.Reading.{Code, size_of, codes_at_end, call_codes, codes}
-use Rattle.codepage.specs.declared.Lookup.{Lookup}
-use Rattle.codepage.specs.declared.Lookup.TheVariants.{Found}
+use Rattle.codepage.specs.Reading.{Lookup}
+use Rattle.std.specs.Prelude.{Ok}
 use Rattle.convert.proofs.RoundTripLaws.{code_first}
 use Rattle.codepage_walk.specs.Walk.{placed_from, placed}
 use Rattle.codepage_walk.specs.Checks.{bytes_reader}
@@ -57,13 +57,13 @@ module _ (p : CodePage) where
   -- codes that are not at fault mean their characters
   founds : List ℕ → List Lookup
   founds [] = []
-  founds (unit ∷ units) = Found unit ∷ founds units
+  founds (unit ∷ units) = Ok unit ∷ founds units
 
   all_found : (ms : List Lookup) → AllMean ms → ms ≡ founds (units_by ms)
   unfolding AllMean founds units_by
   all_found [] h = refl
   all_found (m ∷ ms) (s, h) =
-      subst (λ (n : Lookup). n ∷ ms ≡ founds (character_of n ++ units_by ms)) (sym s.character) (ap (λ (l : List Lookup). Found s.unit ∷ l) (all_found ms h))
+      subst (λ (n : Lookup). n ∷ ms ≡ founds (character_of n ++ units_by ms)) (sym s.character) (ap (λ (l : List Lookup). Ok s.unit ∷ l) (all_found ms h))
 
   -- A SPELLING READ: its codes mean what the text's codes mean.
   spelling_read : (place : ℕ) (ks : List Code) → AllSpellable p (placed_from place ks) → means_of (codes (bytes_reader p) (spelling_bytes (speller p) ks)) ≡ means_of ks

@@ -5,7 +5,7 @@ use mathlib.Core.Path.{◌≡◌, refl, sym, ap, ◌∙◌, subst}
 use Prim.Native.Nat.{ℕ, ◌+◌}
 use Rattle.codepage.specs.CodePage.{CodePage}
 use Rattle.codepage.specs.Reading.{bytes_of, decoder, Code, size_of, codes}
-use Rattle.codepage.specs.declared.Lookup.{Lookup}
+use Rattle.codepage.specs.Reading.{Lookup}
 use Rattle.engine.specs.declared.Direction.TheVariants.{Decoding, Encoding}
 use Rattle.engine.specs.declared.Policy.{Policy}
 use Rattle.engine.specs.Engine.{converter, endless, take_codes, whole, reader_of}

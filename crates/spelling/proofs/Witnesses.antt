@@ -17,7 +17,7 @@ use Rattle.convert.proofs.Computing.{shape_rules, reading_rules}
 use Rattle.codepage_walk.specs.Walk.{placed_from, placed}
 use Rattle.codepage_walk.specs.Checks.{bytes_reader}
 use Rattle.spelling.specs.declared.Refusal.TheVariants.{BadShape, TooLong, SpellingTooLong}
-use Rattle.spelling.specs.declared.Spelled.TheVariants as spelled
+use Rattle.std.specs.Prelude.{Ok, Err}
 use Rattle.spelling.specs.Spelling.{reads_back, unit_spelling, bytes_if, spelling_bytes}
 use Rattle.spelling.specs.Calls.{spelling_text, spelling_of}
 use Rattle.spelling.specs.Claims.{AllSpellable, NoFault, units_meant}
@@ -40,7 +40,7 @@ unfolding times
 times_size count byte = length-replicate {A = ℕ} count byte
 
 -- 10 AND 11 ARE MET.
-pub refused : ((spelling_of pageless [] 0).answer ≡ spelled.Refused BadShape) × ((spelling_of sample_page (times 65537 0x41) 90000).answer ≡ spelled.Refused TooLong)
+pub refused : ((spelling_of pageless [] 0).answer ≡ Err BadShape) × ((spelling_of sample_page (times 65537 0x41) 90000).answer ≡ Err TooLong)
 unfolding pageless
 refused = (
   (spelling_refused_exact pageless [] 0 BadShape).1 (λ g. g.page refl),
@@ -91,7 +91,7 @@ twice_size (suc count) =
 
 -- THE LIMIT OF A SPELLING: 32,768 codes of one byte that are spelled by two bytes are accepted, 65,536 bytes long; 32,769 are refused with
 -- 25, though the room is larger.
-pub at_limit : ((spelling_of twice_page (times 32768 0x80) 90000).answer ≡ spelled.Bytes 65536) × ((spelling_of twice_page (times 32769 0x80) 90000).answer ≡ spelled.Refused SpellingTooLong)
+pub at_limit : ((spelling_of twice_page (times 32768 0x80) 90000).answer ≡ Ok 65536) × ((spelling_of twice_page (times 32769 0x80) 90000).answer ≡ Err SpellingTooLong)
 at_limit = (
   (spelling_accepted_exact twice_page (times 32768 0x80) 90000 65536).1 (
     ((twice_good, omega (arith, times_size 32768 0x80)), twice_clear 32768, omega (arith, twice_size 32768), omega (arith, twice_size 32768)),

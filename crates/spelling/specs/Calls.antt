@@ -1,5 +1,5 @@
 -- Document 02, CR 8: the call that gives the standard spelling of a byte text.
-use Rattle.std.specs.Prelude.{List, [], ◌≡◌, ℕ, leb, length}
+use Rattle.std.specs.Prelude.{List, [], ◌≡◌, ℕ, leb, length, Result, Ok, Err}
 use Rattle.std.proofs.Math.Option.{Option, none, some}
 use Rattle.codepage.specs.CodePage.{CodePage}
 use Rattle.codepage.specs.Lent.{over}
@@ -7,8 +7,6 @@ use Rattle.convert.specs.Runs.{piece_limit}
 use Rattle.codepage_walk.specs.Checks.{refuse_unless, text_checks, bytes_reader}
 use Rattle.spelling.specs.declared.Refusal.{Refusal}
 use Rattle.spelling.specs.declared.Refusal.TheVariants.{BadShape, TooLong, AtFault, SpellingTooLong}
-use Rattle.spelling.specs.declared.Spelled.{Spelled}
-use Rattle.spelling.specs.declared.Spelled.TheVariants as spelled
 use Rattle.spelling.specs.Spelling.{fault_of, bytes_for}
 
 -- The numbers of the refusals.
@@ -42,19 +40,19 @@ spelling_refusal p text room =
 
 -- What the call gives: its answer, and what is written to the lent output.
 pub record Spelling : Type 0 where
-  pub answer : Spelled
+  pub answer : Result ℕ Refusal
   pub bytes : List ℕ
 
 -- With no refusal the spelling is written and the answer is its length. Refused, nothing is written.
 abbrev pub spelling_unless : Option Refusal → (bytes : List ℕ) → Spelling
-spelling_unless none bytes = record { answer = spelled.Bytes (length bytes); bytes = bytes }
-spelling_unless (some refusal) bytes = record { answer = spelled.Refused refusal; bytes = [] }
+spelling_unless none bytes = record { answer = Ok (length bytes); bytes = bytes }
+spelling_unless (some refusal) bytes = record { answer = Err refusal; bytes = [] }
 
 -- THE STANDARD SPELLING.
 unfoldable pub spelling_of : CodePage → (text : List ℕ) → (room : ℕ) → Spelling
 spelling_of p text room = spelling_unless (spelling_refusal p text room) (spelling_text p text)
 
 -- The promise of the call: c is what the rules give, r what it returns, and the lent output before and after.
-pub record SpelledAs (c : Spelling) (r : Spelled) (before after : List ℕ) : Type 0 where
+pub record SpelledAs (c : Spelling) (r : Result ℕ Refusal) (before after : List ℕ) : Type 0 where
   pub answer : r ≡ c.answer
   pub lent : after ≡ over before c.bytes

@@ -2,8 +2,8 @@
 use Rattle.std.specs.Prelude.{false, List, [], ◌∷◌, ◌++◌, ◌⊎◌, ◌≡◌, ℕ, ◌≤◌, ◌<◌, length}
 use Rattle.codepage.specs.CodePage.{CodePage, GoodShape}
 use Rattle.codepage.specs.Reading.{is_surrogate, Code, codes}
-use Rattle.codepage.specs.declared.Lookup.{Lookup}
-use Rattle.codepage.specs.declared.Lookup.TheVariants.{Found, Lacking}
+use Rattle.codepage.specs.Reading.{Lookup}
+use Rattle.std.specs.Prelude.{Ok, Err}
 use Rattle.engine.specs.declared.Direction.TheVariants.{Decoding, Encoding}
 use Rattle.engine.specs.declared.Policy.{Policy}
 use Rattle.engine.specs.Engine.{reader_of, whole}
@@ -20,7 +20,7 @@ use Rattle.spelling.specs.Calls.{spelling_text}
 pub record Spellable (p : CodePage) (means : Lookup) : Type 0 where
   pub unit : ℕ
   pub code : ℕ
-  pub character : means ≡ Found unit
+  pub character : means ≡ Ok unit
   pub no_surrogate : is_surrogate unit ≡ false
   pub belong : RoundTrips p unit code
 
@@ -44,8 +44,8 @@ pub record FaultAt (p : CodePage) (text : List ℕ) (place : ℕ) : Type 0 where
 
 -- the character of a code, if it has one
 abbrev pub character_of : Lookup → List ℕ
-character_of (Found unit) = unit ∷ []
-character_of (Lacking kind) = []
+character_of (Ok unit) = unit ∷ []
+character_of (Err kind) = []
 
 -- the characters of some codes
 abbrev pub characters_of : List Code → List ℕ

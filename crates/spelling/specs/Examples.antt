@@ -1,10 +1,9 @@
 -- Document 02, CR 8: worked calls on the sample page and on one with two codes for a character.
-use Rattle.std.specs.Prelude.{List, [], ◌∷◌, ◌++◌, ◌≡◌, ℕ, set}
+use Rattle.std.specs.Prelude.{List, [], ◌∷◌, ◌++◌, ◌≡◌, ℕ, set, Result, Ok, Err}
 use Rattle.codepage.specs.CodePage.{CodePage}
 use Rattle.convert.specs.Sample.{none_of, sample_page}
+use Rattle.spelling.specs.declared.Refusal.{Refusal}
 use Rattle.spelling.specs.declared.Refusal.TheVariants.{AtFault, SpellingTooLong}
-use Rattle.spelling.specs.declared.Spelled.{Spelled}
-use Rattle.spelling.specs.declared.Spelled.TheVariants as spelled
 use Rattle.spelling.specs.Calls.{spelling_of}
 
 -- The sample page changed: 80 is 3000, as 8140 is, whose own code is 8140. A0 is D800, and D800 gives A0: a surrogate that the tables
@@ -27,19 +26,19 @@ pub record SpellingRow : Type 0 where
   pub page : CodePage
   pub text : List ℕ
   pub room : ℕ
-  pub answer : Spelled
+  pub answer : Result ℕ Refusal
   pub bytes : List ℕ
 
 abbrev accepted : CodePage → List ℕ → ℕ → ℕ → List ℕ → SpellingRow
-accepted page text room count bytes = record { page = page; text = text; room = room; answer = spelled.Bytes count; bytes = bytes }
+accepted page text room count bytes = record { page = page; text = text; room = room; answer = Ok count; bytes = bytes }
 
 -- 24: the place of the first code at fault
 abbrev faulty : CodePage → List ℕ → ℕ → ℕ → SpellingRow
-faulty page text room place = record { page = page; text = text; room = room; answer = spelled.Refused (AtFault place); bytes = [] }
+faulty page text room place = record { page = page; text = text; room = room; answer = Err (AtFault place); bytes = [] }
 
 -- 25
 abbrev too_long : CodePage → List ℕ → ℕ → SpellingRow
-too_long page text room = record { page = page; text = text; room = room; answer = spelled.Refused SpellingTooLong; bytes = [] }
+too_long page text room = record { page = page; text = text; room = room; answer = Err SpellingTooLong; bytes = [] }
 
 -- the rows
 abbrev pub spelling_rows : List SpellingRow

@@ -3,14 +3,14 @@ use Rattle.std.specs.Prelude.{Bool, false, List, [], ◌∷◌, ◌++◌, ℕ, e
 use Rattle.std.proofs.Math.Option.{Option, none, some}
 use Rattle.codepage.specs.CodePage.{pick}
 use Rattle.codepage.specs.Reading.{is_surrogate, unit_code, bytes_of, Reader, Code, codes}
-use Rattle.codepage.specs.declared.Lookup.{Lookup}
-use Rattle.codepage.specs.declared.Lookup.TheVariants.{Found, Lacking}
+use Rattle.codepage.specs.Reading.{Lookup}
+use Rattle.std.specs.Prelude.{Ok, Err}
 use Rattle.codepage_walk.specs.Walk.{Placed, placed}
 
 -- whether a code means this character
 abbrev pub is_character : (unit : ℕ) → Lookup → Bool
-is_character unit (Found found) = eqb found unit
-is_character unit (Lacking kind) = false
+is_character unit (Ok found) = eqb found unit
+is_character unit (Err kind) = false
 
 -- whether a text is one code with this character
 abbrev pub is_one_code : (unit : ℕ) → List Code → Bool
@@ -24,8 +24,8 @@ reads_back r unit code = is_one_code unit (codes r (bytes_of code))
 
 -- "each character's own code in the encoding table reads back as it"
 abbrev pub code_reading_back : Reader → (unit : ℕ) → Lookup → Option ℕ
-code_reading_back r unit (Found code) = pick (reads_back r unit code) (some code) none
-code_reading_back r unit (Lacking kind) = none
+code_reading_back r unit (Ok code) = pick (reads_back r unit code) (some code) none
+code_reading_back r unit (Err kind) = none
 
 -- "no character is a surrogate": the code that spells a character, or none
 unfoldable pub unit_spelling : Reader → (index blocks : List ℕ) → (unit : ℕ) → Option ℕ
@@ -33,8 +33,8 @@ unit_spelling r index blocks unit = pick (is_surrogate unit) none (code_reading_
 
 -- "every code has a character": the code that spells a code of the text, by what it means; none if it is at fault
 abbrev pub code_spelling : Reader → (index blocks : List ℕ) → Lookup → Option ℕ
-code_spelling r index blocks (Found unit) = unit_spelling r index blocks unit
-code_spelling r index blocks (Lacking kind) = none
+code_spelling r index blocks (Ok unit) = unit_spelling r index blocks unit
+code_spelling r index blocks (Err kind) = none
 
 -- the place of a code that nothing spells, else what is found behind it
 abbrev pub fault_or : Option ℕ → (place : ℕ) → Option ℕ → Option ℕ

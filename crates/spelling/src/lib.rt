@@ -2,28 +2,28 @@
 // docs/RULES.md, "Spelling".) The standard spelling of a byte text is the text decoded, and encoded again. Texts that have one mean
 // the same units exactly if their spellings are equal bytes.
 //
-//     let spelled = spelling::standard_spelling(numbers, classes, singles, pairs, index, blocks, text, out);
-//     // Spelled::Bytes(length): the front of `out`; or Spelled::Refused(why): why.number()
+//     let spelled = spelling::standard_spelling(&tables, text, out);
+//     // Ok(length): the front of `out`; or Err(why): why.number()
 //
 // A refused call leaves `out` as it was.
 
 #![tactic(auto)]
 
-ghost use Rattle.std.specs.Prelude.{◌≡◌, true, ◌+◌, ◌-◌, ◌≤◌, ◌<◌, length, drop};
+ghost use Rattle.std.specs.Prelude.{◌≡◌, true, ◌+◌, ◌≤◌, ◌<◌, length, IfSome};
 ghost use Rattle.std.proofs.Math.Option.{none};
 ghost use Rattle.std.proofs.lemmas.List.Edits.{sets};
 ghost use Rattle.std.proofs.Math.Seq.{paste};
-ghost use Rattle.codepage.specs.CodePage.{code_page};
+ghost use Rattle.codepage.specs.CodePage.{page_of};
 ghost use Rattle.codepage.specs.Lent.{over};
-ghost use Rattle.codepage.specs.Reading.{is_surrogate, unit_alone, bytes_of, decoder};
+ghost use Rattle.codepage.specs.Reading.{is_surrogate, unit_alone, bytes_of};
+ghost use Rattle.codepage_lookup.specs.Tables.{byte_reader};
 ghost use Rattle.convert.specs.Runs.{piece_limit};
 ghost use Rattle.spelling.specs.Spelling.{is_character, reads_back, unit_spelling, fault_of, bytes_for};
 ghost use Rattle.spelling.specs.Calls.{spelling_number, spelling_of, SpelledAs};
-ghost use Rattle.spelling.specs.Steps.{BytesTables, UnitsTables, or_none, SpelledRead, counted_of, SameSize, SpanSame, Begun};
+ghost use Rattle.spelling.specs.Steps.{option_of, SpelledRead, counted_of, SameSize, SpanSame, Begun};
 
-use codepage::{Lookup, Numbers};
-use codepage_lookup::profile;
-use codepage_lookup::profile::Leads;
+use codepage::{Lookup, TableSet};
+use codepage_lookup::tables::{ByteTables, LeadTables, UnitTables};
 use convert::Run;
 use engine_fastpath::plain;
 
@@ -41,14 +41,6 @@ pub enum Refusal {
     SpellingTooLong,
 }
 
-// What the call answers.
-#[derive(Clone, Copy)]
-pub enum Spelled {
-    // The spelling has so many bytes.
-    Bytes(usize),
-    Refused(Refusal),
-}
-
 impl Refusal {
     // The number that document 02 gives the refusal.
     pub fn number(self) -> u8
@@ -63,11 +55,18 @@ impl Refusal {
     }
 }
 
-// A code of the text: how many bytes it has, and the code that spells it, or NO_CODE if it is at fault.
+// The tables of a page whose shape was found good, as a text is spelled by them.
+#[derive(Clone, Copy)]
+struct Speller<'a> {
+    bytes: LeadTables<'a>,
+    units: UnitTables<'a>,
+}
+
+// A code of the text: how many bytes it has, and the code that spells it, if it is not at fault.
 #[derive(Clone, Copy)]
 struct SpelledCode {
     size: usize,
-    code: u16,
+    code: Option<u16>,
 }
 
 // No code: a table's entry that means none.
@@ -78,92 +77,8 @@ fn is_character(means: Lookup, unit: u16) -> bool
     ensures { result ≡ is_character unit means }
 {
     match means {
-        Lookup::Found(found) => found == unit,
-        Lookup::Lacking(_) => false,
-    }
-}
-
-// Whether a code, written as bytes, is read as one code with this character.
-fn reads_back(
-    classes: &[u8],
-    singles: &[u16],
-    pairs: &[u16],
-    leads: Leads,
-    unit: u16,
-    code: u16,
-) -> bool
-    requires { BytesTables classes.now singles.now pairs.now leads }
-    ensures { result ≡ reads_back (decoder classes.now singles.now pairs.now) unit code }
-{
-    if code <= 0xFF {
-        return is_character(
-            codepage_lookup::byte_alone(classes, singles, code as u8),
-            unit,
-        );
-    }
-    let lead = (code / 256) as u8;
-    if !codepage_lookup::is_lead(classes, lead) {
-        return false;
-    }
-    let settled = codepage_lookup::settle(classes, pairs, leads, lead, (code % 256) as u8);
-    if settled.more == 0 {
-        return false;
-    }
-    let means = settled.means;
-    is_character(means, unit)
-}
-
-// The code that spells a character: its own, if the character is no surrogate and the code reads back as it.
-fn unit_spelling(
-    classes: &[u8],
-    singles: &[u16],
-    pairs: &[u16],
-    index: &[u8],
-    blocks: &[u16],
-    leads: Leads,
-    unit: u16,
-) -> u16
-    requires { BytesTables classes.now singles.now pairs.now leads × UnitsTables index.now blocks.now }
-    ensures { result ≡ or_none (unit_spelling (decoder classes.now singles.now pairs.now) index.now blocks.now unit) }
-{
-    let own = codepage_lookup::unit_alone(index, blocks, unit);
-    match own {
-        Lookup::Found(code) => {
-            if reads_back(classes, singles, pairs, leads, unit, code) {
-                return code;
-            }
-            NO_CODE
-        }
-        Lookup::Lacking(_) => NO_CODE,
-    }
-}
-
-// The code at a place: its size, and the code that spells it.
-fn spelled_at(
-    classes: &[u8],
-    singles: &[u16],
-    pairs: &[u16],
-    index: &[u8],
-    blocks: &[u16],
-    leads: Leads,
-    text: &[u8],
-    place: usize,
-) -> SpelledCode
-    requires { BytesTables classes.now singles.now pairs.now leads × UnitsTables index.now blocks.now × (place < length text.now) }
-    ensures { SpelledRead (decoder classes.now singles.now pairs.now) index.now blocks.now text.now place result }
-{
-    let read = codepage_walk::code_at(classes, singles, pairs, leads, text, place);
-    let size = read.size;
-    let means = read.means;
-    match means {
-        Lookup::Found(unit) => {
-            let code = unit_spelling(classes, singles, pairs, index, blocks, leads, unit);
-            SpelledCode { size, code }
-        }
-        Lookup::Lacking(_) => SpelledCode {
-            size,
-            code: NO_CODE,
-        },
+        Ok(found) => found == unit,
+        Err(_) => false,
     }
 }
 
@@ -187,156 +102,6 @@ fn is_surrogate(unit: u16) -> bool
     unit <= 0xDFFF
 }
 
-// Whether a number is a character that is no surrogate and whose own code is this one.
-fn has_code(index: &[u8], blocks: &[u16], unit: u16, code: u16) -> bool
-    requires { UnitsTables index.now blocks.now }
-    ensures { result ≡ true → (unit ≡ 0xFFFF → ⊥) × (unit_alone index.now blocks.now unit ≡ Lookup.Found code) }
-{
-    if unit == NO_CODE {
-        return false;
-    }
-    if is_surrogate(unit) {
-        return false;
-    }
-    let own = codepage_lookup::code_of(index, blocks, unit);
-    if own == NO_CODE {
-        return false;
-    }
-    own == code
-}
-
-// How many bytes the code has that begins with these two, if it is spelled as it stands; 0 where that is not found here.
-fn same_size(
-    classes: &[u8],
-    singles: &[u16],
-    pairs: &[u16],
-    index: &[u8],
-    blocks: &[u16],
-    leads: Leads,
-    first: u8,
-    second: u8,
-) -> usize
-    requires { BytesTables classes.now singles.now pairs.now leads × UnitsTables index.now blocks.now }
-    ensures { SameSize classes.now singles.now pairs.now index.now blocks.now first second result }
-{
-    if codepage_lookup::is_lead(classes, first) {
-        let unit = codepage_lookup::pair_unit(classes, pairs, leads, first, second);
-        if has_code(index, blocks, unit, 256 * (first as u16) + (second as u16)) {
-            return 2;
-        }
-        return 0;
-    }
-    let unit = codepage_lookup::single_unit(classes, singles, first);
-    if has_code(index, blocks, unit, first as u16) {
-        return 1;
-    }
-    0
-}
-
-// Passes over codes that are spelled as they stand, from a place on: the place behind them.
-fn pass_same(
-    classes: &[u8],
-    singles: &[u16],
-    pairs: &[u16],
-    index: &[u8],
-    blocks: &[u16],
-    leads: Leads,
-    text: &[u8],
-    from: usize,
-) -> usize
-    requires { BytesTables classes.now singles.now pairs.now leads × UnitsTables index.now blocks.now × (from ≤ length text.now) }
-    ensures { SpanSame (decoder classes.now singles.now pairs.now) index.now blocks.now text.now from result }
-{
-    let mut place = from;
-    while 2 <= text.len() - place {
-        let size = same_size(
-            classes,
-            singles,
-            pairs,
-            index,
-            blocks,
-            leads,
-            text[place],
-            text[place + 1],
-        );
-        if size == 0 {
-            return place;
-        }
-        place += size;
-    }
-    place
-}
-
-// Whether a text is below 80 throughout, on a page that keeps such text as it is both ways: then it is its own spelling.
-fn is_plain(
-    classes: &[u8],
-    singles: &[u16],
-    pairs: &[u16],
-    index: &[u8],
-    blocks: &[u16],
-    leads: Leads,
-    text: &[u8],
-) -> bool
-    requires { BytesTables classes.now singles.now pairs.now leads × UnitsTables index.now blocks.now }
-    ensures { result ≡ true → SpanSame (decoder classes.now singles.now pairs.now) index.now blocks.now text.now 0 (length text.now) }
-{
-    if !plain::bytes_below_80(text) {
-        return false;
-    }
-    if !profile::plain_bytes(classes, singles) {
-        return false;
-    }
-    profile::plain_units(index, blocks)
-}
-
-// How much of a text's front is spelled as it stands.
-fn same_front(
-    classes: &[u8],
-    singles: &[u16],
-    pairs: &[u16],
-    index: &[u8],
-    blocks: &[u16],
-    leads: Leads,
-    text: &[u8],
-) -> usize
-    requires { BytesTables classes.now singles.now pairs.now leads × UnitsTables index.now blocks.now }
-    ensures { SpanSame (decoder classes.now singles.now pairs.now) index.now blocks.now text.now 0 result }
-{
-    if is_plain(classes, singles, pairs, index, blocks, leads, text) {
-        return text.len();
-    }
-    pass_same(classes, singles, pairs, index, blocks, leads, text, 0)
-}
-
-// Checks every code, up to the first at fault, and counts the bytes of the spelling. Up to `from` it is the text as it stands.
-fn count_spelling(
-    classes: &[u8],
-    singles: &[u16],
-    pairs: &[u16],
-    index: &[u8],
-    blocks: &[u16],
-    leads: Leads,
-    text: &[u8],
-    from: usize,
-) -> Spelled
-    requires bytes_tables { BytesTables classes.now singles.now pairs.now leads × UnitsTables index.now blocks.now × (length text.now ≤ piece_limit) }
-    requires span_same { SpanSame (decoder classes.now singles.now pairs.now) index.now blocks.now text.now 0 from }
-    ensures { result ≡ counted_of (decoder classes.now singles.now pairs.now) index.now blocks.now text.now }
-{
-    let mut place = from;
-    let mut bytes = from;
-    while place < text.len() {
-        let next = spelled_at(classes, singles, pairs, index, blocks, leads, text, place);
-        if next.code == NO_CODE {
-            return Spelled::Refused(Refusal::AtFault(place));
-        }
-        let after = place + next.size;
-        place = pass_same(classes, singles, pairs, index, blocks, leads, text, after);
-        bytes = bytes + byte_count(next.code) + (place - after);
-    }
-    Spelled::Bytes(bytes)
-}
-
 // Writes the bytes of a code: the place behind them.
 fn put_code(code: u16, out: &mut [u8], at: usize) -> usize
     requires { at + length (bytes_of code) ≤ length out.old }
@@ -351,103 +116,229 @@ fn put_code(code: u16, out: &mut [u8], at: usize) -> usize
     at + 2
 }
 
-// Copies a part of the text into the output at a place: the place behind it.
-fn copy_part(text: &[u8], from: usize, to: usize, out: &mut [u8], at: usize) -> usize
-    requires { (from ≤ to) × (to ≤ length text.now) × (at + (to - from) ≤ length out.old) }
-    ensures { (result ≡ at + (to - from)) × (out.new ≡ paste out.old at (drop from text.now) (to - from)) }
+// Copies bytes into the output at a place: the place behind them.
+fn put_bytes(bytes: &[u8], out: &mut [u8], at: usize) -> usize
+    requires { at + length bytes.now ≤ length out.old }
+    ensures { (result ≡ at + length bytes.now) × (out.new ≡ paste out.old at bytes.now (length bytes.now)) }
 {
-    let count = to - from;
-    let mut i: usize = 0;
-    while i < count {
-        out[at + i] = text[from + i];
-        i += 1;
-    }
-    at + count
+    let end = at + bytes.len();
+    out[at..end].copy_from_slice(bytes);
+    end
 }
 
-// Writes what is left of a spelling whose first bytes, up to `from`, are written and are the text's own.
-fn write_rest(
-    classes: &[u8],
-    singles: &[u16],
-    pairs: &[u16],
-    index: &[u8],
-    blocks: &[u16],
-    leads: Leads,
-    text: &[u8],
-    from: usize,
-    out: &mut [u8],
-)
-    requires bytes_tables { BytesTables classes.now singles.now pairs.now leads × UnitsTables index.now blocks.now }
-    requires begun { Begun (decoder classes.now singles.now pairs.now) index.now blocks.now text.now from out.old }
-    ensures { out.new ≡ over out.old (bytes_for (decoder classes.now singles.now pairs.now) index.now blocks.now text.now) }
-{
-    let mut place = from;
-    let mut written = from;
-    while place < text.len() {
-        let next = spelled_at(classes, singles, pairs, index, blocks, leads, text, place);
-        let at = put_code(next.code, out, written);
-        let after = place + next.size;
-        place = pass_same(classes, singles, pairs, index, blocks, leads, text, after);
-        written = copy_part(text, after, place, out, at);
+impl Speller<'_> {
+    // Whether a code, written as bytes, is read as one code with this character.
+    fn reads_back(&self, unit: u16, code: u16) -> bool
+        ensures { result ≡ reads_back (byte_reader self.now.bytes.tables) unit code }
+    {
+        let bytes = self.bytes;
+        let tables = bytes.tables;
+        if code <= 0xFF {
+            return is_character(tables.byte_alone(code as u8), unit);
+        }
+        let lead = (code / 256) as u8;
+        if !tables.is_lead(lead) {
+            return false;
+        }
+        let settled = bytes.settle(lead, (code % 256) as u8);
+        if settled.more == 0 {
+            return false;
+        }
+        let means = settled.means;
+        is_character(means, unit)
     }
-}
 
-// Writes the spelling of a text that has no code at fault, at the front of the output. Up to `from` it is the text as it stands.
-fn write_spelling(
-    classes: &[u8],
-    singles: &[u16],
-    pairs: &[u16],
-    index: &[u8],
-    blocks: &[u16],
-    leads: Leads,
-    text: &[u8],
-    from: usize,
-    out: &mut [u8],
-)
-    requires bytes_tables { BytesTables classes.now singles.now pairs.now leads × UnitsTables index.now blocks.now }
-    requires span_same { SpanSame (decoder classes.now singles.now pairs.now) index.now blocks.now text.now 0 from × (length text.now ≤ piece_limit) }
-    requires text_value { (fault_of (decoder classes.now singles.now pairs.now) index.now blocks.now text.now ≡ none) × (length (bytes_for (decoder classes.now singles.now pairs.now) index.now blocks.now text.now) ≤ length out.old) }
-    ensures { out.new ≡ over out.old (bytes_for (decoder classes.now singles.now pairs.now) index.now blocks.now text.now) }
-{
-    copy_part(text, 0, from, out, 0);
-    write_rest(
-        classes, singles, pairs, index, blocks, leads, text, from, out,
-    );
+    // The code that spells a character: its own, if the character is no surrogate and the code reads back as it.
+    fn unit_spelling(&self, unit: u16) -> Option<u16>
+        ensures { result ≡ option_of (unit_spelling (byte_reader self.now.bytes.tables) self.now.units.index.now self.now.units.blocks.now unit) }
+    {
+        let units = self.units;
+        let own = units.unit_alone(unit);
+        match own {
+            Ok(code) => {
+                if self.reads_back(unit, code) {
+                    return Some(code);
+                }
+                None
+            }
+            Err(_) => None,
+        }
+    }
+
+    // The code at a place: its size, and the code that spells it.
+    fn spelled_at(&self, text: &[u8], place: usize) -> SpelledCode
+        requires { place < length text.now }
+        ensures { SpelledRead (byte_reader self.now.bytes.tables) self.now.units.index.now self.now.units.blocks.now text.now place result }
+    {
+        let read = codepage_walk::code_at(&self.bytes, text, place);
+        let size = read.size;
+        let means = read.means;
+        match means {
+            Ok(unit) => {
+                let code = self.unit_spelling(unit);
+                SpelledCode { size, code }
+            }
+            Err(_) => SpelledCode { size, code: None },
+        }
+    }
+
+    // Whether a number is a character that is no surrogate and whose own code is this one.
+    fn has_code(&self, unit: u16, code: u16) -> bool
+        ensures { result ≡ true → (unit ≡ 0xFFFF → ⊥) × (unit_alone self.now.units.index.now self.now.units.blocks.now unit ≡ Ok code) }
+    {
+        if unit == NO_CODE {
+            return false;
+        }
+        if is_surrogate(unit) {
+            return false;
+        }
+        let units = self.units;
+        let own = units.code_of(unit);
+        if own == NO_CODE {
+            return false;
+        }
+        own == code
+    }
+
+    // How many bytes the code has that begins with these two, if it is found here to be spelled as it stands.
+    fn same_size(&self, first: u8, second: u8) -> Option<usize>
+        ensures { IfSome result (λ size. SameSize self.now.bytes.tables.classes.now self.now.bytes.tables.singles.now self.now.bytes.tables.pairs.now self.now.units.index.now self.now.units.blocks.now first second size) }
+    {
+        let bytes = self.bytes;
+        let tables = bytes.tables;
+        if tables.is_lead(first) {
+            let unit = bytes.pair_unit(first, second);
+            if self.has_code(unit, 256 * (first as u16) + (second as u16)) {
+                return Some(2);
+            }
+            return None;
+        }
+        let unit = tables.single_unit(first);
+        if self.has_code(unit, first as u16) {
+            return Some(1);
+        }
+        None
+    }
+
+    // Passes over codes that are spelled as they stand, from a place on: the place behind them.
+    fn pass_same(&self, text: &[u8], from: usize) -> usize
+        requires { from ≤ length text.now }
+        ensures { SpanSame (byte_reader self.now.bytes.tables) self.now.units.index.now self.now.units.blocks.now text.now from result }
+    {
+        let mut place = from;
+        // Kept: a turn moves by the code that it read, so there is no range to go over.
+        while 2 <= text.len() - place {
+            let size = self.same_size(text[place], text[place + 1]);
+            let Some(size) = size else {
+                return place;
+            };
+            place += size;
+        }
+        place
+    }
+
+    // Whether a text is below 80 throughout, on a page that keeps such text as it is both ways: then it is its own spelling.
+    fn is_plain(&self, text: &[u8]) -> bool
+        ensures { result ≡ true → SpanSame (byte_reader self.now.bytes.tables) self.now.units.index.now self.now.units.blocks.now text.now 0 (length text.now) }
+    {
+        if !plain::bytes_below_80(text) {
+            return false;
+        }
+        let bytes = self.bytes;
+        let tables = bytes.tables;
+        if !tables.keeps_plain() {
+            return false;
+        }
+        let units = self.units;
+        units.keeps_plain()
+    }
+
+    // How much of a text's front is spelled as it stands.
+    fn same_front(&self, text: &[u8]) -> usize
+        ensures { SpanSame (byte_reader self.now.bytes.tables) self.now.units.index.now self.now.units.blocks.now text.now 0 result }
+    {
+        if self.is_plain(text) {
+            return text.len();
+        }
+        self.pass_same(text, 0)
+    }
+
+    // Checks every code, up to the first at fault, and counts the bytes of the spelling. Up to `from` it is the text as it stands.
+    fn count_spelling(&self, text: &[u8], from: usize) -> Result<usize, Refusal>
+        requires short { length text.now ≤ piece_limit }
+        requires span_same { SpanSame (byte_reader self.now.bytes.tables) self.now.units.index.now self.now.units.blocks.now text.now 0 from }
+        ensures { result ≡ counted_of (byte_reader self.now.bytes.tables) self.now.units.index.now self.now.units.blocks.now text.now }
+    {
+        let mut place = from;
+        let mut bytes = from;
+        // Kept: a turn moves by the codes that it read, so there is no range to go over.
+        while place < text.len() {
+            let next = self.spelled_at(text, place);
+            let code = next.code.ok_or(Refusal::AtFault(place))?;
+            let after = place + next.size;
+            place = self.pass_same(text, after);
+            bytes = bytes + byte_count(code) + (place - after);
+        }
+        Ok(bytes)
+    }
+
+    // Writes what is left of a spelling whose first bytes, up to `from`, are written and are the text's own.
+    fn write_rest(&self, text: &[u8], from: usize, out: &mut [u8])
+        requires begun { Begun (byte_reader self.now.bytes.tables) self.now.units.index.now self.now.units.blocks.now text.now from out.old }
+        ensures { out.new ≡ over out.old (bytes_for (byte_reader self.now.bytes.tables) self.now.units.index.now self.now.units.blocks.now text.now) }
+    {
+        let mut place = from;
+        let mut written = from;
+        // Kept: a turn moves by the codes that it read, so there is no range to go over.
+        while place < text.len() {
+            let next = self.spelled_at(text, place);
+            let at = put_code(next.code.unwrap(), out, written);
+            let after = place + next.size;
+            place = self.pass_same(text, after);
+            written = put_bytes(&text[after..place], out, at);
+        }
+    }
+
+    // Writes the spelling of a text that has no code at fault, at the front of the output. Up to `from` it is the text as it stands.
+    fn write_spelling(&self, text: &[u8], from: usize, out: &mut [u8])
+        requires span_same { SpanSame (byte_reader self.now.bytes.tables) self.now.units.index.now self.now.units.blocks.now text.now 0 from × (length text.now ≤ piece_limit) }
+        requires text_value { (fault_of (byte_reader self.now.bytes.tables) self.now.units.index.now self.now.units.blocks.now text.now ≡ none) × (length (bytes_for (byte_reader self.now.bytes.tables) self.now.units.index.now self.now.units.blocks.now text.now) ≤ length out.old) }
+        ensures { out.new ≡ over out.old (bytes_for (byte_reader self.now.bytes.tables) self.now.units.index.now self.now.units.blocks.now text.now) }
+    {
+        put_bytes(&text[..from], out, 0);
+        self.write_rest(text, from, out);
+    }
 }
 
 // The standard spelling of a text, at the front of the output: the bytes behind it stay as they are.
-pub fn standard_spelling(
-    numbers: Numbers,
-    classes: &[u8],
-    singles: &[u16],
-    pairs: &[u16],
-    index: &[u8],
-    blocks: &[u16],
-    text: &[u8],
-    out: &mut [u8],
-) -> Spelled
-    ensures { SpelledAs (spelling_of (code_page numbers classes.now singles.now pairs.now index.now blocks.now) text.now (length out.old)) result out.old out.new }
+pub fn standard_spelling(tables: &TableSet, text: &[u8], out: &mut [u8]) -> Result<usize, Refusal>
+    ensures { SpelledAs (spelling_of (page_of tables.now) text.now (length out.old)) result out.old out.new }
 {
-    if !codepage::shape::good_shape(numbers, classes, singles, pairs, index, blocks) {
-        return Spelled::Refused(Refusal::BadShape);
+    if !codepage::shape::good_shape(tables) {
+        return Err(Refusal::BadShape);
     }
     if Run::PIECE_LIMIT < text.len() {
-        return Spelled::Refused(Refusal::TooLong);
+        return Err(Refusal::TooLong);
     }
-    let leads = profile::leads_of(classes);
-    let same = same_front(classes, singles, pairs, index, blocks, leads, text);
-    let counted = count_spelling(classes, singles, pairs, index, blocks, leads, text, same);
-    let Spelled::Bytes(bytes) = counted else {
-        return counted;
+    let bytes = ByteTables {
+        classes: tables.classes,
+        singles: tables.singles,
+        pairs: tables.pairs,
     };
+    let units = UnitTables {
+        index: tables.index,
+        blocks: tables.blocks,
+    };
+    let bytes = bytes.with_leads();
+    let speller = Speller { bytes, units };
+    let same = speller.same_front(text);
+    let bytes = speller.count_spelling(text, same)?;
     if Run::PIECE_LIMIT < bytes {
-        return Spelled::Refused(Refusal::SpellingTooLong);
+        return Err(Refusal::SpellingTooLong);
     }
     if out.len() < bytes {
-        return Spelled::Refused(Refusal::SpellingTooLong);
+        return Err(Refusal::SpellingTooLong);
     }
-    write_spelling(
-        classes, singles, pairs, index, blocks, leads, text, same, out,
-    );
-    Spelled::Bytes(bytes)
+    speller.write_spelling(text, same, out);
+    Ok(bytes)
 }

@@ -30,4 +30,4 @@ pub returns : goal.returns
 returns c =
     let good = sym c.good_shape.ensures ∙ c.if-not-good_shape.false in
     appended_on _ _ _ _ good c.if-journal-gt-PIECE_LIMIT.false c.if-journal-former.false (omega (arith, c.if-entries-blocks_of.false, c.blocks_of.ensures)) _ _
-    (c.append_entries.ensures c.args.singles.now c.args.pairs.now)
+    (c.append_entries.ensures c.args.tables.now.singles.now c.args.tables.now.pairs.now)

@@ -6,8 +6,5 @@ use Rattle.charindex.specs.Index.{codes_from, code_number}
 use Rattle.codepage_walk.specs.Checks.{ForClasses}
 use Rattle.charindex.proofs.code_after.Given as goal
 
-abbrev pub invariant-loop-place : goal.invariant-loop-place
-invariant-loop-place l = (l.place ≤ length l.journal) × ForClasses l.classes (λ (r : Reader). code_number l.left (codes_from r l.journal l.place) ≡ code_number l.skipped (codes_from r l.journal l.from))
-
-abbrev pub decreases-loop-place : goal.decreases-loop-place
-decreases-loop-place l = length l.journal - l.place
+abbrev pub invariant-loop : goal.invariant-loop
+invariant-loop l = (l.place ≤ length l.journal) × ForClasses l.classes (λ (r : Reader). code_number (l.skipped - l.counter) (codes_from r l.journal l.place) ≡ code_number l.skipped (codes_from r l.journal l.from))

@@ -1,4 +1,8 @@
-use mathlib.Core.Path.{sym, ◌∙◌}
+use mathlib.Core.Path.{sym, ap, ◌∙◌}
+use Rattle.std.proofs.Common.{Option, ok_or}
+use Rattle.charindex.specs.declared.Found.{Found}
+use Rattle.charindex.specs.declared.Refusal.TheVariants.{NoSuchCode}
+use Rattle.charindex.proofs.FindLaws.{or29}
 use native.Mathlib.Omega.{arith}
 use Rattle.charindex.proofs.CallLaws.{classes_size, find_bad, find_long, find_short, find_given}
 use Rattle.charindex.proofs.find.Goals as goal
@@ -24,5 +28,5 @@ find_code-requires c =
 pub returns : goal.returns
 returns c =
     let good = sym c.good_shape.ensures ∙ c.if-not-good_shape.false in
-    c.find_code.ensures c.args.singles.now c.args.pairs.now
+    c.ok_or.ensures.value ∙ ap (λ (o : Option Found). ok_or o NoSuchCode) (c.find_code.ensures c.args.tables.now.singles.now c.args.tables.now.pairs.now) ∙ or29 _
     ∙ sym (find_given _ _ _ _ good c.if-journal-gt-PIECE_LIMIT.false (omega (arith, c.if-entries-blocks_of.false, c.blocks_of.ensures)))

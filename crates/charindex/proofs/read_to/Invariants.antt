@@ -5,8 +5,8 @@ use Rattle.codepage_walk.specs.Checks.{ForClasses}
 use Rattle.charindex.proofs.EntryLaws.{Reading}
 use Rattle.charindex.proofs.read_to.Given as goal
 
-abbrev pub invariant-loop-place : goal.invariant-loop-place
-invariant-loop-place l = (l.initial.count ≤ l.count) × (l.count ≤ l.place) × (l.place ≤ length l.text) × ForClasses l.classes (λ (r : Reader). Reading r l.text l.initial.place l.initial.count l.to l.place l.count)
+abbrev pub invariant-loop-at : goal.invariant-loop-at
+invariant-loop-at l = (l.initial.at.count ≤ l.at.count) × (l.at.count ≤ l.at.place) × (l.at.place ≤ length l.text) × ForClasses l.classes (λ (r : Reader). Reading r l.text l.initial.at.place l.initial.at.count l.to l.at.place l.at.count)
 
-abbrev pub decreases-loop-place : goal.decreases-loop-place
-decreases-loop-place l = l.to - l.place
+abbrev pub decreases-loop-at : goal.decreases-loop-at
+decreases-loop-at l = l.to - l.at.place

@@ -1,31 +1,6 @@
-use mathlib.Core.Path.{◌≡◌, refl, sym, ap, ◌∙◌}
-use mathlib.Core.List.{List}
-use Prim.Native.Nat.{ℕ, ◌+◌}
-use native.Mathlib.Numerals.{add-one}
 use native.Mathlib.Omega.{arith}
-use lib.ListN.{get_or, set, length-set}
-use lib.Seq.{paste, paste-zero, paste-suc}
 use Rattle.fields.proofs.CallLaws.{laid}
 use Rattle.fields.proofs.lay.Goals as goal
 
-pub loop-i-init : goal.loop-i-init
-loop-i-init c = (omega arith, refl, paste-zero _ c.args.held c.args.block.now)
-
-pub loop-i-preserved : goal.loop-i-preserved
-loop-i-preserved c = (
-  omega arith,
-  simp length-set c.loop-i.invariant.1,
-  ap
-      (λ (l : List ℕ). set l (c.args.held + c.loop-i.i) (get_or c.args.block.now c.loop-i.i 0))
-      c.loop-i.invariant.2
-      ∙ paste-suc c.args.buffer.now c.args.held c.args.block.now c.loop-i.i 0 (omega arith) (omega arith)
-      ∙ ap (paste c.args.buffer.now c.args.held c.args.block.now) (sym (add-one c.loop-i.i)),
-)
-
-pub shape_of-buffer : goal.shape_of-buffer
-shape_of-buffer c = c.loop-i.invariant.1
-
 pub returns : goal.returns
-returns c = let e : c.loop-i.i ≡ c.args.size = omega arith in
-    c.loop-i.invariant.2 ∙ ap (paste c.args.buffer.now c.args.held c.args.block.now) e
-    ∙ laid _ _ c.args.block.now c.args.size (omega arith)
+returns c = laid _ c.args.held _ c.args.units.now _ (omega arith) c.copy_from_slice.ensures.after

@@ -1,36 +1,28 @@
-use Rattle.std.proofs.Common.{ℕ, ◌<◌, ◌≤◌, ◌⊎◌, List, length, take, ap, ◌∙◌, subst, arith, slice_set}
-use Rattle.codepage.specs.CodePage.{code_page}
-use Rattle.findings.specs.declared.Finding.{Finding}
-use Rattle.findings.specs.Calls.{FindingsCall, findings_call}
-use Rattle.findings.proofs.FillLaws.{filled_start, filled_next, filled_end, filled_length}
+use Rattle.std.proofs.lemmas.Result.{err_from_is_err_and}
+use Rattle.codepage.proofs.ShapeLaws.{shape_exact}
+use Rattle.findings.proofs.AnswerLaws.{says, passes}
+use Rattle.findings.proofs.CallLaws.{byte_shape, listed_refused, listed_filled}
+use Rattle.findings.proofs.FillLaws.{filled_clean}
 use Rattle.findings.proofs.list_findings.Goals as goal
 
-pub loop-t-init : goal.loop-t-init
-loop-t-init c =
-    let first = c.first_turn-t.ensures in
-    let called : FindingsCall = findings_call c.args.policy (code_page c.args.numbers c.args.classes.now c.args.singles.now c.args.pairs.now c.args.index.now c.args.blocks.now) c.args.text.now in
-    (first.0, filled_start c.args.list.now called.entries c.first_turn-t.result.count first.1)
+pub returns-in_err-check : goal.returns-in_err-check
+returns-in_err-check c =
+    let p = err_from_is_err_and c.from_residual.result c.from_residual.ensures.1 in
+    rw (p.1, p.2) (listed_refused _ _ _ _ _ (says _ _ _ _ c.in_err-check.ensures.refused))
 
-pub loop-t-preserved : goal.loop-t-preserved
-loop-t-preserved c =
-    let turn = c.loop-t.invariant in
-    let called : FindingsCall = findings_call c.args.policy (code_page c.args.numbers c.args.classes.now c.args.singles.now c.args.pairs.now c.args.index.now c.args.blocks.now) c.args.text.now in
-    let storing = turn.0.goes c.loop-t-test.true in
-    let ready = turn.0.ready c.loop-t-test.true in
-    let follows = c.next_turn-t.ensures in
-    let same = ap length turn.1 ∙ filled_length c.args.list.now (take c.loop-t.t.count called.entries) in
-    let within : c.loop-t.t.count < length c.args.list.now = omega (arith, ready.room_left) in (
-      follows.1 called storing,
-      ap (λ (l : List Finding). slice_set l c.loop-t.t.count c.loop-t.t.finding) turn.1
-          ∙ filled_next c.args.list.now called.entries c.loop-t.t.count c.next_turn-t.result.count c.loop-t.t.finding _ within storing.next follows.0,
-    )
+pub returns-then-is_clean : goal.returns-then-is_clean
+returns-then-is_clean c = listed_filled _ _ _ _ _ _ (passes _ _ _ c.in_ok-check.ensures.passes) (filled_clean _ _ (c.is_clean.ensures c.if-is_clean.true _))
+
+pub invariant_of-bytes : goal.invariant_of-bytes
+invariant_of-bytes c =
+    let shape = byte_shape _ ((shape_exact _).1 c.in_ok-check.ensures.passes.1.0) in
+    record { all_classes = shape.0; all_singles = shape.1; all_pairs = shape.2; known = shape.3; no_low_lead = shape.4 }
+
+pub invariant_of-search : goal.invariant_of-search
+invariant_of-search c = rw c.with_leads-leads.ensures (record { plain_page = c.keeps_plain-plain.ensures })
+
+pub fill_list-requires : goal.fill_list-requires
+fill_list-requires c = c.in_ok-check.ensures.passes.1.1
 
 pub returns : goal.returns
-returns c =
-    let turn = c.loop-t.invariant in
-    let called : FindingsCall = findings_call c.args.policy (code_page c.args.numbers c.args.classes.now c.args.singles.now c.args.pairs.now c.args.index.now c.args.blocks.now) c.args.text.now in
-    let ended = turn.0.ends c.loop-t-test.false in
-    let count = c.loop-t.t.count in
-    let same = ap length turn.1 ∙ filled_length c.args.list.now (take count called.entries) in
-    let all = subst (λ (m : ℕ). (length called.entries ≤ count) ⊎ (m ≤ count)) same ended.all in
-    record { answer = ended.answer; lent = turn.1 ∙ filled_end count c.args.list.now called.entries all }
+returns c = listed_filled _ _ _ _ _ _ (passes _ _ _ c.in_ok-check.ensures.passes) (rw c.with_leads-leads.ensures at c.fill_list.ensures)

@@ -5,7 +5,7 @@ use Prim.Native.Nat.{ℕ, ◌-◌, ◌≤◌}
 use lib.ListN.{length}
 use Rattle.codepage.specs.Reading.{decoder}
 use Rattle.engine.specs.declared.Policy.{Policy}
-use Rattle.engine_fastpath.specs.Words.{PlainPage}
+use Rattle.codepage_lookup.specs.Profile.{PlainPage}
 use Rattle.findings.specs.Steps.{Passed}
 use Rattle.findings.proofs.pass_plain.Given as goal
 

@@ -24,12 +24,15 @@ returns-then-buffer-gt-PIECE_LIMIT c =
     let good = sym c.good_shape.ensures ∙ c.if-not-good_shape.false in
     encoded_refused _ _ _ _ (too_long _ _ _ allowed good c.if-buffer-ne0.false (omega (arith, c.if-buffer-gt-PIECE_LIMIT.true, units_length c.args.buffer.now)))
 
-pub encode_units-s-requires : goal.encode_units-s-requires
-encode_units-s-requires c = let allowed = sym c.allowed.ensures ∙ c.if-not-allowed.false in let rules = page_needs _ (sym c.good_shape.ensures ∙ c.if-not-good_shape.false) in record { policy_value = allowed; index_len = rules.0; by_index = rules.1 }
+pub invariant_of-units : goal.invariant_of-units
+invariant_of-units c = let rules = page_needs _ (sym c.good_shape.ensures ∙ c.if-not-good_shape.false) in record { all_index = rules.0; by_index = rules.1 }
+
+pub invariant_of-converter : goal.invariant_of-converter
+invariant_of-converter c = record { allowed = sym c.allowed.ensures ∙ c.if-not-allowed.false }
 
 pub returns : goal.returns
 returns c =
     let allowed = sym c.allowed.ensures ∙ c.if-not-allowed.false in
     let good = sym c.good_shape.ensures ∙ c.if-not-good_shape.false in
     let passed = all_pass _ _ c.args.buffer.now allowed good c.if-buffer-ne0.false (omega (arith, c.if-buffer-gt-PIECE_LIMIT.false, units_length c.args.buffer.now)) in
-    encoded_done _ _ _ _ _ _ passed c.encode_units-s.ensures c.answer_of.ensures
+    encoded_done _ _ _ _ _ _ passed c.encode_units-s.ensures c.from.ensures

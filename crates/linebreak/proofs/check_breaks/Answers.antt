@@ -15,11 +15,11 @@ are_lines-requires c = (good_classes _ (sym c.good_shape.ensures ∙ c.if-not-go
 pub returns-then-not-are_lines : goal.returns-then-not-are_lines
 returns-then-not-are_lines c =
     let good = sym c.good_shape.ensures ∙ c.if-not-good_shape.false in
-    let lines = c.are_lines.ensures c.args.singles.now c.args.pairs.now ∙ lines_acceptable _ _ _ _ in
+    let lines = c.are_lines.ensures c.args.tables.now.singles.now c.args.tables.now.pairs.now ∙ lines_acceptable _ _ _ _ in
     sym (check_refused _ _ _ _ good c.if-text-gt-PIECE_LIMIT.false (sym lines ∙ c.if-not-are_lines.true))
 
 pub returns : goal.returns
 returns c =
     let good = sym c.good_shape.ensures ∙ c.if-not-good_shape.false in
-    let lines = c.are_lines.ensures c.args.singles.now c.args.pairs.now ∙ lines_acceptable _ _ _ _ in
+    let lines = c.are_lines.ensures c.args.tables.now.singles.now c.args.tables.now.pairs.now ∙ lines_acceptable _ _ _ _ in
     sym (check_accepted _ _ _ _ good c.if-text-gt-PIECE_LIMIT.false (sym lines ∙ c.if-not-are_lines.false))

@@ -4,39 +4,33 @@ use native.Mathlib.Omega.{arith}
 use lib.ListN.{length-set}
 use Rattle.codepage.specs.Reading.{decoder}
 use Rattle.linebreak.proofs.OursLaws.{going_start}
-use Rattle.linebreak.proofs.LoopLaws.{end_from, end_within, writing_room, writing_moves, writing_turn, writing_end, writing_count, writing_left}
+use Rattle.linebreak.proofs.LoopLaws.{end_within, writing_full, writing_turn, writing_end, writing_count, writing_left}
 use Rattle.linebreak.proofs.write_breaks.Goals as goal
 
-pub loop-start-init : goal.loop-start-init
-loop-start-init c = (omega arith, refl, omega arith, refl, λ singles pairs. going_start _ _ _)
+pub loop-i-init : goal.loop-i-init
+loop-i-init c = (omega arith, refl, refl, λ singles pairs. going_start _ _ _)
 
-pub bounds-out-i : goal.bounds-out-i
-bounds-out-i c =
-    let (exist, fits) = c.requires.for_classes [] [] in
-    omega (arith, writing_room _ _ _ _ c.loop-start.i c.loop-start.out (c.loop-start.invariant.4 [] []) (omega arith) exist c.loop-start.invariant.2)
+pub returns-then-text-start : goal.returns-then-text-start
+returns-then-text-start c =
+    λ singles pairs. (
+      writing_end _ _ _ _ c.loop-i.i c.loop-i.out (c.loop-i.invariant.3 singles pairs) _ c.loop-i.invariant.0 (omega arith) (omega arith) c.loop-i.invariant.2,
+      writing_count _ _ _ _ c.loop-i.i c.loop-i.out (c.loop-i.invariant.3 singles pairs) c.loop-i.invariant.0 (omega arith) (omega arith),
+    )
 
-pub loop-start-smaller : goal.loop-start-smaller
-loop-start-smaller c =
-    let end = c.last_place-start.ensures [] [] in
-    let from = end_from (decoder _ [] []) _ _ _ _ end in
-    let within = end_within (decoder _ [] []) _ _ _ _ end in
-    omega (arith, writing_moves _ _ _ _ c.loop-start.i c.loop-start.out (c.loop-start.invariant.4 [] []) (omega arith) (c.requires.for_classes [] []).0 _ end)
-
-pub loop-start-preserved : goal.loop-start-preserved
-loop-start-preserved c =
-    let (exist, fits) = c.requires.for_classes [] [] in
-    let within = end_within (decoder _ [] []) _ _ _ _ (c.last_place-start.ensures [] []) in
-    let room = writing_room _ _ _ _ c.loop-start.i c.loop-start.out (c.loop-start.invariant.4 [] []) (omega arith) exist c.loop-start.invariant.2 in (
+pub loop-i-preserved : goal.loop-i-preserved
+loop-i-preserved c =
+    let within = end_within (decoder _ [] []) _ _ _ _ (c.last_place-start.ensures [] []) in (
       omega arith,
-      simp length-set c.loop-start.invariant.1,
-      simp length-set (omega arith),
-      writing_left c.loop-start.out c.args.out.now c.loop-start.i c.last_place-start.result c.loop-start.invariant.3,
-      λ singles pairs. writing_turn _ _ _ _ c.loop-start.i c.loop-start.out (c.loop-start.invariant.4 singles pairs) _ (omega arith) (omega arith) (c.last_place-start.ensures singles pairs),
+      simp length-set c.loop-i.invariant.1,
+      writing_left c.loop-i.out c.args.out.now c.loop-i.i c.last_place-start.result c.loop-i.invariant.2,
+      λ singles pairs. writing_turn _ _ _ _ c.loop-i.i c.loop-i.out (c.loop-i.invariant.3 singles pairs) _ (omega arith) (omega arith) (c.last_place-start.ensures singles pairs),
     )
 
 pub returns : goal.returns
 returns c =
-    λ singles pairs. (
-      writing_end _ _ _ _ c.loop-start.i c.loop-start.out (c.loop-start.invariant.4 singles pairs) _ c.loop-start.invariant.0 (omega arith) c.loop-start.invariant.2 c.loop-start.invariant.3,
-      writing_count _ _ _ _ c.loop-start.i c.loop-start.out (c.loop-start.invariant.4 singles pairs) c.loop-start.invariant.0 (omega arith) c.loop-start.invariant.2,
+    λ singles pairs. let (exist, fits) = c.requires.for_classes singles pairs in
+    let here = c.loop-i.invariant.3 singles pairs in
+    let last = writing_full _ _ _ _ c.loop-i.i c.loop-i.out here exist (omega arith) (omega (arith, fits)) in (
+      writing_end _ _ _ _ c.loop-i.i c.loop-i.out here _ c.loop-i.invariant.0 last (omega arith) c.loop-i.invariant.2,
+      omega (arith, writing_count _ _ _ _ c.loop-i.i c.loop-i.out here c.loop-i.invariant.0 last (omega arith)),
     )

@@ -6,12 +6,12 @@ returns-then-not-fit c =
     part_none c.args.begun _ c.args.closed c.args.field.now c.args.out.now _ _ _ c.needs_quotes-quotes.ensures c.quote_count-count.ensures c.around-more.ensures
     c.fit.ensures c.if-not-fit.true
 
-pub lay_part-size-requires : goal.lay_part-size-requires
-lay_part-size-requires c =
+pub lay_part-requires : goal.lay_part-requires
+lay_part-requires c =
     part_room c.args.begun _ c.args.closed c.args.field.now c.args.out.now _ _ _ c.needs_quotes-quotes.ensures c.quote_count-count.ensures c.around-more.ensures
     c.fit.ensures c.if-not-fit.false
 
 pub returns : goal.returns
 returns c =
     part_whole c.args.begun _ c.args.closed c.args.field.now c.args.out.now _ _ _ c.needs_quotes-quotes.ensures c.quote_count-count.ensures c.around-more.ensures
-    c.fit.ensures c.if-not-fit.false c.lay_part-size.ensures
+    c.fit.ensures c.if-not-fit.false c.lay_part.ensures
