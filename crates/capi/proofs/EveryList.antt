@@ -11,10 +11,9 @@ use Rattle.engine.specs.declared.Direction.TheVariants.{Decoding, Encoding}
 use Rattle.convert.specs.declared.Run.{Run}
 use Rattle.convert.specs.declared.Outcome.{Outcome}
 use Rattle.convert.specs.Runs.{fresh, Start, start_of, started_as}
-use Rattle.convert.specs.declared.Started.TheVariants.{Accepted as Accepted'}
+use Rattle.std.specs.Prelude.{Result as RustResult, Ok, Some, None}
 use Rattle.convert.specs.Calls.{number_of, run_call, Answered}
-use Rattle.checkpoint.specs.declared.Written.{Written}
-use Rattle.checkpoint.specs.declared.Restored.TheVariants.{Accepted, Refused}
+use Rattle.checkpoint.specs.declared.Refusal.{Refusal}
 use Rattle.checkpoint.specs.Line.{Representable, write_of, written_as, Saved}
 use Rattle.checkpoint.proofs.LineLaws.{representable}
 use Rattle.runrecord.specs.Records.{outcome_of}
@@ -57,7 +56,7 @@ module _ (s : Setting) (run : Run) (fits : Representable run) (high : HighPendin
         w.lent ∙ sym a.lent,
       )
 
-  same_line : (before : List ℕ) (r : TillSaved) (lent : List ℕ) (w : Written) (after : List ℕ) → TillSavedAs (till_save (run_out run) (length before)) r before lent
+  same_line : (before : List ℕ) (r : TillSaved) (lent : List ℕ) (w : RustResult ℕ Refusal) (after : List ℕ) → TillSavedAs (till_save (run_out run) (length before)) r before lent
       → Saved (write_of run (length before)) w before after → (r.number ≡ (written_as w).number) × (r.size ≡ (written_as w).size) × (lent ≡ after)
   unfolding till_save
   same_line before r lent w after t a =
@@ -110,8 +109,8 @@ hand_numbers run (saved t lent) (restored o) w = absurd w
 hand_numbers run (loaded t) (answered o after) w = absurd w
 hand_numbers run (loaded t) (answered_here o held after) w = absurd w
 hand_numbers run (loaded t) (written o after) w = absurd w
-hand_numbers run (loaded t) (restored (Accepted o)) w = rw w
-hand_numbers run (loaded t) (restored Refused) w = rw w
+hand_numbers run (loaded t) (restored (Some o)) w = rw w
+hand_numbers run (loaded t) (restored None) w = rw w
 
 -- ---- over the whole list
 pub record Traced (s : Setting) (hand : Run) (es : List TillEntry) : Type 0 where
@@ -149,7 +148,7 @@ start_is Encoding = refl
 start_run : (s : Setting) → Proper s → (till_start (direction_out s.direction) s.page s.policy.single s.policy.pair s.policy.invalid).run ≡ run_out (fresh s.direction s.page s.policy)
 start_run s h = by_direction s.direction (fresh_started s h)
   where
-    by_direction : (d : Direction) → started_as (Accepted' (fresh d s.page s.policy)) ≡ start_of d s.page s.policy → (till_start (direction_out d) s.page s.policy.single s.policy.pair s.policy.invalid).run ≡ run_out (fresh d s.page s.policy)
+    by_direction : (d : Direction) → started_as (Ok (fresh d s.page s.policy)) ≡ start_of d s.page s.policy → (till_start (direction_out d) s.page s.policy.single s.policy.pair s.policy.invalid).run ≡ run_out (fresh d s.page s.policy)
     by_direction Decoding e = unfold till_start handed in ap (λ (x : Start). (start_out x).run) (sym e)
     by_direction Encoding e = unfold till_start handed in ap (λ (x : Start). (start_out x).run) (sym e)
 

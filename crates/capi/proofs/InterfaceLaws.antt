@@ -17,11 +17,14 @@ use Rattle.convert.specs.declared.Pending.{Pending}
 use Rattle.convert.specs.declared.Pending.TheVariants.{Nothing, Byte, High}
 use Rattle.convert.specs.declared.Run.{Run}
 use Rattle.convert.specs.declared.Outcome.{Outcome}
-use Rattle.convert.specs.Runs.{piece_limit, valid_run}
+use Rattle.convert.specs.Runs.{piece_limit, valid_run, start_number}
+use Rattle.convert.specs.declared.StartError.{StartError}
+use Rattle.convert.specs.declared.StartError.TheVariants.{NotAllowed}
 use Rattle.convert.specs.Calls.{number_of, check, refusal, Called, refused_call, run_call, Answered}
 use Rattle.convert.proofs.CallLaws.{PendingIn, valid_in, valid_facts}
 use Rattle.convert.proofs.RunLaws.{refused_same}
-use Rattle.checkpoint.specs.declared.Written.{Written}
+use Rattle.std.specs.Prelude.{Result}
+use Rattle.checkpoint.specs.declared.Refusal.{Refusal}
 use Rattle.checkpoint.specs.Line.{write_of, written_as, Saved, PendingFits, Representable}
 use Rattle.capi.specs.declared.TillRun.{TillRun}
 use Rattle.capi.specs.declared.TillOutcome.{TillOutcome}
@@ -187,6 +190,12 @@ module _ (direction : Direction) (run : TillRun) (p : CodePage) (piece : List �
           (ap (λ (x : Run). run_call direction x p piece mark (length before)) (rw k at i) ∙ refused_same direction (run_on 0 run) p piece mark (length before) no_run_refused) a in
           rw (refused_returns h, no_run k) (record { number = b.number; read = b.read; written = b.written; run = refl; lent = b.lent })
 
+-- ---- starts
+
+-- a start has one reason to be refused
+pub start_refused : (why : StartError) → start_number why ≡ 17
+start_refused NotAllowed = refl
+
 -- ---- line writing
 module _ (run : TillRun) (before : List ℕ) where
   -- line writing refuses numbers that name no run, and changes nothing
@@ -195,7 +204,7 @@ module _ (run : TillRun) (before : List ℕ) where
   refused_saved r k n s = rw k (record { number = n; size = s; lent = refl })
 
   -- line writing of numbers that name a run, from the promise of the call behind it
-  pub line_saved : (inner : Run) (w : Written) (r : TillSaved) (after : List ℕ) → is_run run ≡ true → inner ≡ run_in run
+  pub line_saved : (inner : Run) (w : Result ℕ Refusal) (r : TillSaved) (after : List ℕ) → is_run run ≡ true → inner ≡ run_in run
       → Saved (write_of inner (length before)) w before after → r.number ≡ (written_as w).number → r.size ≡ (written_as w).size
       → TillSavedAs (till_save run (length before)) r before after
   unfolding till_save

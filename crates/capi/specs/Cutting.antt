@@ -1,11 +1,12 @@
 -- The C interface: a field as numbers, and what the exported call that cuts a text gives.
-use Rattle.std.specs.Prelude.{List, ◌≡◌, ℕ}
+use Rattle.std.specs.Prelude.{List, ◌≡◌, ℕ, Result, Ok, Err}
 use Rattle.fields.specs.declared.End.{End}
 use Rattle.fields.specs.declared.End.TheVariants.{Bar, LineFeed, Text}
 use Rattle.fields.specs.declared.Place.{Place}
 use Rattle.fields.specs.declared.Place.TheVariants.{Buffer, Block}
 use Rattle.fields.specs.declared.Answer.{Answer}
-use Rattle.fields.specs.declared.Answer.TheVariants.{Field as FieldFound, Incomplete, Refused}
+use Rattle.fields.specs.declared.Answer.TheVariants.{Field as FieldFound, Incomplete}
+use Rattle.fields.specs.declared.Refusal.{Refusal}
 use Rattle.fields.specs.Fields.{FieldCalled, field_call, refusal_number}
 use Rattle.capi.specs.declared.cutting.TillField.{TillField}
 use Rattle.capi.specs.Interface.{is_last}
@@ -26,11 +27,11 @@ unfoldable pub refused_field : (held number : ℕ) → TillField
 refused_field held number = record { read = 0; count = 0; held = held; number = number; end = 0; place = 0 }
 
 -- the answer of a call as numbers, with the units that are held after it. number: 0 a field, 1 none is complete, or the refusal's
-unfoldable pub field_out : Answer → (held : ℕ) → TillField
-field_out (FieldFound found) held =
+unfoldable pub field_out : Result Answer Refusal → (held : ℕ) → TillField
+field_out (Ok (FieldFound found)) held =
     record { read = found.read; count = found.count; held = held; number = 0; end = end_out found.end; place = place_out found.place }
-field_out (Incomplete read) held = record { read = read; count = 0; held = held; number = 1; end = 0; place = 0 }
-field_out (Refused refusal) held = refused_field held (refusal_number refusal)
+field_out (Ok (Incomplete read)) held = record { read = read; count = 0; held = held; number = 1; end = 0; place = 0 }
+field_out (Err refusal) held = refused_field held (refusal_number refusal)
 
 -- What the call gives: that of `field_call`, and every unit of the buffer. Any mark but 0 is last.
 unfoldable pub cut_out : FieldCalled → TillField

@@ -1,10 +1,9 @@
 -- The C interface: runs and answers as numbers, and what each exported call gives.
-use Rattle.std.specs.Prelude.{Bool, true, false, not, ◌&&◌, ◌||◌, List, [], ◌≡◌, ℕ, leb, ltb, eqb, length}
+use Rattle.std.specs.Prelude.{Bool, true, false, not, ◌&&◌, ◌||◌, Ok, Err, List, [], ◌≡◌, ℕ, leb, ltb, eqb, length}
 use Rattle.std.proofs.Math.Option.{Option, none, some}
-use Rattle.codepage.specs.CodePage.{CodePage, code_page, pick, first_fault, is_good}
+use Rattle.codepage.specs.CodePage.{CodePage, code_page, pick, first_fault, is_good, Report}
 use Rattle.codepage.specs.Reading.{is_high}
-use Rattle.codepage.specs.declared.Fault.{Fault}
-use Rattle.codepage.specs.declared.Fault.TheVariants.{Good, Page, ClassesSize, SinglesSize, PairsSize, IndexSize, BlocksSize, Class, Lead, Number}
+use Rattle.codepage.specs.declared.Fault.TheVariants.{Page, ClassesSize, SinglesSize, PairsSize, IndexSize, BlocksSize, Class, Lead, Number}
 use Rattle.engine.specs.declared.Direction.{Direction}
 use Rattle.engine.specs.declared.Direction.TheVariants.{Decoding, Encoding}
 use Rattle.engine.specs.Policies.{digits}
@@ -201,14 +200,14 @@ abbrev pub fault_at : (number place : ℕ) → TillFault
 fault_at number place = record { place = place; number = number }
 
 -- 0: good; 1: the page; 2 to 6: a table's size, in the order of the tables; 7, 8, 9: a class, a low lead, an index number
-abbrev pub fault_out : Fault → TillFault
-fault_out Good = fault_at 0 0
-fault_out Page = fault_at 1 0
-fault_out ClassesSize = fault_at 2 0
-fault_out SinglesSize = fault_at 3 0
-fault_out PairsSize = fault_at 4 0
-fault_out IndexSize = fault_at 5 0
-fault_out BlocksSize = fault_at 6 0
-fault_out (Class byte) = fault_at 7 byte
-fault_out (Lead byte) = fault_at 8 byte
-fault_out (Number place) = fault_at 9 place
+abbrev pub fault_out : Report → TillFault
+fault_out (Ok _) = fault_at 0 0
+fault_out (Err Page) = fault_at 1 0
+fault_out (Err ClassesSize) = fault_at 2 0
+fault_out (Err SinglesSize) = fault_at 3 0
+fault_out (Err PairsSize) = fault_at 4 0
+fault_out (Err IndexSize) = fault_at 5 0
+fault_out (Err BlocksSize) = fault_at 6 0
+fault_out (Err (Class byte)) = fault_at 7 byte
+fault_out (Err (Lead byte)) = fault_at 8 byte
+fault_out (Err (Number place)) = fault_at 9 place

@@ -2,7 +2,7 @@
 ghost use Rattle.std.specs.Prelude.{◌≡◌};
 ghost use Rattle.capi.specs.Cutting.{end_out, place_out, field_out, refused_field, TillCut};
 
-use fields::{Answer, End, Held, Place};
+use fields::{Answer, End, Held, Place, Refusal};
 
 // What a call answers. number: 0 a field, 1 no field is complete and the block is held, or that of the refusal. held: for the next
 // call. Of a field: its units, where they are (0 the buffer, 1 the block) and what ended it (1 bar, 2 line feed, 3 the text's end).
@@ -53,11 +53,11 @@ fn refused_field(held: usize, number: u8) -> TillField
 }
 
 // The answer of a call as numbers, with the units that are held after it.
-fn field_out(answer: Answer, held: usize) -> TillField
+fn field_out(answer: Result<Answer, Refusal>, held: usize) -> TillField
     ensures { result ≡ field_out answer held }
 {
     match answer {
-        Answer::Field(found) => {
+        Ok(Answer::Field(found)) => {
             let last = found.end;
             let here = found.place;
             let end = end_out(last);
@@ -71,7 +71,7 @@ fn field_out(answer: Answer, held: usize) -> TillField
                 place,
             }
         }
-        Answer::Incomplete(read) => TillField {
+        Ok(Answer::Incomplete(read)) => TillField {
             read,
             count: 0,
             held,
@@ -79,7 +79,7 @@ fn field_out(answer: Answer, held: usize) -> TillField
             end: 0,
             place: 0,
         },
-        Answer::Refused(refusal) => refused_field(held, refusal.number()),
+        Err(refusal) => refused_field(held, refusal.number()),
     }
 }
 
@@ -87,9 +87,7 @@ fn field_out(answer: Answer, held: usize) -> TillField
 pub fn till_next_field(held: usize, buffer: &mut [u16], block: &[u16], last: u8) -> TillField
     ensures { TillCut held buffer.old block.now last result buffer.new }
 {
-    let state = Held { count: held };
-    let outcome = fields::next_field(state, buffer, block, crate::is_last(last));
-    let answer = outcome.answer;
-    let after = outcome.state;
-    field_out(answer, after.count)
+    let mut state = Held { count: held };
+    let answer = fields::next_field(&mut state, buffer, block, crate::is_last(last));
+    field_out(answer, state.count)
 }

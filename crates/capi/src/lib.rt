@@ -12,9 +12,9 @@ ghost use Rattle.capi.specs.Interface.{direction_in, direction_out, is_pending, 
 
 pub mod cutting;
 
-use checkpoint::{Restored, Written};
-use codepage::{Fault, Numbers};
-use convert::{Outcome, Pending, Run, Started};
+use checkpoint::Refusal;
+use codepage::{Fault, Numbers, TableSet};
+use convert::{Outcome, Pending, Run, StartError};
 use engine::{Direction, Policy};
 
 // A run as C sees it. direction: 0 decoding, 1 encoding; pending: the pending byte, the
@@ -146,10 +146,7 @@ fn pending_out(pending: Pending) -> u16
 fn flag_out(flag: bool) -> u8
     ensures { result ≡ flag_out flag }
 {
-    if flag {
-        return 1;
-    }
-    0
+    u8::from(flag)
 }
 
 // The run that numbers name, on a page.
@@ -175,27 +172,29 @@ fn run_on(page: u16, run: TillRun) -> Run
     }
 }
 
-// The numbers of a run.
-fn run_out(run: Run) -> TillRun
-    ensures { result ≡ run_out run }
-{
-    let pending = run.pending;
-    let direction = run.direction;
-    let policy = run.policy;
-    let byte = pending_out(pending);
-    let number = direction_out(direction);
-    let ended = flag_out(run.ended);
-    TillRun {
-        read: run.read,
-        written: run.written,
-        page: run.page,
-        pending: byte,
-        direction: number,
-        single: policy.single,
-        pair: policy.pair,
-        invalid: policy.invalid,
-        flags: run.flags,
-        ended,
+impl From<Run> for TillRun {
+    ghost from_gives = { λ run r. r ≡ run_out run };
+
+    // The numbers of a run.
+    fn from(run: Run) -> TillRun {
+        let pending = run.pending;
+        let direction = run.direction;
+        let policy = run.policy;
+        let byte = pending_out(pending);
+        let number = direction_out(direction);
+        let ended = flag_out(run.ended);
+        TillRun {
+            read: run.read,
+            written: run.written,
+            page: run.page,
+            pending: byte,
+            direction: number,
+            single: policy.single,
+            pair: policy.pair,
+            invalid: policy.invalid,
+            flags: run.flags,
+            ended,
+        }
     }
 }
 
@@ -223,8 +222,7 @@ fn answer_out(run: TillRun, o: Outcome) -> TillOutcome
             number,
         };
     }
-    let inner = o.run;
-    let run = run_out(inner);
+    let run = TillRun::from(o.run);
     TillOutcome {
         run,
         read: o.read,
@@ -234,6 +232,7 @@ fn answer_out(run: TillRun, o: Outcome) -> TillOutcome
 }
 
 // One call of a decoding run.
+// Kept: the C interface exports both by name.
 pub fn till_decode(
     run: TillRun,
     page: u16,
@@ -250,28 +249,25 @@ pub fn till_decode(
 ) -> TillOutcome
     ensures { TillAnswered (till_call Decoding run (till_page page default_byte default_unit classes.now singles.now pairs.now index.now blocks.now) piece.now last (length out.old)) result out.old out.new }
 {
-    let numbers = Numbers {
-        page,
-        default_byte,
-        default_unit,
-    };
-    let inner = run_on(page_named(run), run);
-    let o = convert::decode(
-        inner,
-        numbers,
+    let tables = TableSet {
+        numbers: Numbers {
+            page,
+            default_byte,
+            default_unit,
+        },
         classes,
         singles,
         pairs,
         index,
         blocks,
-        piece,
-        is_last(last),
-        out,
-    );
+    };
+    let inner = run_on(page_named(run), run);
+    let o = convert::decode(inner, &tables, piece, is_last(last), out);
     answer_out(run, o)
 }
 
 // One call of an encoding run.
+// Kept: the C interface exports both by name.
 pub fn till_encode(
     run: TillRun,
     page: u16,
@@ -288,24 +284,20 @@ pub fn till_encode(
 ) -> TillOutcome
     ensures { TillAnswered (till_call Encoding run (till_page page default_byte default_unit classes.now singles.now pairs.now index.now blocks.now) piece.now last (length out.old)) result out.old out.new }
 {
-    let numbers = Numbers {
-        page,
-        default_byte,
-        default_unit,
-    };
-    let inner = run_on(page_named(run), run);
-    let o = convert::encode(
-        inner,
-        numbers,
+    let tables = TableSet {
+        numbers: Numbers {
+            page,
+            default_byte,
+            default_unit,
+        },
         classes,
         singles,
         pairs,
         index,
         blocks,
-        piece,
-        is_last(last),
-        out,
-    );
+    };
+    let inner = run_on(page_named(run), run);
+    let o = convert::encode(inner, &tables, piece, is_last(last), out);
     answer_out(run, o)
 }
 
@@ -327,18 +319,20 @@ fn no_run() -> TillRun
     }
 }
 
-// A start's answer as numbers: 0 and the run, or 17.
-fn started_out(started: Started) -> TillHanded
-    ensures { result ≡ start_out (started_as started) }
-{
-    match started {
-        Started::Accepted(inner) => {
-            let run = run_out(inner);
-            TillHanded { run, number: 0 }
-        }
-        Started::Refused => {
-            let run = no_run();
-            TillHanded { run, number: 17 }
+impl From<Result<Run, StartError>> for TillHanded {
+    ghost from_gives = { λ started r. r ≡ start_out (started_as started) };
+
+    // A start's answer as numbers: 0 and the run, or 17.
+    fn from(started: Result<Run, StartError>) -> TillHanded {
+        match started {
+            Ok(inner) => {
+                let run = TillRun::from(inner);
+                TillHanded { run, number: 0 }
+            }
+            Err(StartError::NotAllowed) => {
+                let run = no_run();
+                TillHanded { run, number: 17 }
+            }
         }
     }
 }
@@ -358,21 +352,23 @@ pub fn till_start(direction: u8, page: u16, single: u8, pair: u8, invalid: u8) -
         invalid,
     };
     let started = Run::start(way, page, policy);
-    started_out(started)
+    TillHanded::from(started)
 }
 
-// The answer of line reading as numbers: 0 and the run, or 18.
-fn restored_out(restored: Restored) -> TillHanded
-    ensures { result ≡ load_out (restored_as restored) }
-{
-    match restored {
-        Restored::Accepted(inner) => {
-            let run = run_out(inner);
-            TillHanded { run, number: 0 }
-        }
-        Restored::Refused => {
-            let run = no_run();
-            TillHanded { run, number: 18 }
+impl From<Option<Run>> for TillHanded {
+    ghost from_gives = { λ restored r. r ≡ load_out (restored_as restored) };
+
+    // The answer of line reading as numbers: 0 and the run, or 18.
+    fn from(restored: Option<Run>) -> TillHanded {
+        match restored {
+            Some(inner) => {
+                let run = TillRun::from(inner);
+                TillHanded { run, number: 0 }
+            }
+            None => {
+                let run = no_run();
+                TillHanded { run, number: 18 }
+            }
         }
     }
 }
@@ -382,23 +378,25 @@ pub fn till_load(line: &[u8]) -> TillHanded
     ensures { result ≡ load_out (read_of line.now) }
 {
     let restored = checkpoint::read(line);
-    restored_out(restored)
+    TillHanded::from(restored)
 }
 
-// The answer of line writing as numbers: 0 and the line's length, or 12 or 19.
-fn written_out(written: Written) -> TillSaved
-    ensures { (result.number ≡ (written_as written).number) × (result.size ≡ (written_as written).size) }
-{
-    match written {
-        Written::Line(size) => TillSaved { size, number: 0 },
-        Written::InvalidRun => TillSaved {
-            size: 0,
-            number: 12,
-        },
-        Written::NoRoom => TillSaved {
-            size: 0,
-            number: 19,
-        },
+impl From<Result<usize, Refusal>> for TillSaved {
+    ghost from_gives = { λ written r. (r.number ≡ (written_as written).number) × (r.size ≡ (written_as written).size) };
+
+    // The answer of line writing as numbers: 0 and the line's length, or 12 or 19.
+    fn from(written: Result<usize, Refusal>) -> TillSaved {
+        match written {
+            Ok(size) => TillSaved { size, number: 0 },
+            Err(Refusal::InvalidRun) => TillSaved {
+                size: 0,
+                number: 12,
+            },
+            Err(Refusal::NoRoom) => TillSaved {
+                size: 0,
+                number: 19,
+            },
+        }
     }
 }
 
@@ -414,45 +412,47 @@ pub fn till_save(run: TillRun, out: &mut [u8]) -> TillSaved
     }
     let inner = run_on(run.page, run);
     let written = checkpoint::write(inner, out);
-    written_out(written)
+    TillSaved::from(written)
 }
 
-// The shape report as a number and a place.
-fn fault_out(fault: Fault) -> TillFault
-    ensures { result ≡ fault_out fault }
-{
-    match fault {
-        Fault::Good => TillFault {
-            place: 0,
-            number: 0,
-        },
-        Fault::Page => TillFault {
-            place: 0,
-            number: 1,
-        },
-        Fault::ClassesSize => TillFault {
-            place: 0,
-            number: 2,
-        },
-        Fault::SinglesSize => TillFault {
-            place: 0,
-            number: 3,
-        },
-        Fault::PairsSize => TillFault {
-            place: 0,
-            number: 4,
-        },
-        Fault::IndexSize => TillFault {
-            place: 0,
-            number: 5,
-        },
-        Fault::BlocksSize => TillFault {
-            place: 0,
-            number: 6,
-        },
-        Fault::Class(place) => TillFault { place, number: 7 },
-        Fault::Lead(place) => TillFault { place, number: 8 },
-        Fault::Number(place) => TillFault { place, number: 9 },
+impl From<Result<(), Fault>> for TillFault {
+    ghost from_gives = { λ report r. r ≡ fault_out report };
+
+    // The shape report as a number and a place.
+    fn from(report: Result<(), Fault>) -> TillFault {
+        match report {
+            Ok(()) => TillFault {
+                place: 0,
+                number: 0,
+            },
+            Err(Fault::Page) => TillFault {
+                place: 0,
+                number: 1,
+            },
+            Err(Fault::ClassesSize) => TillFault {
+                place: 0,
+                number: 2,
+            },
+            Err(Fault::SinglesSize) => TillFault {
+                place: 0,
+                number: 3,
+            },
+            Err(Fault::PairsSize) => TillFault {
+                place: 0,
+                number: 4,
+            },
+            Err(Fault::IndexSize) => TillFault {
+                place: 0,
+                number: 5,
+            },
+            Err(Fault::BlocksSize) => TillFault {
+                place: 0,
+                number: 6,
+            },
+            Err(Fault::Class(place)) => TillFault { place, number: 7 },
+            Err(Fault::Lead(place)) => TillFault { place, number: 8 },
+            Err(Fault::Number(place)) => TillFault { place, number: 9 },
+        }
     }
 }
 
@@ -469,11 +469,18 @@ pub fn till_shape(
 ) -> TillFault
     ensures { result ≡ fault_out (first_fault (till_page page default_byte default_unit classes.now singles.now pairs.now index.now blocks.now)) }
 {
-    let numbers = Numbers {
-        page,
-        default_byte,
-        default_unit,
+    let tables = TableSet {
+        numbers: Numbers {
+            page,
+            default_byte,
+            default_unit,
+        },
+        classes,
+        singles,
+        pairs,
+        index,
+        blocks,
     };
-    let fault = codepage::shape_report(numbers, classes, singles, pairs, index, blocks);
-    fault_out(fault)
+    let report = codepage::shape_report(&tables);
+    TillFault::from(report)
 }

@@ -9,9 +9,9 @@ ghost use Rattle.findings.specs.Calls.{findings_call};
 ghost use Rattle.capi.specs.Interface.{till_page};
 ghost use Rattle.capi_findings.specs.Findings.{findings_out, TillListed};
 
-use codepage::Numbers;
+use codepage::{Numbers, TableSet};
 use engine::Policy;
-use findings::{Finding, Listed};
+use findings::{Finding, Refusal};
 
 // What the call answers. number: 0, or that of the refusal. count: how many findings there are, whatever the list's length.
 #[repr(C)]
@@ -21,16 +21,18 @@ pub struct TillFindings {
     pub number: u8,
 }
 
-// The answer as numbers.
-fn findings_out(answer: Listed) -> TillFindings
-    ensures { result ≡ findings_out answer }
-{
-    match answer {
-        Listed::Number(count) => TillFindings { count, number: 0 },
-        Listed::Refused(why) => TillFindings {
-            count: 0,
-            number: why.number(),
-        },
+impl From<Result<usize, Refusal>> for TillFindings {
+    ghost from_gives = { λ answer r. r ≡ findings_out answer };
+
+    // The answer as numbers.
+    fn from(answer: Result<usize, Refusal>) -> TillFindings {
+        match answer {
+            Ok(count) => TillFindings { count, number: 0 },
+            Err(why) => TillFindings {
+                count: 0,
+                number: why.number(),
+            },
+        }
     }
 }
 
@@ -57,13 +59,18 @@ pub fn till_findings(
         pair,
         invalid,
     };
-    let numbers = Numbers {
-        page,
-        default_byte,
-        default_unit,
+    let tables = TableSet {
+        numbers: Numbers {
+            page,
+            default_byte,
+            default_unit,
+        },
+        classes,
+        singles,
+        pairs,
+        index,
+        blocks,
     };
-    let answer = findings::list_findings(
-        policy, numbers, classes, singles, pairs, index, blocks, text, list,
-    );
-    findings_out(answer)
+    let answer = findings::list_findings(policy, &tables, text, list);
+    TillFindings::from(answer)
 }

@@ -5,9 +5,9 @@ ghost use Rattle.inplace.specs.InPlace.{in_place_of};
 ghost use Rattle.capi.specs.Interface.{till_page};
 ghost use Rattle.capi_products.specs.Buffer.{encoded_out, TillEncodedAs};
 
-use codepage::Numbers;
+use codepage::{Numbers, TableSet};
 use convert::Policy;
-use inplace::Encoded;
+use inplace::{Encoded, Refusal};
 
 // What the call answers. number: 0 all read, 3 stopped, or that of the refusal. read: units; written: bytes at the buffer's front.
 #[repr(C)]
@@ -19,37 +19,25 @@ pub struct TillInPlace {
     pub flags: u8,
 }
 
-// The answer as numbers.
-fn encoded_out(encoded: Encoded) -> TillInPlace
-    ensures { result ≡ encoded_out encoded }
-{
-    match encoded {
-        Encoded::All {
-            flags,
-            read,
-            written,
-        } => TillInPlace {
-            read,
-            written,
-            number: 0,
-            flags,
-        },
-        Encoded::Stopped {
-            flags,
-            read,
-            written,
-        } => TillInPlace {
-            read,
-            written,
-            number: 3,
-            flags,
-        },
-        Encoded::Refused(why) => TillInPlace {
-            read: 0,
-            written: 0,
-            number: why.number(),
-            flags: 0,
-        },
+impl From<Result<Encoded, Refusal>> for TillInPlace {
+    ghost from_gives = { λ encoded r. r ≡ encoded_out encoded };
+
+    // The answer as numbers.
+    fn from(answer: Result<Encoded, Refusal>) -> TillInPlace {
+        match answer {
+            Ok(encoded) => TillInPlace {
+                read: encoded.read,
+                written: encoded.written,
+                number: encoded.number(),
+                flags: encoded.flags,
+            },
+            Err(why) => TillInPlace {
+                read: 0,
+                written: 0,
+                number: why.number(),
+                flags: 0,
+            },
+        }
     }
 }
 
@@ -70,18 +58,23 @@ pub fn till_encode_in_place(
 ) -> TillInPlace
     ensures { TillEncodedAs (in_place_of (digits single pair invalid) (till_page page default_byte default_unit classes.now singles.now pairs.now index.now blocks.now) buffer.old) result buffer.new }
 {
-    let numbers = Numbers {
-        page,
-        default_byte,
-        default_unit,
+    let tables = TableSet {
+        numbers: Numbers {
+            page,
+            default_byte,
+            default_unit,
+        },
+        classes,
+        singles,
+        pairs,
+        index,
+        blocks,
     };
     let policy = Policy {
         single,
         pair,
         invalid,
     };
-    let encoded = inplace::encode_in_place(
-        policy, numbers, classes, singles, pairs, index, blocks, buffer,
-    );
-    encoded_out(encoded)
+    let encoded = inplace::encode_in_place(policy, &tables, buffer);
+    TillInPlace::from(encoded)
 }

@@ -4,8 +4,8 @@ ghost use Rattle.charindex.specs.Calls.{appending_of, finding_of};
 ghost use Rattle.capi.specs.Interface.{till_page};
 ghost use Rattle.capi_products.specs.Index.{appended_out, found_out, TillIndexed};
 
-use charindex::{Appended, Found};
-use codepage::Numbers;
+use charindex::{Found, Refusal};
+use codepage::{Numbers, TableSet};
 
 // What appending answers. number: 0, or that of the refusal. count: the entries that the index then has for the journal.
 #[repr(C)]
@@ -24,34 +24,38 @@ pub struct TillFound {
     pub number: u8,
 }
 
-// Appending's answer as numbers.
-fn appended_out(appended: Appended) -> TillAppended
-    ensures { result ≡ appended_out appended }
-{
-    match appended {
-        Appended::Entries(count) => TillAppended { count, number: 0 },
-        Appended::Refused(why) => TillAppended {
-            count: 0,
-            number: why.number(),
-        },
+impl From<Result<usize, Refusal>> for TillAppended {
+    ghost from_gives = { λ appended r. r ≡ appended_out appended };
+
+    // Appending's answer as numbers.
+    fn from(appended: Result<usize, Refusal>) -> TillAppended {
+        match appended {
+            Ok(count) => TillAppended { count, number: 0 },
+            Err(why) => TillAppended {
+                count: 0,
+                number: why.number(),
+            },
+        }
     }
 }
 
-// Finding's answer as numbers.
-fn found_out(found: Found) -> TillFound
-    ensures { result ≡ found_out found }
-{
-    match found {
-        Found::Code(place, length) => TillFound {
-            place,
-            length,
-            number: 0,
-        },
-        Found::Refused(why) => TillFound {
-            place: 0,
-            length: 0,
-            number: why.number(),
-        },
+impl From<Result<Found, Refusal>> for TillFound {
+    ghost from_gives = { λ found r. r ≡ found_out found };
+
+    // Finding's answer as numbers.
+    fn from(answer: Result<Found, Refusal>) -> TillFound {
+        match answer {
+            Ok(found) => TillFound {
+                place: found.place,
+                length: found.length,
+                number: 0,
+            },
+            Err(why) => TillFound {
+                place: 0,
+                length: 0,
+                number: why.number(),
+            },
+        }
     }
 }
 
@@ -71,15 +75,20 @@ pub fn till_append_index(
 ) -> TillAppended
     ensures { TillIndexed (appending_of (till_page page default_byte default_unit classes.now singles.now pairs.now index.now blocks.now) journal.now former entries.old) result entries.new }
 {
-    let numbers = Numbers {
-        page,
-        default_byte,
-        default_unit,
+    let tables = TableSet {
+        numbers: Numbers {
+            page,
+            default_byte,
+            default_unit,
+        },
+        classes,
+        singles,
+        pairs,
+        index,
+        blocks,
     };
-    let appended = charindex::append(
-        numbers, classes, singles, pairs, index, blocks, journal, former, entries,
-    );
-    appended_out(appended)
+    let appended = charindex::append(&tables, journal, former, entries);
+    TillAppended::from(appended)
 }
 
 // Finds code n of a journal, from 0, by its index.
@@ -98,13 +107,18 @@ pub fn till_find_code(
 ) -> TillFound
     ensures { result ≡ found_out (finding_of (till_page page default_byte default_unit classes.now singles.now pairs.now index.now blocks.now) journal.now entries.now n) }
 {
-    let numbers = Numbers {
-        page,
-        default_byte,
-        default_unit,
+    let tables = TableSet {
+        numbers: Numbers {
+            page,
+            default_byte,
+            default_unit,
+        },
+        classes,
+        singles,
+        pairs,
+        index,
+        blocks,
     };
-    let found = charindex::find(
-        numbers, classes, singles, pairs, index, blocks, journal, entries, n,
-    );
-    found_out(found)
+    let found = charindex::find(&tables, journal, entries, n);
+    TillFound::from(found)
 }

@@ -4,8 +4,8 @@ ghost use Rattle.linebreak.specs.Calls.{check_of, proposal_of};
 ghost use Rattle.capi.specs.Interface.{till_page};
 ghost use Rattle.capi_products.specs.Lines.{checked_out, proposed_out, TillProposed};
 
-use codepage::Numbers;
-use linebreak::{Checked, Proposed};
+use codepage::{Numbers, TableSet};
+use linebreak::Refusal;
 
 // What a proposal answers. number: 0, or that of the refusal. count: the breaks that were written to the front of the list.
 #[repr(C)]
@@ -16,25 +16,28 @@ pub struct TillBreaks {
 }
 
 // A check's answer as a number.
-fn checked_out(checked: Checked) -> u8
+// Kept: no From, since u8 and Result are both std's.
+fn checked_out(checked: Result<(), Refusal>) -> u8
     ensures { result ≡ checked_out checked }
 {
     match checked {
-        Checked::Acceptable => 0,
-        Checked::Refused(why) => why.number(),
+        Ok(()) => 0,
+        Err(why) => why.number(),
     }
 }
 
-// A proposal's answer as numbers.
-fn proposed_out(proposed: Proposed) -> TillBreaks
-    ensures { result ≡ proposed_out proposed }
-{
-    match proposed {
-        Proposed::Breaks(count) => TillBreaks { count, number: 0 },
-        Proposed::Refused(why) => TillBreaks {
-            count: 0,
-            number: why.number(),
-        },
+impl From<Result<usize, Refusal>> for TillBreaks {
+    ghost from_gives = { λ proposed r. r ≡ proposed_out proposed };
+
+    // A proposal's answer as numbers.
+    fn from(proposed: Result<usize, Refusal>) -> TillBreaks {
+        match proposed {
+            Ok(count) => TillBreaks { count, number: 0 },
+            Err(why) => TillBreaks {
+                count: 0,
+                number: why.number(),
+            },
+        }
     }
 }
 
@@ -54,14 +57,19 @@ pub fn till_check_breaks(
 ) -> u8
     ensures { result ≡ checked_out (check_of (till_page page default_byte default_unit classes.now singles.now pairs.now index.now blocks.now) text.now width breaks.now) }
 {
-    let numbers = Numbers {
-        page,
-        default_byte,
-        default_unit,
+    let tables = TableSet {
+        numbers: Numbers {
+            page,
+            default_byte,
+            default_unit,
+        },
+        classes,
+        singles,
+        pairs,
+        index,
+        blocks,
     };
-    let checked = linebreak::check_breaks(
-        numbers, classes, singles, pairs, index, blocks, text, width, breaks,
-    );
+    let checked = linebreak::check_breaks(&tables, text, width, breaks);
     checked_out(checked)
 }
 
@@ -81,13 +89,18 @@ pub fn till_propose_breaks(
 ) -> TillBreaks
     ensures { TillProposed (proposal_of (till_page page default_byte default_unit classes.now singles.now pairs.now index.now blocks.now) text.now width (length out.old)) result out.old out.new }
 {
-    let numbers = Numbers {
-        page,
-        default_byte,
-        default_unit,
+    let tables = TableSet {
+        numbers: Numbers {
+            page,
+            default_byte,
+            default_unit,
+        },
+        classes,
+        singles,
+        pairs,
+        index,
+        blocks,
     };
-    let proposed = linebreak::propose_breaks(
-        numbers, classes, singles, pairs, index, blocks, text, width, out,
-    );
-    proposed_out(proposed)
+    let proposed = linebreak::propose_breaks(&tables, text, width, out);
+    TillBreaks::from(proposed)
 }

@@ -4,8 +4,8 @@ ghost use Rattle.spelling.specs.Calls.{spelling_of};
 ghost use Rattle.capi.specs.Interface.{till_page};
 ghost use Rattle.capi_products.specs.Spelling.{refused_out, spelled_out, TillSpelledAs};
 
-use codepage::Numbers;
-use spelling::{Refusal, Spelled};
+use codepage::{Numbers, TableSet};
+use spelling::Refusal;
 
 // What the call answers. number: 0, or that of the refusal. written: the bytes of the spelling. place: of 24, that of the first code at
 // fault.
@@ -17,45 +17,49 @@ pub struct TillSpelled {
     pub number: u8,
 }
 
-// A refusal as numbers.
-fn refused_out(why: Refusal) -> TillSpelled
-    ensures { result ≡ refused_out why }
-{
-    match why {
-        Refusal::BadShape => TillSpelled {
-            written: 0,
-            place: 0,
-            number: 10,
-        },
-        Refusal::TooLong => TillSpelled {
-            written: 0,
-            place: 0,
-            number: 11,
-        },
-        Refusal::AtFault(place) => TillSpelled {
-            written: 0,
-            place,
-            number: 24,
-        },
-        Refusal::SpellingTooLong => TillSpelled {
-            written: 0,
-            place: 0,
-            number: 25,
-        },
+impl From<Refusal> for TillSpelled {
+    ghost from_gives = { λ why r. r ≡ refused_out why };
+
+    // A refusal as numbers.
+    fn from(why: Refusal) -> TillSpelled {
+        match why {
+            Refusal::BadShape => TillSpelled {
+                written: 0,
+                place: 0,
+                number: 10,
+            },
+            Refusal::TooLong => TillSpelled {
+                written: 0,
+                place: 0,
+                number: 11,
+            },
+            Refusal::AtFault(place) => TillSpelled {
+                written: 0,
+                place,
+                number: 24,
+            },
+            Refusal::SpellingTooLong => TillSpelled {
+                written: 0,
+                place: 0,
+                number: 25,
+            },
+        }
     }
 }
 
-// The answer as numbers.
-fn spelled_out(spelled: Spelled) -> TillSpelled
-    ensures { result ≡ spelled_out spelled }
-{
-    match spelled {
-        Spelled::Bytes(written) => TillSpelled {
-            written,
-            place: 0,
-            number: 0,
-        },
-        Spelled::Refused(why) => refused_out(why),
+impl From<Result<usize, Refusal>> for TillSpelled {
+    ghost from_gives = { λ spelled r. r ≡ spelled_out spelled };
+
+    // The answer as numbers.
+    fn from(spelled: Result<usize, Refusal>) -> TillSpelled {
+        match spelled {
+            Ok(written) => TillSpelled {
+                written,
+                place: 0,
+                number: 0,
+            },
+            Err(why) => TillSpelled::from(why),
+        }
     }
 }
 
@@ -74,13 +78,18 @@ pub fn till_spell(
 ) -> TillSpelled
     ensures { TillSpelledAs (spelling_of (till_page page default_byte default_unit classes.now singles.now pairs.now index.now blocks.now) text.now (length out.old)) result out.old out.new }
 {
-    let numbers = Numbers {
-        page,
-        default_byte,
-        default_unit,
+    let tables = TableSet {
+        numbers: Numbers {
+            page,
+            default_byte,
+            default_unit,
+        },
+        classes,
+        singles,
+        pairs,
+        index,
+        blocks,
     };
-    let spelled = spelling::standard_spelling(
-        numbers, classes, singles, pairs, index, blocks, text, out,
-    );
-    spelled_out(spelled)
+    let spelled = spelling::standard_spelling(&tables, text, out);
+    TillSpelled::from(spelled)
 }

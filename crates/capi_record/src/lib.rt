@@ -20,6 +20,7 @@ pub struct TillHere {
 }
 
 // One call of the decoding run in a record. A refused call leaves in the record what it held.
+// Kept: the C interface exports both by name.
 pub fn till_decode_here(
     run: &mut TillRun,
     page: u16,
@@ -59,6 +60,7 @@ pub fn till_decode_here(
 }
 
 // One call of the encoding run in a record. A refused call leaves in the record what it held.
+// Kept: the C interface exports both by name.
 pub fn till_encode_here(
     run: &mut TillRun,
     page: u16,

@@ -1,8 +1,9 @@
 -- The C interface: the call on a whole text.
-use Rattle.std.specs.Prelude.{List, ◌≡◌, ℕ}
+use Rattle.std.specs.Prelude.{List, ◌≡◌, ℕ, Result}
 use Rattle.codepage.specs.Lent.{over}
 use Rattle.oneshot.specs.declared.Totals.{Totals}
 use Rattle.oneshot.specs.declared.Converted.{Converted}
+use Rattle.oneshot.specs.declared.TextRefusal.{TextRefusal}
 use Rattle.oneshot.specs.Texts.{Text, converted_number, converted_totals, totals_or_none}
 use Rattle.capi_text.specs.declared.TillText.{TillText}
 
@@ -11,7 +12,7 @@ unfoldable pub text_out : (number : ℕ) → Totals → TillText
 text_out number t = record { need = t.need; read = t.read; written = t.written; number = number; flags = t.flags }
 
 -- what the call on a whole text returned, as C sees it
-abbrev pub converted_out : Converted → TillText
+abbrev pub converted_out : Result Converted TextRefusal → TillText
 converted_out r = text_out (converted_number r) (totals_or_none (converted_totals r))
 
 -- What the call gives: t is what the rules give (`text_of`), r what it returns, and the lent output before and after. Of a refusal

@@ -10,9 +10,9 @@ ghost use Rattle.capi.specs.Interface.{till_page};
 ghost use Rattle.engine.specs.Policies.{digits};
 ghost use Rattle.capi_text.specs.Texts.{converted_out, TillConverted};
 
-use codepage::Numbers;
+use codepage::{Numbers, TableSet};
 use engine::Policy;
-use oneshot::Converted;
+use oneshot::{Converted, TextRefusal};
 
 // What a call answers. number: 0 all read, 2 the need is over the room, 3 stopped, or that of the refusal. need: the units of output
 // that all of the text needs; flags: those of all of it. read and written: what was converted into the room.
@@ -37,21 +37,40 @@ fn policy_in(single: u8, pair: u8, invalid: u8) -> Policy
     }
 }
 
-// The answer of the call on a whole text as C sees it.
-fn converted_out(answer: Converted) -> TillText
-    ensures { result ≡ converted_out answer }
-{
-    let totals = answer.totals();
-    TillText {
-        need: totals.need,
-        read: totals.read,
-        written: totals.written,
-        number: answer.number(),
-        flags: totals.flags,
+impl From<Result<Converted, TextRefusal>> for TillText {
+    ghost from_gives = { λ answer r. r ≡ converted_out answer };
+
+    // The answer of the call on a whole text as C sees it.
+    fn from(answer: Result<Converted, TextRefusal>) -> TillText {
+        match answer {
+            Ok(converted) => {
+                let totals = converted.totals;
+                let ending = converted.ending;
+                let number = ending.number();
+                TillText {
+                    need: totals.need,
+                    read: totals.read,
+                    written: totals.written,
+                    number,
+                    flags: totals.flags,
+                }
+            }
+            Err(why) => {
+                let refusal = why.number();
+                TillText {
+                    need: 0,
+                    read: 0,
+                    written: 0,
+                    number: refusal,
+                    flags: 0,
+                }
+            }
+        }
     }
 }
 
 // Decodes a whole text; with no room it only counts.
+// Kept: the C interface exports both by name.
 pub fn till_decode_text(
     single: u8,
     pair: u8,
@@ -69,19 +88,25 @@ pub fn till_decode_text(
 ) -> TillText
     ensures { TillConverted (text_of Decoding (digits single pair invalid) (till_page page default_byte default_unit classes.now singles.now pairs.now index.now blocks.now) text.now (length out.old)) result out.old out.new }
 {
-    let numbers = Numbers {
-        page,
-        default_byte,
-        default_unit,
+    let tables = TableSet {
+        numbers: Numbers {
+            page,
+            default_byte,
+            default_unit,
+        },
+        classes,
+        singles,
+        pairs,
+        index,
+        blocks,
     };
     let policy = policy_in(single, pair, invalid);
-    let answer = oneshot::decode_text(
-        policy, numbers, classes, singles, pairs, index, blocks, text, out,
-    );
-    converted_out(answer)
+    let answer = oneshot::decode_text(policy, &tables, text, out);
+    TillText::from(answer)
 }
 
 // Encodes a whole text; with no room it only counts.
+// Kept: the C interface exports both by name.
 pub fn till_encode_text(
     single: u8,
     pair: u8,
@@ -99,14 +124,19 @@ pub fn till_encode_text(
 ) -> TillText
     ensures { TillConverted (text_of Encoding (digits single pair invalid) (till_page page default_byte default_unit classes.now singles.now pairs.now index.now blocks.now) text.now (length out.old)) result out.old out.new }
 {
-    let numbers = Numbers {
-        page,
-        default_byte,
-        default_unit,
+    let tables = TableSet {
+        numbers: Numbers {
+            page,
+            default_byte,
+            default_unit,
+        },
+        classes,
+        singles,
+        pairs,
+        index,
+        blocks,
     };
     let policy = policy_in(single, pair, invalid);
-    let answer = oneshot::encode_text(
-        policy, numbers, classes, singles, pairs, index, blocks, text, out,
-    );
-    converted_out(answer)
+    let answer = oneshot::encode_text(policy, &tables, text, out);
+    TillText::from(answer)
 }

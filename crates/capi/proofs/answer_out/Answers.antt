@@ -8,4 +8,4 @@ returns-then-not-is_run c = rw (sym c.is_run.ensures ∙ c.if-not-is_run.true, �
 
 pub returns : goal.returns
 unfolding answer_out
-returns c = rw (sym c.is_run.ensures ∙ c.if-not-is_run.false, ← c.number-number.ensures, ← c.run_out-run.ensures)
+returns c = rw (sym c.is_run.ensures ∙ c.if-not-is_run.false, ← c.number-number.ensures, ← c.from-run.ensures)

@@ -7,4 +7,4 @@ returns-then-not-is_run c = refused_saved _ _ _ (sym c.is_run.ensures ∙ c.if-n
 
 pub returns : goal.returns
 returns c = let named = sym c.is_run.ensures ∙ c.if-not-is_run.false in
-    line_saved _ _ _ _ _ _ named c.run_on-inner.ensures c.write-written.ensures c.written_out.ensures.0 c.written_out.ensures.1
+    line_saved _ _ _ _ _ _ named c.run_on-inner.ensures c.write-written.ensures c.from.ensures.0 c.from.ensures.1

@@ -9,4 +9,4 @@ returns-then-direction-gt1 c = rw (lt-leb _ _ c.if-direction-gt1.true, ← c.no_
 
 pub returns : goal.returns
 unfolding till_start
-returns c = rw (le-leb _ _ c.if-direction-gt1.false, ← c.direction_in-way.ensures) (c.started_out.ensures ∙ ap start_out c.start-started.ensures)
+returns c = rw (le-leb _ _ c.if-direction-gt1.false, ← c.direction_in-way.ensures) (c.from.ensures ∙ ap start_out c.start-started.ensures)

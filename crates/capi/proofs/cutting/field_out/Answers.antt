@@ -2,14 +2,14 @@ use mathlib.Core.Path.{ap, ◌∙◌}
 use Rattle.capi.specs.Cutting.{refused_field, field_out}
 use Rattle.capi.proofs.cutting.field_out.Goals as goal
 
-pub returns-in-Field : goal.returns-in-Field
+pub returns-in-Ok-Field : goal.returns-in-Ok-Field
 unfolding field_out
-returns-in-Field c = rw (c.in-Field.is, c.end_out-end.ensures, c.place_out-place.ensures)
+returns-in-Ok-Field c = rw (c.in-Ok-Field.is, rw c.in-Ok-Field.is at c.in-Ok-Field.field-0-is, c.end_out-end.ensures, c.place_out-place.ensures)
 
-pub returns-in-Incomplete : goal.returns-in-Incomplete
+pub returns-in-Ok-Incomplete : goal.returns-in-Ok-Incomplete
 unfolding field_out
-returns-in-Incomplete c = rw c.in-Incomplete.is
+returns-in-Ok-Incomplete c = rw (c.in-Ok-Incomplete.is, rw c.in-Ok-Incomplete.is at c.in-Ok-Incomplete.field-0-is)
 
-pub returns-in-Refused : goal.returns-in-Refused
+pub returns-in-Err : goal.returns-in-Err
 unfolding field_out
-returns-in-Refused c = rw c.in-Refused.is (c.refused_field.ensures ∙ ap (refused_field _) c.number.ensures)
+returns-in-Err c = rw c.in-Err.is (c.refused_field.ensures ∙ ap (refused_field _) c.number.ensures)

@@ -1,5 +1,5 @@
 use Rattle.capi.specs.Interface.{run_out}
-use Rattle.capi.proofs.run_out.Goals as goal
+use Rattle.capi.proofs.TillRunFromRun.from.Goals as goal
 
 pub returns : goal.returns
 unfolding run_out
