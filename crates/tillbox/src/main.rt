@@ -5,6 +5,7 @@
 
 use std::alloc::AllocError;
 use std::process::ExitCode;
+use tillbox_command::{Memory, TableRoom};
 
 // Lends the memory to the commands, and answers their exit status.
 fn run(rt: &HostRuntime) -> Result<u8, AllocError> {
@@ -14,15 +15,18 @@ fn run(rt: &HostRuntime) -> Result<u8, AllocError> {
     let mut pairs = vec![in rt.alloc(); 0u16; 33024]?;
     let mut index = vec![in rt.alloc(); 0u8; 300]?;
     let mut blocks = vec![in rt.alloc(); 0u16; 66048]?;
-    Ok(tillbox_command::tillbox_main(
-        rt,
-        &mut image,
-        &mut classes,
-        &mut singles,
-        &mut pairs,
-        &mut index,
-        &mut blocks,
-    ))
+    let room = TableRoom {
+        classes: &mut classes,
+        singles: &mut singles,
+        pairs: &mut pairs,
+        index: &mut index,
+        blocks: &mut blocks,
+    };
+    let mut memory = Memory {
+        image: &mut image,
+        room,
+    };
+    Ok(tillbox_command::tillbox_main(rt, &mut memory))
 }
 
 // Says that there is no memory for the tables.

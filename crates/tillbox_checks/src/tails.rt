@@ -1,344 +1,239 @@
 // Whether the files of a checkpoint are those that its run was saved with, as far as it can be told: what the run has pending stands
 // before the place where it goes on, and the end of the output is what the end of the input gives.
-use codepage::Numbers;
-use convert::{Direction, Pending, Run, Started};
-use std::fs::File;
-use tillbox_layout::{BLOCK, block_len, front_bytes, front_units, place_of, size_of, units_in};
-use tillbox_storage::{files, messages};
+use crate::kinds::Piece;
+use codepage::TableSet;
+use convert::{Direction, Pending, Run};
+use tillbox_layout::{BLOCK, block_len, front_len, place_of, units_in};
+use tillbox_storage::files::OpenFile;
+use tillbox_storage::messages;
+use tillbox_storage::messages::Reported;
 
 // The most units of an input that are looked at.
 const LONGEST: u64 = 512;
 
-// What was found.
-#[derive(Clone, Copy)]
-enum Tail {
-    Same,
-    Other,
-    // It could not be read; the reason was said.
-    Failed,
-}
-
-// Where the last `count` of some units begin.
-fn before(total: u64, count: usize) -> u64 {
-    if total < count as u64 {
-        return 0;
-    }
-    total - count as u64
-}
-
 // Whether some bytes stand at a place of a file.
-fn stand_at(file: &File, place: i64, bytes: &[u8], path: &[u8]) -> Tail {
+fn stand_at(file: &OpenFile<'_>, place: u64, bytes: &[u8]) -> Result<bool, Reported> {
     let mut buffer = [0u8; 2048];
-    if !files::seek(file, place, path) {
-        return Tail::Failed;
-    }
-    let got = files::read_some(file, bytes.len(), &mut buffer, path);
-    if got.failed {
-        return Tail::Failed;
-    }
-    let count = got.count;
-    if &buffer[..count] == bytes {
-        return Tail::Same;
-    }
-    Tail::Other
+    let size = front_len(bytes.len(), &buffer);
+    file.seek(place)?;
+    let count = file.read_some(&mut buffer[..size])?;
+    Ok(&buffer[..count] == bytes)
 }
 
-// Whether some bytes, `count` units, are the last of so many units of an output.
+// The end of an output as a call gives it: how many units, and how many bytes these are.
+#[derive(Clone, Copy)]
+struct Given {
+    units: usize,
+    bytes: usize,
+}
+
+// Whether some bytes, the last of a call's output, are the last of so many units of an output.
 fn end_output(
-    target: &File,
+    target: &OpenFile<'_>,
     wide: bool,
     total: u64,
     count: usize,
     bytes: &[u8],
-    output: &[u8],
-) -> Tail {
-    let size = files::size_of(target, output);
-    if size < 0 {
-        return Tail::Failed;
-    }
+) -> Result<bool, Reported> {
     // An output that is too short is told when it is taken up.
-    if units_in(wide, size_of(size)) < total {
-        return Tail::Same;
+    if units_in(wide, target.size()?) < total {
+        return Ok(true);
     }
-    if total < count as u64 {
-        return Tail::Other;
+    match total.checked_sub(count as u64) {
+        Some(unit) => stand_at(target, place_of(wide, unit), bytes),
+        None => Ok(false),
     }
-    stand_at(target, place_of(wide, total - count as u64), bytes, output)
+}
+
+// What an input holds: bytes, or units.
+trait Unit: Piece {
+    // Whether one of them, and one of its output, has two bytes.
+    const READS_WIDE: bool;
+
+    const WRITES_WIDE: bool;
+
+    // Fills a buffer with at most 512 of them from where a file is read next.
+    fn read(source: &OpenFile<'_>, units: &mut [Self]) -> Result<(), Reported>;
+
+    // Where a code begins for sure.
+    fn boundary(units: &[Self], classes: &[u8]) -> usize;
+
+    // What a call on them gives, laid into the bytes of an output.
+    fn give(
+        run: Run,
+        tables: &TableSet,
+        units: &[Self],
+        last: bool,
+        bytes: &mut [u8; 2048],
+    ) -> Given;
 }
 
 // Whether a byte is a code by itself wherever it stands: it is below 80 and may not be second.
 fn stands_alone(classes: &[u8], byte: u8) -> bool {
-    let place = byte as usize;
-    if 127 < place {
-        return false;
-    }
-    if classes.len() <= place {
-        return false;
-    }
-    !codepage::is_trail_class(classes[place])
+    let class = classes.get(byte as usize);
+    byte < 0x80 && class.is_some_and(|class| !codepage::is_trail_class(*class))
 }
 
-// Where a code begins for sure: behind the first byte that stands alone, or at the end where none does.
-fn boundary(bytes: &[u8], classes: &[u8]) -> usize {
-    let mut i = 0;
-    while i < bytes.len() {
-        let byte = bytes[i];
-        i += 1;
-        if stands_alone(classes, byte) {
-            return i;
+impl Unit for u8 {
+    const READS_WIDE: bool = false;
+
+    const WRITES_WIDE: bool = true;
+
+    fn read(source: &OpenFile<'_>, units: &mut [u8]) -> Result<(), Reported> {
+        source.read_block(units)
+    }
+
+    // Behind the first byte that stands alone, or at the end where none does.
+    fn boundary(units: &[u8], classes: &[u8]) -> usize {
+        match units.iter().position(|byte| stands_alone(classes, *byte)) {
+            Some(place) => place + 1,
+            None => units.len(),
         }
     }
-    i
-}
 
-// Whether the bytes that a run has read last, from the beginning of a code on, give the end of its output.
-fn bytes_give_end(
-    run: Run,
-    numbers: Numbers,
-    classes: &[u8],
-    singles: &[u16],
-    pairs: &[u16],
-    index: &[u8],
-    blocks: &[u16],
-    bytes: &[u8],
-    target: &File,
-    output: &[u8],
-) -> Tail {
-    let policy = run.policy;
-    let started = Run::start(Direction::Decoding, run.page, policy);
-    match started {
-        Started::Refused => Tail::Same,
-        Started::Accepted(fresh) => {
-            let mut units = [0u16; 1024];
-            let outcome = convert::decode(
-                fresh, numbers, classes, singles, pairs, index, blocks, bytes, run.ended,
-                &mut units,
-            );
-            let filled = front_units(outcome.written, &units);
-            let mut text = [0u8; 2048];
-            let length = utf16::to_bytes(&units[..filled], &mut text);
-            end_output(target, true, run.written, filled, &text[..length], output)
+    fn give(
+        run: Run,
+        tables: &TableSet,
+        units: &[u8],
+        last: bool,
+        bytes: &mut [u8; 2048],
+    ) -> Given {
+        let mut out = [0u16; 1024];
+        let outcome = convert::decode(run, tables, units, last, &mut out);
+        let count = front_len(outcome.written, &out);
+        Given {
+            units: count,
+            bytes: utf16::to_bytes(&out[..count], bytes),
         }
     }
 }
 
-// The same of units.
-fn units_give_end(
-    run: Run,
-    numbers: Numbers,
-    classes: &[u8],
-    singles: &[u16],
-    pairs: &[u16],
-    index: &[u8],
-    blocks: &[u16],
-    units: &[u16],
-    target: &File,
-    output: &[u8],
-) -> Tail {
-    let policy = run.policy;
-    let started = Run::start(Direction::Encoding, run.page, policy);
-    match started {
-        Started::Refused => Tail::Same,
-        Started::Accepted(fresh) => {
-            let mut bytes = [0u8; 2048];
-            let outcome = convert::encode(
-                fresh, numbers, classes, singles, pairs, index, blocks, units, run.ended,
-                &mut bytes,
-            );
-            let filled = front_bytes(outcome.written, &bytes);
-            end_output(target, false, run.written, filled, &bytes[..filled], output)
+impl Unit for u16 {
+    const READS_WIDE: bool = true;
+
+    const WRITES_WIDE: bool = false;
+
+    fn read(source: &OpenFile<'_>, units: &mut [u16]) -> Result<(), Reported> {
+        let mut bytes = [0u8; 1024];
+        let size = front_len(units.len().saturating_mul(2), &bytes);
+        source.read_block(&mut bytes[..size])?;
+        utf16::to_units(&bytes[..size], units);
+        Ok(())
+    }
+
+    // A low surrogate may be the second half of a character.
+    fn boundary(units: &[u16], _classes: &[u8]) -> usize {
+        match units {
+            [0xDC00..=0xDFFF, ..] => 1,
+            _ => 0,
+        }
+    }
+
+    fn give(
+        run: Run,
+        tables: &TableSet,
+        units: &[u16],
+        last: bool,
+        bytes: &mut [u8; 2048],
+    ) -> Given {
+        let outcome = convert::encode(run, tables, units, last, bytes);
+        let count = front_len(outcome.written, bytes);
+        Given {
+            units: count,
+            bytes: count,
         }
     }
 }
 
-// Where the first code begins for sure among the last bytes that were read: all that was read begins with one.
-fn first_code(all: bool, bytes: &[u8], classes: &[u8]) -> usize {
-    if all {
-        return 0;
-    }
-    boundary(bytes, classes)
-}
-
-// The same of units: a low surrogate may be the second half of a character.
-fn first_unit(all: bool, units: &[u16]) -> usize {
-    if all {
-        return 0;
-    }
-    if units.len() == 0 {
-        return 0;
-    }
-    if units[0] / 1024 == 0xDC00 / 1024 {
-        return 1;
-    }
-    0
-}
-
-// Whether the end of an output is what the bytes before the place where a run goes on give.
-fn decoded_end(
+// Whether what a run has read last, from the beginning of a code on, gives the end of its output.
+fn gives_end<T: Unit>(
     run: Run,
-    numbers: Numbers,
-    classes: &[u8],
-    singles: &[u16],
-    pairs: &[u16],
-    index: &[u8],
-    blocks: &[u16],
-    source: &File,
-    target: &File,
-    input: &[u8],
-    output: &[u8],
-) -> Tail {
-    let size = block_len(BLOCK, 0, run.read);
-    let mut block = [0u8; 512];
-    if !files::seek(source, place_of(false, before(run.read, size)), input) {
-        return Tail::Failed;
-    }
-    let got = files::read_block(source, size, &mut block, input);
-    if got.failed {
-        return Tail::Failed;
-    }
-    let count = got.count;
-    let first = first_code(run.read <= LONGEST, &block[..count], classes);
-    let from = front_bytes(first, &block[..count]);
-    bytes_give_end(
-        run,
-        numbers,
-        classes,
-        singles,
-        pairs,
-        index,
-        blocks,
-        &block[from..count],
+    tables: &TableSet,
+    units: &[T],
+    target: &OpenFile<'_>,
+) -> Result<bool, Reported> {
+    let Ok(fresh) = Run::start(T::DIRECTION, run.page, run.policy) else {
+        return Ok(true);
+    };
+    let mut bytes = [0u8; 2048];
+    let given = T::give(fresh, tables, units, run.ended, &mut bytes);
+    let count = front_len(given.bytes, &bytes);
+    end_output(
         target,
-        output,
+        T::WRITES_WIDE,
+        run.written,
+        given.units,
+        &bytes[..count],
     )
 }
 
-// The same of units.
-fn encoded_end(
+// Whether the end of an output is what the end of the input gives, up to the place where a run goes on. `block` is room for 512 of the
+// input's units.
+fn end_stands<T: Unit>(
     run: Run,
-    numbers: Numbers,
-    classes: &[u8],
-    singles: &[u16],
-    pairs: &[u16],
-    index: &[u8],
-    blocks: &[u16],
-    source: &File,
-    target: &File,
-    input: &[u8],
-    output: &[u8],
-) -> Tail {
-    let size = block_len(BLOCK, 0, run.read);
-    let mut block = [0u8; 1024];
-    if !files::seek(source, place_of(true, before(run.read, size)), input) {
-        return Tail::Failed;
-    }
-    let got = files::read_block(source, 2 * size, &mut block, input);
-    if got.failed {
-        return Tail::Failed;
-    }
-    let count = got.count;
-    let mut units = [0u16; 512];
-    let length = utf16::to_units(&block[..count], &mut units);
-    let first = first_unit(run.read <= LONGEST, &units[..length]);
-    let from = front_units(first, &units[..length]);
-    units_give_end(
-        run,
-        numbers,
-        classes,
-        singles,
-        pairs,
-        index,
-        blocks,
-        &units[from..length],
-        target,
-        output,
-    )
+    tables: &TableSet,
+    source: &OpenFile<'_>,
+    target: &OpenFile<'_>,
+    block: &mut [T],
+) -> Result<bool, Reported> {
+    let size = front_len(block_len(BLOCK, 0, run.read), block);
+    let units = &mut block[..size];
+    source.seek(place_of(T::READS_WIDE, run.read.saturating_sub(size as u64)))?;
+    T::read(source, units)?;
+    // All that was read begins with a code.
+    let first = if run.read <= LONGEST {
+        0
+    } else {
+        T::boundary(units, tables.classes)
+    };
+    let from = front_len(first, units);
+    gives_end(run, tables, &units[from..], target)
 }
 
 // Whether what a run has pending stands before the place where it goes on.
-fn pending_stands(run: Run, source: &File, input: &[u8]) -> Tail {
-    let pending = run.pending;
-    match pending {
-        Pending::Nothing => Tail::Same,
-        Pending::Byte(byte) => stand_at(
-            source,
-            place_of(false, before(run.read, 1)),
-            &[byte],
-            input,
-        ),
-        Pending::High(unit) => stand_at(
-            source,
-            place_of(true, before(run.read, 1)),
-            &[(unit % 256) as u8, (unit / 256) as u8],
-            input,
-        ),
+fn pending_stands(run: Run, source: &OpenFile<'_>) -> Result<bool, Reported> {
+    let unit = run.read.saturating_sub(1);
+    match run.pending {
+        Pending::Nothing => Ok(true),
+        Pending::Byte(byte) => stand_at(source, place_of(false, unit), &[byte]),
+        Pending::High(high) => stand_at(source, place_of(true, unit), &high.to_le_bytes()),
     }
 }
 
-// Whether the end of an output is what the end of the input gives, up to the place where a run goes on.
-fn end_stands(
+// Whether an input and an output are those of a run, as far as it can be told.
+fn stand(
     run: Run,
-    numbers: Numbers,
-    classes: &[u8],
-    singles: &[u16],
-    pairs: &[u16],
-    index: &[u8],
-    blocks: &[u16],
-    source: &File,
-    target: &File,
-    input: &[u8],
-    output: &[u8],
-) -> Tail {
-    let direction = run.direction;
-    match direction {
-        Direction::Decoding => decoded_end(
-            run, numbers, classes, singles, pairs, index, blocks, source, target, input, output,
-        ),
-        Direction::Encoding => encoded_end(
-            run, numbers, classes, singles, pairs, index, blocks, source, target, input, output,
-        ),
+    tables: &TableSet,
+    source: &OpenFile<'_>,
+    target: &OpenFile<'_>,
+) -> Result<bool, Reported> {
+    if !pending_stands(run, source)? {
+        return Ok(false);
+    }
+    match run.direction {
+        Direction::Decoding => end_stands(run, tables, source, target, &mut [0u8; 512]),
+        Direction::Encoding => end_stands(run, tables, source, target, &mut [0u16; 512]),
     }
 }
 
-// Whether files are those of a run. Where they are others, that is said.
-fn told(tail: Tail, input: &[u8], output: &[u8]) -> bool {
-    match tail {
-        Tail::Same => true,
-        Tail::Failed => false,
-        Tail::Other => {
-            messages::wrong(
-                input,
-                b"it is not the input that the run of the checkpoint has read",
-            );
-            messages::say(b"  Up to the place where the run goes on it is not what ");
-            messages::say(output);
-            messages::say(
-                b" was made of. A checkpoint is of one\n  input and one output: name these, or remove the checkpoint to begin anew.\n",
-            );
-            false
-        }
-    }
-}
-
-// Whether an input and an open output are those of a run, as far as it can be told. Where they are not, that was said.
+// Refuses an input and an open output that are not those of a run, as far as it can be told.
 pub fn are_of(
     run: Run,
-    numbers: Numbers,
-    classes: &[u8],
-    singles: &[u16],
-    pairs: &[u16],
-    index: &[u8],
-    blocks: &[u16],
-    source: &File,
-    target: &File,
-    input: &[u8],
-    output: &[u8],
-) -> bool {
-    if !told(pending_stands(run, source, input), input, output) {
-        return false;
+    tables: &TableSet,
+    source: &OpenFile<'_>,
+    target: &OpenFile<'_>,
+) -> Result<(), Reported> {
+    if stand(run, tables, source, target)? {
+        return Ok(());
     }
-    let end = end_stands(
-        run, numbers, classes, singles, pairs, index, blocks, source, target, input, output,
+    messages::wrong(
+        source.path,
+        b"it is not the input that the run of the checkpoint has read",
     );
-    told(end, input, output)
+    messages::say(b"  Up to the place where the run goes on it is not what ");
+    messages::say(target.path);
+    messages::say(
+        b" was made of. A checkpoint is of one\n  input and one output: name these, or remove the checkpoint to begin anew.\n",
+    );
+    Err(Reported)
 }

@@ -26,7 +26,7 @@ fn open_if_closed(rt: &HostRuntime) {
 // Opens what is closed of standard input, output and error, in that order, so that no file of a job gets their numbers and no
 // message is written into it.
 pub fn open_closed(rt: &HostRuntime) {
-    open_if_closed(rt);
-    open_if_closed(rt);
-    open_if_closed(rt);
+    for _ in 0..GIVEN {
+        open_if_closed(rt);
+    }
 }

@@ -2,240 +2,165 @@
 use crate::options;
 use crate::options::Options;
 use convert::{Direction, Policy};
-use tillbox_jobs::job::Job;
-use tillbox_storage::messages::STDERR;
+use tillbox_jobs::job::{Job, Output};
+use tillbox_storage::messages::{Reported, say};
+use tillbox_why::Asked;
 
 // The commands that have files.
 #[derive(Clone, Copy)]
-pub enum Kind {
+pub enum Command {
     // `decode`, `encode` and `preview`.
-    Convert,
-    Import,
+    Convert(Job),
+    Import(Policy),
     Listing,
     Shape,
     Spell,
     Table,
-    Why,
-    // The words are wrong; that was said.
-    Misused,
+    Why(Asked),
 }
 
-// A command, its job, whether lines around findings are asked for, and which argument is the first name. A shape, a listing and a spelling have
-// no job, and an import and the findings of a journal use its policy alone.
+// A command, which argument is the first name, and how many names there are.
 #[derive(Clone, Copy)]
 pub struct Call {
-    pub kind: Kind,
-    pub job: Job,
-    pub context: bool,
+    pub command: Command,
     pub first: usize,
-}
-
-// A job without a checkpoint that is not counted: the end of the input is the text's end.
-fn whole(direction: Direction, policy: Policy) -> Job {
-    Job {
-        direction,
-        policy,
-        asked: false,
-        last: true,
-        saves: false,
-        counts: false,
-        width: 0,
-    }
-}
-
-// A command that needs no more of a job than its policy.
-fn plain(kind: Kind, policy: Policy, first: usize) -> Call {
-    let job = whole(Direction::Decoding, policy);
-    Call {
-        kind,
-        job,
-        context: false,
-        first,
-    }
+    pub names: usize,
 }
 
 // Says what is wrong with the words of the call, and where the right ones are.
-fn misused(what: &[u8]) -> Call {
-    io::write_all(STDERR, b"tillbox: error: ");
-    io::write_all(STDERR, what);
-    io::write_all(STDERR, b"\ntillbox: the words of a call: tillbox help\n");
-    plain(Kind::Misused, Policy::standard(), 0)
+fn misused(what: &[u8]) -> Reported {
+    say(b"tillbox: error: ");
+    say(what);
+    say(b"\ntillbox: the words of a call: tillbox help\n");
+    Reported
 }
 
-// `decode` and `encode`: the words before the names, and three files or, with a checkpoint, four.
-fn convert_call(rt: &HostRuntime, direction: Direction) -> Call {
-    let chosen = options::chosen(rt);
-    if !chosen.valid {
-        return misused(b"a policy is three digits");
+// A call with so many names from an argument on. Where there are more or fewer, that is said.
+fn with_names(
+    rt: &HostRuntime,
+    command: Command,
+    first: usize,
+    names: usize,
+) -> Result<Call, Reported> {
+    if options::names_from(rt, first) != names {
+        return Err(misused(match names {
+            1 => b"one name of a file is asked for",
+            2 => b"two names of files are asked for",
+            _ => b"three names of files are asked for",
+        }));
     }
-    let first = chosen.next;
-    let names = options::names_from(rt, first);
-    let saves = names == 4;
-    if names != 3 {
-        if !saves {
-            return misused(b"three or four names of files are asked for");
-        }
+    Ok(Call {
+        command,
+        first,
+        names,
+    })
+}
+
+// The policy that was asked for, if one was.
+fn policy_of(chosen: Options) -> Result<Option<Policy>, Reported> {
+    match chosen.policy {
+        Ok(policy) => Ok(policy),
+        Err(_) => Err(misused(b"a policy is three digits")),
     }
-    let policy = chosen.policy;
+}
+
+// `decode` and `encode`: the words before the names, and three files or, with a checkpoint, four. Without one the end of the input is the
+// text's end.
+fn convert_call(rt: &HostRuntime, direction: Direction) -> Result<Call, Reported> {
+    let chosen = Options::chosen_from(rt, 2);
+    let policy = policy_of(chosen)?;
+    let names = options::names_from(rt, chosen.next);
+    if names != 3 && names != 4 {
+        return Err(misused(b"three or four names of files are asked for"));
+    }
     let job = Job {
         direction,
         policy,
-        asked: chosen.asked,
-        last: chosen.last || !saves,
-        saves,
-        counts: false,
-        width: 0,
+        last: chosen.last || names == 3,
+        output: Output::Text,
     };
-    let kind = Kind::Convert;
-    Call {
-        kind,
-        job,
-        context: false,
-        first,
-    }
+    Ok(Call {
+        command: Command::Convert(job),
+        first: chosen.next,
+        names,
+    })
 }
 
-// The receipt that the printer would get, its lines broken to a width unless that is 0 (CR 12). It gets through, under 555 by name, and
-// counts what it replaces (CR 4).
-fn preview_from(rt: &HostRuntime, first: usize, width: u64) -> Call {
-    if options::names_from(rt, first) != 3 {
-        return misused(b"three names of files are asked for");
-    }
-    let mut job = whole(Direction::Encoding, Policy::replacing());
-    job.counts = true;
-    job.width = width;
-    let kind = Kind::Convert;
-    Call {
-        kind,
-        job,
-        context: false,
-        first,
-    }
-}
-
-// A preview from an argument on, where no word but names may stand.
-fn preview_names(rt: &HostRuntime, first: usize, width: u64) -> Call {
-    let words = options::chosen_from(rt, first);
-    if words.asked || words.last {
-        return misused(
+// The receipt that the printer would get, its lines broken to a width if there is one (CR 12), from an argument on, where no word but names may
+// stand. It gets through, under 555 by name, and counts what it replaces (CR 4).
+fn preview_from(rt: &HostRuntime, first: usize, output: Output) -> Result<Call, Reported> {
+    let words = Options::chosen_from(rt, first);
+    if words.last || !matches!(words.policy, Ok(None)) {
+        return Err(misused(
             b"preview takes no policy and no last: it encodes the whole ledger, under policy 555",
-        );
+        ));
     }
-    preview_from(rt, first, width)
+    let job = Job {
+        direction: Direction::Encoding,
+        policy: Some(Policy::replacing()),
+        last: true,
+        output,
+    };
+    with_names(rt, Command::Convert(job), first, 3)
 }
 
 // The words of a preview.
-fn preview_call(rt: &HostRuntime) -> Call {
-    if options::is_word(rt, 2, b"width") {
-        let width = options::width_at(rt, 3);
-        if width == 0 {
-            return misused(b"a width is a number of 1 to 65,536");
-        }
-        return preview_names(rt, 4, width);
+fn preview_call(rt: &HostRuntime) -> Result<Call, Reported> {
+    if !options::is_word(rt, 2, b"width") {
+        return preview_from(rt, 2, Output::Preview);
     }
-    preview_names(rt, 2, 0)
+    match options::width_at(rt, 3) {
+        Some(width) => preview_from(rt, 4, Output::Printed(width)),
+        None => Err(misused(b"a width is a number of 1 to 65,536")),
+    }
 }
 
 // The policy of an import and of the findings: the one that was asked for, or 555 by name, so that a damaged night is got through (CR 4).
-fn through_policy(chosen: Options) -> Policy {
-    if chosen.asked {
-        let policy = chosen.policy;
-        return policy;
-    }
-    Policy::replacing()
+fn through_policy(chosen: Options) -> Result<Policy, Reported> {
+    Ok(policy_of(chosen)?.unwrap_or(Policy::replacing()))
 }
 
 // `import`: a policy, if one is asked for, and three files.
-fn import_call(rt: &HostRuntime) -> Call {
-    let chosen = options::chosen(rt);
-    if !chosen.valid {
-        return misused(b"a policy is three digits");
-    }
+fn import_call(rt: &HostRuntime) -> Result<Call, Reported> {
+    let chosen = Options::chosen_from(rt, 2);
+    let policy = through_policy(chosen)?;
     if chosen.last {
-        return misused(b"import has no word last: the journal is complete");
+        return Err(misused(b"import has no word last: the journal is complete"));
     }
-    let first = chosen.next;
-    if options::names_from(rt, first) != 3 {
-        return misused(b"three names of files are asked for");
-    }
-    plain(Kind::Import, through_policy(chosen), first)
+    with_names(rt, Command::Import(policy), chosen.next, 3)
 }
 
 // `why`: a policy and the lines around, if they are asked for, and two files.
-fn why_call(rt: &HostRuntime) -> Call {
-    let chosen = options::chosen_for_why(rt);
-    if !chosen.valid {
-        return misused(b"a policy is three digits");
-    }
-    let first = chosen.next;
-    if options::names_from(rt, first) != 2 {
-        return misused(b"two names of files are asked for");
-    }
-    let mut call = plain(Kind::Why, through_policy(chosen), first);
-    call.context = chosen.context;
-    call
-}
-
-// `listing` and `table`: two files.
-fn listing_call(rt: &HostRuntime, kind: Kind) -> Call {
-    if options::count(rt) != 4 {
-        return misused(b"two names of files are asked for");
-    }
-    plain(kind, Policy::standard(), 2)
-}
-
-// `shape`: the shape report of one table image.
-fn shape_call(rt: &HostRuntime) -> Call {
-    if options::count(rt) != 3 {
-        return misused(b"one name of a file is asked for");
-    }
-    plain(Kind::Shape, Policy::standard(), 2)
-}
-
-// `spell`: three files.
-fn spell_call(rt: &HostRuntime) -> Call {
-    if options::count(rt) != 5 {
-        return misused(b"three names of files are asked for");
-    }
-    plain(Kind::Spell, Policy::standard(), 2)
-}
-
-// The command that the first word names, of those on a table image or its listing.
-fn table_command(rt: &HostRuntime) -> Call {
-    if options::is_word(rt, 1, b"shape") {
-        return shape_call(rt);
-    }
-    if options::is_word(rt, 1, b"listing") {
-        return listing_call(rt, Kind::Listing);
-    }
-    if options::is_word(rt, 1, b"table") {
-        return listing_call(rt, Kind::Table);
-    }
-    misused(b"no such command")
+fn why_call(rt: &HostRuntime) -> Result<Call, Reported> {
+    let chosen = Options::chosen_for_why(rt);
+    let asked = Asked {
+        policy: through_policy(chosen)?,
+        context: chosen.context,
+    };
+    with_names(rt, Command::Why(asked), chosen.next, 2)
 }
 
 // The command that the first word names.
-pub fn command(rt: &HostRuntime) -> Call {
+fn call_of(rt: &HostRuntime, word: &[u8]) -> Result<Call, Reported> {
+    match word {
+        b"decode" => convert_call(rt, Direction::Decoding),
+        b"encode" => convert_call(rt, Direction::Encoding),
+        b"import" => import_call(rt),
+        b"preview" => preview_call(rt),
+        b"spell" => with_names(rt, Command::Spell, 2, 3),
+        b"why" => why_call(rt),
+        b"shape" => with_names(rt, Command::Shape, 2, 1),
+        b"listing" => with_names(rt, Command::Listing, 2, 2),
+        b"table" => with_names(rt, Command::Table, 2, 2),
+        _ => Err(misused(b"no such command")),
+    }
+}
+
+// What the words of the call ask for.
+pub fn read(rt: &HostRuntime) -> Result<Call, Reported> {
     if options::count(rt) < 2 {
-        return misused(b"a command is asked for");
+        return Err(misused(b"a command is asked for"));
     }
-    if options::is_word(rt, 1, b"decode") {
-        return convert_call(rt, Direction::Decoding);
-    }
-    if options::is_word(rt, 1, b"encode") {
-        return convert_call(rt, Direction::Encoding);
-    }
-    if options::is_word(rt, 1, b"import") {
-        return import_call(rt);
-    }
-    if options::is_word(rt, 1, b"preview") {
-        return preview_call(rt);
-    }
-    if options::is_word(rt, 1, b"spell") {
-        return spell_call(rt);
-    }
-    if options::is_word(rt, 1, b"why") {
-        return why_call(rt);
-    }
-    table_command(rt)
+    let mut buffer = [0u8; 16];
+    call_of(rt, options::word_at(rt, 1, &mut buffer).unwrap_or(b""))
 }

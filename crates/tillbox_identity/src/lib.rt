@@ -4,109 +4,73 @@
 
 mod path;
 
-ghost use Rattle.tillbox_identity.specs.Answers.{Status};
-
 pub use crate::path::text_of;
 use std::fs::{File, Metadata};
 use std::io::ErrorKind;
 use std::os::unix::fs::MetadataExt;
 use std::{fs, io};
 
-// The bits of a mode that tell the kind of a file, and those of a plain one.
-const S_IFMT: u32 = 0o170000;
-
-const S_IFREG: u32 = 0o100000;
-
-// What the system tells of a file: whether it did (0), the device, the file's number there, and its mode; and where it did not, whether
-// that is since there is no such file.
-#[derive(Clone, Copy)]
+// Which file it is: its device, and its number there.
+#[derive(Clone, Copy, PartialEq, Eq)]
 pub struct Identity {
-    pub status: i32,
-    pub device: u64,
-    pub number: u64,
-    pub mode: u32,
-    pub missing: bool,
+    device: u64,
+    number: u64,
 }
 
-// Takes out of the system's record what tells files apart.
-fn told(answer: io::Result<Metadata>) -> Identity
-    ensures { Status result.status }
-{
-    match answer {
-        Ok(record) => Identity {
-            status: 0,
-            device: record.dev(),
-            number: record.ino(),
-            mode: record.mode(),
-            missing: false,
-        },
-        Err(error) => untold(error),
+// What the system tells of a file.
+#[derive(Clone, Copy)]
+pub struct Known {
+    pub identity: Identity,
+    // Whether it is a plain file: no folder, pipe or device.
+    pub is_plain: bool,
+}
+
+// Why the system tells nothing of a file.
+#[derive(Clone, Copy, PartialEq, Eq)]
+pub enum Unknown {
+    // There is no such file.
+    Missing,
+    // Another reason.
+    Untold,
+}
+
+impl From<Metadata> for Known {
+    fn from(record: Metadata) -> Known {
+        Known {
+            identity: Identity {
+                device: record.dev(),
+                number: record.ino(),
+            },
+            is_plain: record.is_file(),
+        }
     }
 }
 
-// Nothing was told.
-fn untold(error: io::Error) -> Identity
-    ensures { Status result.status }
-{
-    Identity {
-        status: -1,
-        device: 0,
-        number: 0,
-        mode: 0,
-        missing: error.kind() == ErrorKind::NotFound,
+impl From<io::Error> for Unknown {
+    fn from(error: io::Error) -> Unknown {
+        match error.kind() {
+            ErrorKind::NotFound => Unknown::Missing,
+            _ => Unknown::Untold,
+        }
     }
 }
 
 // Which file is open.
-pub fn of(file: &File) -> Identity
-    ensures { Status result.status }
-{
-    told(file.metadata())
+pub fn of(file: &File) -> Result<Known, Unknown> {
+    Ok(file.metadata()?.into())
 }
 
 // Which file a path names, links followed.
-pub fn at(rt: &HostRuntime, path: &[u8]) -> Identity
-    ensures { Status result.status }
-{
-    match text_of(path) {
-        Ok(name) => told(fs::metadata(rt, name)),
-        Err(error) => untold(error),
-    }
+pub fn at(rt: &HostRuntime, path: &[u8]) -> Result<Known, Unknown> {
+    Ok(fs::metadata(rt, text_of(path)?)?.into())
 }
 
 // Whether a path names a link.
 pub fn is_link(rt: &HostRuntime, path: &[u8]) -> bool {
-    let Ok(name) = text_of(path) else {
-        return false;
-    };
-    match fs::symlink_metadata(rt, name) {
-        Ok(record) => record.is_symlink(),
-        Err(_) => false,
-    }
+    link_at(rt, path).unwrap_or(false)
 }
 
-impl Identity {
-    // Whether there is such a file.
-    pub fn is_known(self) -> bool {
-        self.status == 0
-    }
-
-    // Whether it is a plain file: no folder, pipe or device.
-    pub fn is_plain(self) -> bool {
-        self.mode & S_IFMT == S_IFREG
-    }
-
-    // Whether both are one file.
-    pub fn is_same(self, other: Identity) -> bool {
-        if self.status != 0 {
-            return false;
-        }
-        if other.status != 0 {
-            return false;
-        }
-        if self.device != other.device {
-            return false;
-        }
-        self.number == other.number
-    }
+// The same, or why the system did not tell it.
+fn link_at(rt: &HostRuntime, path: &[u8]) -> io::Result<bool> {
+    Ok(fs::symlink_metadata(rt, text_of(path)?)?.is_symlink())
 }

@@ -1,285 +1,85 @@
 // The blocks of a journal, one after the other: each is decoded by one call with room enough, and cut into fields.
-use crate::cutting;
-use crate::cutting::Cut;
-use crate::records::Progress;
-use codepage::Numbers;
-use convert::{Outcome, Pending, Run};
+use crate::cutting::Begun;
+use crate::records::Records;
+use codepage::TableSet;
+use convert::{Answer, Pending, Run};
 use fields::Held;
-use std::fs::File;
-use tillbox_checks::kinds;
-use tillbox_checks::kinds::Kinds;
-use tillbox_jobs::blocks::{kinds_of_decoding, stop_of_decoding};
-use tillbox_jobs::stops::Stop;
-use tillbox_jobs::{report, stops};
-use tillbox_storage::{files, messages};
+use tillbox_jobs::blocks::{Turn, turn_of};
+use tillbox_jobs::report;
+use tillbox_layout::front_len;
+use tillbox_storage::files::OpenFile;
+use tillbox_storage::messages;
+use tillbox_storage::messages::Reported;
 
-// After some blocks: the run, the code that it was stopped at, the codes without a character that it met before, what is held of a field, and how far the file is; whether a field
-// has too many units, and then the byte that its first unit over the limit is read from; and whether something failed, whose reason
-// was said.
+// After some blocks: their turn, and where a field has too many units, the byte that its first unit over the limit is read from.
 #[derive(Clone, Copy)]
-pub struct Turn {
-    pub run: Run,
-    pub stop: Stop,
-    pub kinds: Kinds,
-    pub state: Held,
-    pub progress: Progress,
-    pub refused: bool,
-    pub place: u64,
-    pub failed: bool,
+pub struct Imported {
+    pub turn: Turn,
+    pub too_long: Option<u64>,
 }
 
 // How many units of a block stand before the first one over the limit: `read` of them are read, and `held` units are held.
 fn over_limit(read: usize, held: usize) -> usize {
-    if Held::LIMIT < held {
-        return read;
-    }
-    if 1000000 < read {
-        return read;
-    }
-    read + (Held::LIMIT - held)
-}
-
-// The unit before the one that is read next.
-fn unit_before(read: u64) -> u64 {
-    if read == 0 {
-        return 0;
-    }
-    read - 1
+    read.saturating_add(Held::LIMIT.saturating_sub(held))
 }
 
 // The byte where a run stands: that of the pending one, if there is one.
 fn byte_of(run: Run) -> u64 {
-    let pending = run.pending;
-    match pending {
+    match run.pending {
         Pending::Nothing => run.read,
-        Pending::Byte(_) => unit_before(run.read),
-        Pending::High(_) => unit_before(run.read),
+        _ => run.read.saturating_sub(1),
     }
 }
 
 // The byte that a unit of a block is read from: the block is decoded again, with room for the `before` units before it.
-fn byte_at(
-    run: Run,
-    numbers: Numbers,
-    classes: &[u8],
-    singles: &[u16],
-    pairs: &[u16],
-    index: &[u8],
-    blocks: &[u16],
-    block: &[u8],
-    last: bool,
-    before: usize,
-) -> u64 {
+fn byte_at(run: Run, tables: &TableSet, block: &[u8], last: bool, before: usize) -> u64 {
     let mut units = [0u16; 1024];
-    let room = tillbox_layout::front_units(before, &units);
-    let outcome = convert::decode(
-        run,
-        numbers,
-        classes,
-        singles,
-        pairs,
-        index,
-        blocks,
-        block,
-        last,
-        &mut units[..room],
-    );
-    let after = outcome.run;
-    byte_of(after)
-}
-
-// A call that was not taken, or a block that could not be read.
-fn broken(run: Run, state: Held, progress: Progress) -> Turn {
-    Turn {
-        run,
-        stop: stops::none(),
-        kinds: kinds::none(),
-        state,
-        progress,
-        refused: false,
-        place: 0,
-        failed: true,
-    }
-}
-
-// A block whose units were cut, as far as they could be.
-fn settled(run: Run, stop: Stop, kinds: Kinds, cut: Cut, place: u64) -> Turn {
-    let state = cut.state;
-    let progress = cut.progress;
-    Turn {
-        run,
-        stop,
-        kinds,
-        state,
-        progress,
-        refused: cut.refused,
-        place,
-        failed: progress.failed,
-    }
-}
-
-// A block whose units were cut, with the code that its call stopped the run at, or the place of a field that is too long: `before`
-// is the run before the call.
-fn told(
-    before: Run,
-    numbers: Numbers,
-    classes: &[u8],
-    singles: &[u16],
-    pairs: &[u16],
-    index: &[u8],
-    blocks: &[u16],
-    block: &[u8],
-    last: bool,
-    outcome: Outcome,
-    cut: Cut,
-) -> Turn {
-    let after = outcome.run;
-    if !cut.refused {
-        let stop = stop_of_decoding(
-            before, numbers, classes, singles, pairs, index, blocks, block, outcome,
-        );
-        let kinds = kinds_of_decoding(
-            before, numbers, classes, singles, pairs, index, blocks, block, last, outcome, stop,
-        );
-        return settled(after, stop, kinds, cut, 0);
-    }
-    let held = cut.state;
-    let place = byte_at(
-        before,
-        numbers,
-        classes,
-        singles,
-        pairs,
-        index,
-        blocks,
-        block,
-        last,
-        over_limit(cut.read, held.count),
-    );
-    settled(after, stops::none(), kinds::none(), cut, place)
+    let room = front_len(before, &units);
+    byte_of(convert::decode(run, tables, block, last, &mut units[..room]).run)
 }
 
 // Decodes a block and cuts its units.
 fn cut_block(
     run: Run,
-    state: Held,
-    progress: Progress,
-    numbers: Numbers,
-    classes: &[u8],
-    singles: &[u16],
-    pairs: &[u16],
-    index: &[u8],
-    blocks: &[u16],
+    tables: &TableSet,
     block: &[u8],
     last: bool,
-    buffer: &mut [u16],
-    out: &mut [u16],
-    target: &File,
-    input: &[u8],
-    output: &[u8],
-) -> Turn {
+    begun: &mut Begun,
+    records: &mut Records,
+    source: &OpenFile,
+) -> Result<Imported, Reported> {
     let mut units = [0u16; 1024];
-    let outcome = convert::decode(
-        run, numbers, classes, singles, pairs, index, blocks, block, last, &mut units,
-    );
-    let answer = outcome.answer;
-    let after = outcome.run;
-    let number = answer.number();
-    if !messages::is_taken(number) {
-        messages::refuse(number, input);
-        return broken(after, state, progress);
-    }
-    let filled = tillbox_layout::front_units(outcome.written, &units);
-    let ends = last && number == 0;
-    let cut = cutting::cut_units(
-        progress,
-        state,
-        &units[..filled],
-        ends,
-        buffer,
-        out,
-        target,
-        output,
-    );
-    told(
-        run, numbers, classes, singles, pairs, index, blocks, block, last, outcome, cut,
-    )
+    let outcome = convert::decode(run, tables, block, last, &mut units);
+    messages::taken(outcome.answer, source.path)?;
+    let filled = front_len(outcome.written, &units);
+    let ends = last && matches!(outcome.answer, Answer::AllRead);
+    let Some(read) = begun.cut_units(&units[..filled], ends, records)? else {
+        return Ok(Imported {
+            turn: turn_of(run, tables, block, last, outcome),
+            too_long: None,
+        });
+    };
+    let before = over_limit(read, begun.held.count);
+    Ok(Imported {
+        turn: Turn::first(outcome.run),
+        too_long: Some(byte_at(run, tables, block, last, before)),
+    })
 }
 
 // The next block.
 fn next_block(
     run: Run,
-    state: Held,
-    progress: Progress,
-    numbers: Numbers,
-    classes: &[u8],
-    singles: &[u16],
-    pairs: &[u16],
-    index: &[u8],
-    blocks: &[u16],
-    buffer: &mut [u16],
-    out: &mut [u16],
-    source: &File,
-    target: &File,
+    tables: &TableSet,
+    begun: &mut Begun,
+    records: &mut Records,
+    source: &OpenFile,
     total: u64,
-    input: &[u8],
-    output: &[u8],
-) -> Turn {
+) -> Result<Imported, Reported> {
     let size = tillbox_layout::block_len(tillbox_layout::BLOCK, run.read, total);
     let last = tillbox_layout::is_final(tillbox_layout::BLOCK, run.read, total);
     let mut block = [0u8; 512];
-    let got = files::read_block(source, size, &mut block, input);
-    if got.failed {
-        return broken(run, state, progress);
-    }
-    let count = got.count;
-    cut_block(
-        run,
-        state,
-        progress,
-        numbers,
-        classes,
-        singles,
-        pairs,
-        index,
-        blocks,
-        &block[..count],
-        last,
-        buffer,
-        out,
-        target,
-        input,
-        output,
-    )
-}
-
-// A turn with the codes without a character that all blocks up to it met.
-fn with_kinds(turn: Turn, kinds: Kinds) -> Turn {
-    let run = turn.run;
-    let stop = turn.stop;
-    let state = turn.state;
-    let progress = turn.progress;
-    Turn {
-        run,
-        stop,
-        kinds,
-        state,
-        progress,
-        refused: turn.refused,
-        place: turn.place,
-        failed: turn.failed,
-    }
-}
-
-// Whether no block follows.
-fn is_over(turn: Turn) -> bool {
-    if turn.failed {
-        return true;
-    }
-    if turn.refused {
-        return true;
-    }
-    turn.run.ended
+    source.read_block(&mut block[..size])?;
+    cut_block(run, tables, &block[..size], last, begun, records, source)
 }
 
 // One line for each 4 MiB of a journal.
@@ -292,50 +92,27 @@ fn on_the_way(run: Run, done: u64, total: u64) {
 // All blocks of a journal of `total` bytes, to its end, to a stop, or to a field that has too many units.
 pub fn all_blocks(
     run: Run,
-    progress: Progress,
-    numbers: Numbers,
-    classes: &[u8],
-    singles: &[u16],
-    pairs: &[u16],
-    index: &[u8],
-    blocks: &[u16],
-    buffer: &mut [u16],
-    out: &mut [u16],
-    source: &File,
-    target: &File,
+    tables: &TableSet,
+    records: &mut Records,
+    source: &OpenFile,
     total: u64,
-    input: &[u8],
-    output: &[u8],
-) -> Turn {
+) -> Result<Imported, Reported> {
     let count = tillbox_layout::block_count(run.read, total, true);
-    let mut run = run;
-    let mut state = Held::fresh();
-    let mut so_far = progress;
-    let mut met = kinds::none();
-    let mut done = 0;
-    while done < count {
-        let turn = next_block(
-            run, state, so_far, numbers, classes, singles, pairs, index, blocks, buffer, out,
-            source, target, total, input, output,
-        );
-        met = met.with(turn.kinds);
-        if is_over(turn) {
-            return with_kinds(turn, met);
+    let mut begun = Begun::nothing();
+    let mut turn = Turn::first(run);
+    for done in 0..count {
+        let next = next_block(turn.run, tables, &mut begun, records, source, total)?;
+        turn = next.turn.behind(turn);
+        if next.too_long.is_some() || turn.run.ended {
+            return Ok(Imported {
+                turn,
+                too_long: next.too_long,
+            });
         }
-        run = turn.run;
-        state = turn.state;
-        so_far = turn.progress;
-        done += 1;
-        on_the_way(run, done, total);
+        on_the_way(turn.run, done + 1, total);
     }
-    Turn {
-        run,
-        stop: stops::none(),
-        kinds: met,
-        state,
-        progress: so_far,
-        refused: false,
-        place: 0,
-        failed: false,
-    }
+    Ok(Imported {
+        turn,
+        too_long: None,
+    })
 }

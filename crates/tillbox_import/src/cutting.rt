@@ -1,118 +1,61 @@
 // The units of a decoded block, cut into fields.
-ghost use Rattle.std.specs.Prelude.{◌≡◌, false, ◌<◌};
+use crate::records::Records;
+use fields::{Answer, Held};
+use tillbox_storage::messages::Reported;
 
-use crate::records;
-use crate::records::Progress;
-use fields::{Answer, Found, Held};
-use std::fs::File;
-
-// After a call: how far the file is, what is held, how many units it read, and whether the next field has more units than the limit.
+// What is held of a field that was begun in an earlier block, at the front of a buffer.
 #[derive(Clone, Copy)]
-pub struct Cut {
-    pub progress: Progress,
-    pub state: Held,
-    pub read: usize,
-    pub refused: bool,
+pub struct Begun {
+    pub held: Held,
+    buffer: [u16; 256],
 }
 
-// Puts a field that was found into the file.
-fn put_found<'a>(
-    progress: Progress,
-    state: Held,
-    found: Found,
-    buffer: &'a [u16],
-    rest: &'a [u16],
-    out: &mut [u16],
-    target: &File,
-    path: &[u8],
-) -> Cut {
-    let end = found.end;
-    let field = fields::field(buffer, rest, found);
-    let closed = rfc4180::closes_record(end);
-    let after = records::put(progress, field, closed, out, target, path);
-    Cut {
-        progress: after,
-        state,
-        read: found.read,
-        refused: false,
-    }
-}
-
-// The next field of a block, put into the file, or the whole block held.
-fn next(
-    progress: Progress,
-    state: Held,
-    rest: &[u16],
-    last: bool,
-    buffer: &mut [u16],
-    out: &mut [u16],
-    target: &File,
-    path: &[u8],
-) -> Cut {
-    let outcome = fields::next_field(state, buffer, rest, last);
-    let answer = outcome.answer;
-    let after = outcome.state;
-    match answer {
-        Answer::Field(found) => put_found(progress, after, found, buffer, rest, out, target, path),
-        Answer::Incomplete(read) => Cut {
-            progress,
-            state: after,
-            read,
-            refused: false,
-        },
-        Answer::Refused(_) => Cut {
-            progress,
-            state: after,
-            read: 0,
-            refused: true,
-        },
-    }
-}
-
-// Whether a block is done after a call on what was left of it: all is read, or it can not be read on.
-fn is_done(cut: Cut, left: usize) -> bool
-    ensures { result ≡ false → (0 < cut.read) × (cut.read < left) }
-{
-    if cut.refused {
-        return true;
-    }
-    if cut.progress.failed {
-        return true;
-    }
-    if cut.read == 0 {
-        return true;
-    }
-    left <= cut.read
-}
-
-// All fields that are complete in a block, and the rest of it held. At the end of the text the last one is complete too. Each
-// call but the last one reads a unit. The result is that of the last call, with the units that were read before it.
-pub fn cut_units(
-    progress: Progress,
-    state: Held,
-    units: &[u16],
-    last: bool,
-    buffer: &mut [u16],
-    out: &mut [u16],
-    target: &File,
-    path: &[u8],
-) -> Cut {
-    let mut p = progress;
-    let mut held = state;
-    let mut at = 0;
-    loop {
-        let turn = next(p, held, &units[at..], last, buffer, out, target, path);
-        p = turn.progress;
-        held = turn.state;
-        let left = units.len() - at;
-        if is_done(turn, left) {
-            return Cut {
-                progress: p,
-                state: held,
-                read: at,
-                refused: turn.refused,
-            };
+impl Begun {
+    // Nothing is held.
+    pub fn nothing() -> Begun {
+        Begun {
+            held: Held::fresh(),
+            buffer: [0; 256],
         }
-        at += turn.read;
+    }
+
+    // The next field of a block, put into the file, or the whole block held: how many units were read. None where the field has more units
+    // than the limit.
+    fn cut_next(
+        &mut self,
+        rest: &[u16],
+        last: bool,
+        records: &mut Records,
+    ) -> Result<Option<usize>, Reported> {
+        match fields::next_field(&mut self.held, &mut self.buffer, rest, last) {
+            Ok(Answer::Field(found)) => {
+                let field = fields::field(&self.buffer, rest, found);
+                records.put(field, rfc4180::closes_record(found.end))?;
+                Ok(Some(found.read))
+            }
+            Ok(Answer::Incomplete(read)) => Ok(Some(read)),
+            Err(_) => Ok(None),
+        }
+    }
+
+    // All fields that are complete in a block, put into the file, and the rest of it held. At the end of the text the last one is complete
+    // too. Each call but the last one reads a unit. Where a field has more units than the limit, gives how many units stand before it.
+    pub fn cut_units(
+        &mut self,
+        units: &[u16],
+        last: bool,
+        records: &mut Records,
+    ) -> Result<Option<usize>, Reported> {
+        let mut at = 0;
+        loop {
+            let rest = &units[at..];
+            let Some(read) = self.cut_next(rest, last, records)? else {
+                return Ok(Some(at));
+            };
+            if read == 0 || rest.len() <= read {
+                return Ok(None);
+            }
+            at += read;
+        }
     }
 }

@@ -1,177 +1,87 @@
 // An import: a journal's records in a file that is made anew.
-use crate::blocks::Turn;
-use crate::{blocks, records, report};
-use codepage::Numbers;
-use convert::{Direction, Policy, Run, Started};
-use std::fs::File;
+use crate::blocks::Imported;
+use crate::records::Records;
+use crate::{blocks, report};
+use codepage::TableSet;
+use convert::{Direction, Policy, Refusal, Run};
 use tillbox_jobs::job::{Ending, closed};
+use tillbox_jobs::names::Names;
+use tillbox_jobs::resume::start;
 use tillbox_jobs::stops::is_stopped;
 use tillbox_jobs::tables;
+use tillbox_storage::files::OpenFile;
+use tillbox_storage::messages::Reported;
 use tillbox_storage::{files, messages};
 
-// The end of an import that was not read to its end: whole records stay, and what happened is said.
-fn broken_off(turn: Turn, out: &[u16], target: &File, input: &[u8], output: &[u8]) -> Ending {
-    let run = turn.run;
-    let met = turn.kinds;
-    let reached = turn.progress;
-    let progress = records::cut(reached, out, target, output);
-    if progress.failed {
-        return Ending::Failed;
+// The end of an import whose journal has a field that is too long, at a byte: whole records stay.
+fn too_long(imported: Imported, place: u64, records: &mut Records, input: &[u8]) -> Reported {
+    if records.cut().is_ok() {
+        report::too_long(place, records.progress, input);
+        report::summary(imported.turn, records.progress);
     }
-    if turn.refused {
-        report::too_long(turn, input);
-        report::summary(run, met, progress);
-        return Ending::Failed;
-    }
-    report::summary(run, met, progress);
-    report::stopped(turn);
-    Ending::Stopped
+    Reported
+}
+
+// The end of an import that was stopped by its policy: whole records stay.
+fn stopped(imported: Imported, records: &mut Records) -> Result<Ending, Reported> {
+    records.cut()?;
+    report::summary(imported.turn, records.progress);
+    report::stopped(imported.turn, records.progress);
+    Ok(Ending::Stopped)
 }
 
 // The end of an import.
-fn finished(turn: Turn, out: &mut [u16], target: &File, input: &[u8], output: &[u8]) -> Ending {
-    let run = turn.run;
-    let met = turn.kinds;
-    let reached = turn.progress;
-    if turn.failed {
-        return Ending::Failed;
+fn finished(imported: Imported, records: &mut Records, input: &[u8]) -> Result<Ending, Reported> {
+    if let Some(place) = imported.too_long {
+        return Err(too_long(imported, place, records, input));
     }
-    if turn.refused {
-        return broken_off(turn, out, target, input, output);
+    if is_stopped(imported.turn.run) {
+        return stopped(imported, records);
     }
-    if is_stopped(run) {
-        return broken_off(turn, out, target, input, output);
-    }
-    let progress = records::finish(reached, out, target, output);
-    if progress.failed {
-        return Ending::Failed;
-    }
-    report::summary(run, met, progress);
-    Ending::Done
+    records.finish()?;
+    report::summary(imported.turn, records.progress);
+    Ok(Ending::Done)
 }
 
 // From an open records file on.
 fn with_target(
     run: Run,
-    numbers: Numbers,
-    classes: &[u8],
-    singles: &[u16],
-    pairs: &[u16],
-    index: &[u8],
-    blocks: &[u16],
-    source: &File,
-    target: &File,
+    tables: &TableSet,
+    source: &OpenFile,
+    target: &OpenFile,
     total: u64,
-    input: &[u8],
-    output: &[u8],
-) -> Ending {
-    let mut buffer = [0u16; 256];
-    let mut out = [0u16; 1024];
-    let progress = records::begin(&mut out);
-    let turn = blocks::all_blocks(
-        run,
-        progress,
-        numbers,
-        classes,
-        singles,
-        pairs,
-        index,
-        blocks,
-        &mut buffer,
-        &mut out,
-        source,
-        target,
-        total,
-        input,
-        output,
-    );
-    finished(turn, &mut out, target, input, output)
-}
-
-// From a run on.
-fn with_run(
-    rt: &HostRuntime,
-    run: Run,
-    numbers: Numbers,
-    classes: &[u8],
-    singles: &[u16],
-    pairs: &[u16],
-    index: &[u8],
-    blocks: &[u16],
-    source: &File,
-    total: u64,
-    input: &[u8],
-    output: &[u8],
-) -> Ending {
-    if !files::seek(source, 0, input) {
-        return Ending::Failed;
-    }
-    let Some(target) = files::make(rt, output) else {
-        return Ending::Failed;
-    };
-    let ending = with_target(
-        run, numbers, classes, singles, pairs, index, blocks, source, &target, total, input, output,
-    );
-    closed(ending, target, output)
+) -> Result<Ending, Reported> {
+    let mut records = Records::begin(target);
+    let imported = blocks::all_blocks(run, tables, &mut records, source, total)?;
+    finished(imported, &mut records, source.path)
 }
 
 // From an open journal on.
 fn with_input(
     rt: &HostRuntime,
     policy: Policy,
-    numbers: Numbers,
-    classes: &[u8],
-    singles: &[u16],
-    pairs: &[u16],
-    index: &[u8],
-    blocks: &[u16],
-    source: &File,
-    input: &[u8],
+    tables: &TableSet,
+    source: &OpenFile,
     output: &[u8],
-) -> Ending {
-    let size = files::size_of(source, input);
-    if size < 0 {
-        return Ending::Failed;
-    }
-    let total = tillbox_layout::size_of(size);
+) -> Result<Ending, Reported> {
+    let total = source.size()?;
     if Run::READ_LIMIT < total {
-        messages::refuse(16, input);
-        return Ending::Failed;
+        return Err(messages::refuse(Refusal::ReadLimit.number(), source.path));
     }
-    let started = Run::start(Direction::Decoding, numbers.page, policy);
-    match started {
-        Started::Refused => {
-            messages::refuse(17, b"policy");
-            tillbox_jobs::report::digits_refused(policy, Direction::Decoding);
-            Ending::Failed
-        }
-        Started::Accepted(run) => with_run(
-            rt, run, numbers, classes, singles, pairs, index, blocks, source, total, input, output,
-        ),
-    }
+    let run = start(Direction::Decoding, tables.numbers.page, policy)?;
+    source.seek(0)?;
+    let target = files::make(rt, output)?;
+    closed(with_target(run, tables, source, &target, total), target)
 }
 
 // Imports a journal with a table set. What happened is said on standard error.
 pub fn with_tables(
     rt: &HostRuntime,
     policy: Policy,
-    numbers: Numbers,
-    classes: &[u8],
-    singles: &[u16],
-    pairs: &[u16],
-    index: &[u8],
-    blocks: &[u16],
-    table: &[u8],
-    input: &[u8],
-    output: &[u8],
-) -> Ending {
-    if !tables::good_shape(table, numbers, classes, singles, pairs, index, blocks) {
-        return Ending::Failed;
-    }
-    let Some(source) = files::open_input(rt, input) else {
-        return Ending::Failed;
-    };
-    with_input(
-        rt, policy, numbers, classes, singles, pairs, index, blocks, &source, input, output,
-    )
+    tables: &TableSet,
+    names: Names,
+) -> Result<Ending, Reported> {
+    tables::good_shape(names.table, tables)?;
+    let source = files::open_input(rt, names.input)?;
+    with_input(rt, policy, tables, &source, names.output)
 }

@@ -1,9 +1,9 @@
 // The records file: fields put into an output block as CSV, and the block written when it is nearly full. The file is UTF-16LE
 // with its mark first.
-use rfc4180::Put;
-use std::fs::File;
-use tillbox_layout::sum;
-use tillbox_storage::{files, messages};
+use tillbox_layout::front_len;
+use tillbox_storage::files::OpenFile;
+use tillbox_storage::messages;
+use tillbox_storage::messages::Reported;
 
 // The most units that one field takes: 256 quotes, each doubled, two quotes around them, a comma and a line break.
 const FIELD_ROOM: usize = 517;
@@ -11,145 +11,119 @@ const FIELD_ROOM: usize = 517;
 // How far the file is.
 #[derive(Clone, Copy)]
 pub struct Progress {
-    // Whether a record is begun, and how many fields it has so far.
-    pub begun: bool,
+    // How many fields the record has that is begun; 0 where none is.
     pub inside: u64,
     // The whole records, and their fields.
     pub records: u64,
     pub fields: u64,
-    // Units in the file, units that wait in the output block, and units up to the end of the last whole record.
+    // Units in the file, and units up to the end of the last whole record.
     pub written: u64,
-    pub unwritten: usize,
     pub whole: u64,
-    // Whether something could not be written; the reason was said.
-    pub failed: bool,
 }
 
-// The progress of a file that could not be written.
-fn failed(progress: Progress) -> Progress {
-    let mut p = progress;
-    p.failed = true;
-    p
+// The file, and the output block: some units at its front wait.
+#[derive(Drop)]
+pub struct Records<'a> {
+    target: &'a OpenFile<'a>,
+    block: [u16; 1024],
+    waiting: usize,
+    pub progress: Progress,
 }
 
-// The progress before the first record: nothing is in the file, and `unwritten` units of the output block are its mark.
-fn empty(unwritten: usize) -> Progress {
-    Progress {
-        begun: false,
-        inside: 0,
-        records: 0,
-        fields: 0,
-        written: 0,
-        unwritten,
-        whole: 1,
-        failed: false,
-    }
-}
-
-// The file with its mark, before the first record.
-pub fn begin(out: &mut [u16]) -> Progress {
-    if out.len() == 0 {
-        return empty(0);
-    }
-    out[0] = 0xFEFF;
-    empty(1)
-}
-
-// Writes what waits in the output block.
-fn flush(progress: Progress, out: &[u16], target: &File, path: &[u8]) -> Progress {
-    let mut p = progress;
-    let unwritten = tillbox_layout::front_units(p.unwritten, out);
-    let mut bytes = [0u8; 2048];
-    let length = utf16::to_bytes(&out[..unwritten], &mut bytes);
-    if !files::write(target, &bytes[..length], path) {
-        return failed(p);
-    }
-    p.written = sum(p.written, unwritten as u64);
-    p.unwritten = 0;
-    p
-}
-
-// The output block with room for one field more.
-fn with_room(progress: Progress, out: &[u16], target: &File, path: &[u8]) -> Progress {
-    let unwritten = tillbox_layout::front_units(progress.unwritten, out);
-    if out.len() - unwritten < FIELD_ROOM {
-        return flush(progress, out, target, path);
-    }
-    progress
-}
-
-// Some units more wait; the record at hand is begun or closed.
-fn advanced(progress: Progress, size: usize, closed: bool) -> Progress {
-    let mut p = progress;
-    let unwritten = sum(p.unwritten as u64, size as u64);
-    p.unwritten = unwritten as usize;
-    p.begun = !closed;
-    if !closed {
-        return p;
-    }
-    p.records = sum(p.records, 1);
-    p.fields = sum(p.fields, p.inside);
-    p.inside = 0;
-    p.whole = sum(p.written, unwritten);
-    p
-}
-
-// A part that was put, or not.
-fn settled(progress: Progress, put: Put, closed: bool, path: &[u8]) -> Progress {
-    match put {
-        Put::Units(size) => advanced(progress, size, closed),
-        Put::NoRoom => {
-            messages::wrong(path, b"a field is larger than the output block");
-            failed(progress)
+impl Records<'_> {
+    // The file with its mark, before the first record.
+    pub fn begin<'a>(target: &'a OpenFile<'a>) -> Records<'a> {
+        let mut block = [0u16; 1024];
+        block[0] = 0xFEFF;
+        Records {
+            target,
+            block,
+            waiting: 1,
+            progress: Progress {
+                inside: 0,
+                records: 0,
+                fields: 0,
+                written: 0,
+                whole: 1,
+            },
         }
     }
+
+    // Writes what waits in the output block.
+    fn flush(&mut self) -> Result<(), Reported> {
+        let count = front_len(self.waiting, &self.block);
+        let mut bytes = [0u8; 2048];
+        let length = utf16::to_bytes(&self.block[..count], &mut bytes);
+        self.target.write(&bytes[..length])?;
+        self.progress.written = self.progress.written.saturating_add(count as u64);
+        self.waiting = 0;
+        Ok(())
+    }
+
+    // Makes room in the output block for one field more.
+    fn make_room(&mut self) -> Result<(), Reported> {
+        let count = front_len(self.waiting, &self.block);
+        if self.block.len() - count < FIELD_ROOM {
+            return self.flush();
+        }
+        Ok(())
+    }
+
+    // Takes up a part that was put behind what waits; the record at hand is begun or closed by it.
+    fn settle(&mut self, part: Option<usize>, closed: bool) -> Result<(), Reported> {
+        let Some(size) = part else {
+            return Err(messages::wrong(
+                self.target.path,
+                b"a field is larger than the output block",
+            ));
+        };
+        self.waiting = self.waiting.saturating_add(size);
+        if closed {
+            self.progress.close(self.waiting as u64);
+        }
+        Ok(())
+    }
+
+    // Puts the next field, which closes its record or leaves it open.
+    pub fn put(&mut self, field: &[u16], closed: bool) -> Result<(), Reported> {
+        self.make_room()?;
+        let at = front_len(self.waiting, &self.block);
+        let begun = self.progress.is_begun();
+        let part = rfc4180::put_field(begun, field, closed, &mut self.block[at..]);
+        self.progress.inside = self.progress.inside.saturating_add(1);
+        self.settle(part, closed)
+    }
+
+    // Ends the file of a text that was read to its end: a record that is begun is closed.
+    pub fn finish(&mut self) -> Result<(), Reported> {
+        self.make_room()?;
+        if self.progress.is_begun() {
+            let at = front_len(self.waiting, &self.block);
+            let part = rfc4180::put_close(true, &mut self.block[at..]);
+            self.settle(part, true)?;
+        }
+        self.flush()
+    }
+
+    // Ends the file of a text that was not: its whole records stay, and nothing of the record that is begun.
+    pub fn cut(&mut self) -> Result<(), Reported> {
+        self.flush()?;
+        let end = tillbox_layout::place_of(true, self.progress.whole);
+        self.target.set_length(end)
+    }
 }
 
-// Puts the next field, which closes its record or leaves it open.
-pub fn put(
-    progress: Progress,
-    field: &[u16],
-    closed: bool,
-    out: &mut [u16],
-    target: &File,
-    path: &[u8],
-) -> Progress {
-    let mut p = with_room(progress, out, target, path);
-    if p.failed {
-        return p;
+impl Progress {
+    // Whether a record is begun.
+    fn is_begun(self) -> bool {
+        self.inside != 0
     }
-    let unwritten = tillbox_layout::front_units(p.unwritten, out);
-    let part = rfc4180::put_field(p.begun, field, closed, &mut out[unwritten..]);
-    p.inside = sum(p.inside, 1);
-    settled(p, part, closed, path)
-}
 
-// Ends the file of a text that was read to its end: a record that is begun is closed.
-pub fn finish(progress: Progress, out: &mut [u16], target: &File, path: &[u8]) -> Progress {
-    let p = with_room(progress, out, target, path);
-    if p.failed {
-        return p;
+    // The record at hand is closed; so many units wait then.
+    fn close(&mut self, waiting: u64) {
+        self.records = self.records.saturating_add(1);
+        self.fields = self.fields.saturating_add(self.inside);
+        self.inside = 0;
+        self.whole = self.written.saturating_add(waiting);
     }
-    if !p.begun {
-        return flush(p, out, target, path);
-    }
-    let unwritten = tillbox_layout::front_units(p.unwritten, out);
-    let part = rfc4180::put_close(p.begun, &mut out[unwritten..]);
-    let closed = settled(p, part, true, path);
-    if closed.failed {
-        return closed;
-    }
-    flush(closed, out, target, path)
-}
-
-// Ends the file of a text that was not: its whole records stay, and nothing of the record that is begun.
-pub fn cut(progress: Progress, out: &[u16], target: &File, path: &[u8]) -> Progress {
-    let p = flush(progress, out, target, path);
-    if p.failed {
-        return p;
-    }
-    if !files::set_length(target, tillbox_layout::place_of(true, p.whole), path) {
-        return failed(p);
-    }
-    p
 }

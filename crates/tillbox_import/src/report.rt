@@ -1,28 +1,24 @@
 // What is said at the end of an import.
-use crate::blocks::Turn;
 use crate::records::Progress;
-use convert::Run;
-use tillbox_checks::kinds::Kinds;
+use tillbox_jobs::blocks::Turn;
 use tillbox_jobs::report;
-use tillbox_layout::sum;
 use tillbox_storage::messages::{refuse, say, say_number};
 
 // The record and the field at hand, counted from 1.
 fn say_at_hand(progress: Progress) {
     say(b"record ");
-    say_number(sum(progress.records, 1));
+    say_number(progress.records.saturating_add(1));
     say(b", field ");
-    say_number(sum(progress.inside, 1));
+    say_number(progress.inside.saturating_add(1));
 }
 
-// A field that has too many units: which one, where, and what to do.
-pub fn too_long(turn: Turn, input: &[u8]) {
-    let progress = turn.progress;
-    refuse(21, input);
+// A field that has too many units: which one, from which byte its first unit over the limit is read, and what to do.
+pub fn too_long(place: u64, progress: Progress, input: &[u8]) {
+    refuse(fields::Refusal::FieldTooLong.number(), input);
     say(b"  ");
     say_at_hand(progress);
     say(b": its 257th unit is read from the byte at ");
-    say_number(turn.place);
+    say_number(place);
     say(b" of the journal, counted from 0\n");
     say(
         b"  A bar or a line feed is missing before it, or the table is not this journal's. Mend the journal or\n",
@@ -31,29 +27,25 @@ pub fn too_long(turn: Turn, input: &[u8]) {
 }
 
 // What was read, and what stands in the file.
-pub fn summary(run: Run, kinds: Kinds, progress: Progress) {
+pub fn summary(turn: Turn, progress: Progress) {
     say(b"tillbox: read ");
-    say_number(run.read);
+    say_number(turn.run.read);
     say(b" bytes, written ");
     say_number(progress.records);
     say(b" records with ");
     say_number(progress.fields);
     say(b" fields\n");
-    report::say_flags(run.flags);
-    report::say_kinds(kinds);
+    report::say_flags(turn.run.flags);
+    report::say_kinds(turn.kinds);
 }
 
 // Where a run was stopped by its policy: the record at hand is not in the file.
-pub fn stopped(turn: Turn) {
-    let run = turn.run;
-    let policy = run.policy;
-    let progress = turn.progress;
-    let stop = turn.stop;
+pub fn stopped(turn: Turn, progress: Progress) {
     say(b"tillbox: stopped by policy ");
-    report::say_policy(policy);
+    report::say_policy(turn.run.policy);
     say(b" in ");
     say_at_hand(progress);
     say(b",");
-    report::say_place(run, stop);
+    report::say_place(turn.run, turn.stop);
     report::say_way_on();
 }

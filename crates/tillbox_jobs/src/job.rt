@@ -1,49 +1,50 @@
 // A job: an input file converted into an output file, whole or from a checkpoint on.
 use crate::blocks::Turn;
-use crate::resume::{Beginning, Origin};
-use crate::stops::Stop;
+use crate::names::Names;
+use crate::resume::Origin;
 use crate::{blocks, report, resume, stops, tables};
-use codepage::Numbers;
-use convert::{Direction, Policy, Run};
-use std::fs::File;
-use tillbox_checks::kinds::Kinds;
-use tillbox_checks::{kinds, tails};
-use tillbox_lock::Lock;
-use tillbox_printing::Page;
+use codepage::TableSet;
+use convert::{Direction, Policy, Refusal, Run};
+use tillbox_checks::tails;
+use tillbox_storage::files::OpenFile;
+use tillbox_storage::messages::Reported;
 use tillbox_storage::{checkpoints, files, messages};
 
 // What is to be done.
 #[derive(Clone, Copy)]
 pub struct Job {
     pub direction: Direction,
-    // The policy of a fresh run, and whether it was asked for.
-    pub policy: Policy,
-    pub asked: bool,
+    // The policy that was asked for; a fresh run has the standard one where none was.
+    pub policy: Option<Policy>,
     // Whether the input is complete, so that its end is the text's end.
     pub last: bool,
-    // Whether there is a checkpoint file.
-    pub saves: bool,
-    // Whether the characters that are replaced are counted: an encoding under 555 alone.
-    pub counts: bool,
-    // The width of the printed lines that the lines of a ledger are broken into; 0 where they are not.
-    pub width: u64,
+    pub output: Output,
 }
 
-// How a job ended.
+// What is made of an input.
+#[derive(Clone, Copy)]
+pub enum Output {
+    // A ledger, or a receipt.
+    Text,
+    // A receipt whose replaced characters are counted: an encoding under 555 alone.
+    Preview,
+    // The same, and the lines of the ledger are broken into printed lines of at most so many bytes.
+    Printed(u64),
+}
+
+// How a job ended whose reason to fail was not said.
 #[derive(Clone, Copy)]
 pub enum Ending {
     // All is read.
     Done,
     // The run stopped by its policy.
     Stopped,
-    // The reason was said.
-    Failed,
 }
 
 // Sums up a run: all is read, or it was stopped.
-fn told(run: Run, stop: Stop, kinds: Kinds, checkpoint: &[u8]) -> Ending {
-    report::summary(run, stop, kinds, checkpoint);
-    if stops::is_stopped(run) {
+fn told(turn: Turn, checkpoint: Option<&[u8]>) -> Ending {
+    report::summary(turn.run, turn.stop, turn.kinds, checkpoint);
+    if stops::is_stopped(turn.run) {
         return Ending::Stopped;
     }
     Ending::Done
@@ -54,36 +55,18 @@ fn finished(
     rt: &HostRuntime,
     job: Job,
     turn: Turn,
-    target: &File,
-    output: &[u8],
-    checkpoint: &[u8],
-) -> Ending {
-    let run = turn.run;
-    let met = turn.kinds;
-    if turn.failed {
-        return Ending::Failed;
+    target: &OpenFile,
+    checkpoint: Option<&[u8]>,
+) -> Result<Ending, Reported> {
+    if let Some(path) = checkpoint {
+        checkpoints::save(rt, turn.run, target, path)?;
+        files::sync_folder(rt, path);
     }
-    if job.saves {
-        if !checkpoints::save(rt, run, target, output, checkpoint) {
-            return Ending::Failed;
-        }
-        files::sync_folder(rt, checkpoint);
+    if let Output::Text = job.output {
+        return Ok(told(turn, checkpoint));
     }
-    if job.counts {
-        report::preview(run, met);
-        return Ending::Done;
-    }
-    let stop = turn.stop;
-    told(run, stop, met, checkpoint)
-}
-
-// The end of a preview whose lines were broken.
-fn printed(page: Page) -> Ending {
-    if page.failed {
-        return Ending::Failed;
-    }
-    report::printed(page);
-    Ending::Done
+    report::preview(turn.run, turn.kinds);
+    Ok(Ending::Done)
 }
 
 // Whether the units that a run reads have two bytes; those that it writes have the other size.
@@ -94,314 +77,175 @@ fn reads_wide(direction: Direction) -> bool {
     }
 }
 
-// Goes to the place in the input where a run stands.
-fn go_to(run: Run, source: &File, input: &[u8]) -> bool {
-    let direction = run.direction;
-    let place = tillbox_layout::place_of(reads_wide(direction), run.read);
-    files::seek(source, place, input)
-}
-
-// The output of a run: taken up where the run stands, or made anew.
-fn open_target(rt: &HostRuntime, run: Run, resumed: bool, output: &[u8]) -> Option<File> {
-    if !resumed {
-        return files::make(rt, output);
-    }
-    let direction = run.direction;
-    let place = tillbox_layout::place_of(!reads_wide(direction), run.written);
+// The output of a run that goes on, taken up where the run stands.
+fn take_up<'a>(rt: &HostRuntime, run: Run, output: &'a [u8]) -> Result<OpenFile<'a>, Reported> {
+    let place = tillbox_layout::place_of(!reads_wide(run.direction), run.written);
     files::take_up(rt, output, place)
 }
 
-// Whether the files of a run that goes on are its own, as far as it can be told. Where they are not, that was said.
+// Looks whether the files of a run that goes on are its own, as far as it can be told. Where they are not, that was said.
 fn are_own(
     rt: &HostRuntime,
     run: Run,
-    numbers: Numbers,
-    classes: &[u8],
-    singles: &[u16],
-    pairs: &[u16],
-    index: &[u8],
-    blocks: &[u16],
-    source: &File,
-    input: &[u8],
+    tables: &TableSet,
+    source: &OpenFile,
     output: &[u8],
-) -> bool {
-    let Some(reader) = files::open_input(rt, output) else {
-        return false;
-    };
-    tails::are_of(
-        run, numbers, classes, singles, pairs, index, blocks, source, &reader, input, output,
-    )
-}
-
-// Whether a job's files are those of the run that it begins with.
-fn can_begin(
-    rt: &HostRuntime,
-    beginning: Beginning,
-    numbers: Numbers,
-    classes: &[u8],
-    singles: &[u16],
-    pairs: &[u16],
-    index: &[u8],
-    blocks: &[u16],
-    source: &File,
-    input: &[u8],
-    output: &[u8],
-) -> bool {
-    let run = beginning.run;
-    if !beginning.resumed {
-        return true;
-    }
-    are_own(
-        rt, run, numbers, classes, singles, pairs, index, blocks, source, input, output,
-    )
-}
-
-// Whether the line of a job that saves could be put into the checkpoint's folder, which is tried before an output is touched.
-fn is_ready(rt: &HostRuntime, job: Job, checkpoint: &[u8]) -> bool {
-    if !job.saves {
-        return true;
-    }
-    checkpoints::can_save(rt, checkpoint)
+) -> Result<(), Reported> {
+    let reader = files::open_input(rt, output)?;
+    tails::are_of(run, tables, source, &reader)
 }
 
 // From a run on.
 fn with_run(
     rt: &HostRuntime,
     job: Job,
-    beginning: Beginning,
-    numbers: Numbers,
-    classes: &[u8],
-    singles: &[u16],
-    pairs: &[u16],
-    index: &[u8],
-    blocks: &[u16],
+    origin: Origin,
+    tables: &TableSet,
     line: &mut [u8],
-    source: &File,
+    source: &OpenFile,
     total: u64,
-    input: &[u8],
-    output: &[u8],
-    checkpoint: &[u8],
-) -> Ending {
-    let run = beginning.run;
-    if !can_begin(
-        rt, beginning, numbers, classes, singles, pairs, index, blocks, source, input, output,
-    ) {
-        return Ending::Failed;
-    }
-    if !go_to(run, source, input) {
-        return Ending::Failed;
-    }
-    if !is_ready(rt, job, checkpoint) {
-        return Ending::Failed;
-    }
-    let Some(target) = open_target(rt, run, beginning.resumed, output) else {
-        return Ending::Failed;
+    names: Names,
+) -> Result<Ending, Reported> {
+    let (run, resumed) = match origin {
+        Origin::Finished(run) => return nothing_to_do(rt, run, tables, source, names),
+        Origin::Fresh(run) => (run, false),
+        Origin::Resumed(run) => (run, true),
     };
-    if job.width != 0 {
-        let page = tillbox_printing::print_ledger(
-            run, numbers, classes, singles, pairs, index, blocks, job.width, source, &target,
-            total, line, input, output,
+    if resumed {
+        are_own(rt, run, tables, source, names.output)?;
+    }
+    source.seek(tillbox_layout::place_of(reads_wide(run.direction), run.read))?;
+    // The line of a job that saves could be put into the checkpoint's folder, which is tried before an output is touched.
+    if let Some(path) = names.checkpoint {
+        checkpoints::can_save(rt, path)?;
+    }
+    let target = if resumed {
+        take_up(rt, run, names.output)?
+    } else {
+        files::make(rt, names.output)?
+    };
+    if let Output::Printed(width) = job.output {
+        return closed(
+            printed(run, tables, width, source, &target, total, line),
+            target,
         );
-        return closed(printed(page), target, output);
     }
-    if job.saves {
-        files::sync_folder(rt, output);
+    converted(rt, job, run, tables, source, target, total, names)
+}
+
+// From an open output on.
+fn converted(
+    rt: &HostRuntime,
+    job: Job,
+    run: Run,
+    tables: &TableSet,
+    source: &OpenFile,
+    target: OpenFile,
+    total: u64,
+    names: Names,
+) -> Result<Ending, Reported> {
+    if names.checkpoint.is_some() {
+        files::sync_folder(rt, names.output);
     }
-    let turn = blocks::all_parts(
-        rt, job, run, numbers, classes, singles, pairs, index, blocks, source, &target, total,
-        input, output, checkpoint,
-    );
-    let ending = finished(rt, job, turn, &target, output, checkpoint);
+    let ending = match blocks::all_parts(
+        rt,
+        job,
+        run,
+        tables,
+        source,
+        &target,
+        total,
+        names.checkpoint,
+    ) {
+        Ok(turn) => finished(rt, job, turn, &target, names.checkpoint),
+        Err(reported) => Err(reported),
+    };
     // The output of a job that saves was made safe with its last line.
-    if job.saves {
+    if names.checkpoint.is_some() {
         return ending;
     }
-    closed(ending, target, output)
+    closed(ending, target)
+}
+
+// A preview whose lines are broken.
+fn printed(
+    run: Run,
+    tables: &TableSet,
+    width: u64,
+    source: &OpenFile,
+    target: &OpenFile,
+    total: u64,
+    line: &mut [u8],
+) -> Result<Ending, Reported> {
+    let page = tillbox_printing::print_ledger(run, tables, width, source, target, total, line)?;
+    report::printed(page);
+    Ok(Ending::Done)
 }
 
 // How a job ends whose output is made safe and closed.
-pub fn closed(ending: Ending, target: File, output: &[u8]) -> Ending {
-    if files::finish(target, output) {
-        return ending;
-    }
-    Ending::Failed
+pub fn closed(ending: Result<Ending, Reported>, target: OpenFile) -> Result<Ending, Reported> {
+    target.finish()?;
+    ending
 }
 
 // The end of a job whose run had ended before: its output is looked at as that of one that goes on.
 fn nothing_to_do(
     rt: &HostRuntime,
     run: Run,
-    numbers: Numbers,
-    classes: &[u8],
-    singles: &[u16],
-    pairs: &[u16],
-    index: &[u8],
-    blocks: &[u16],
-    source: &File,
-    input: &[u8],
-    output: &[u8],
-    checkpoint: &[u8],
-) -> Ending {
-    if !are_own(
-        rt, run, numbers, classes, singles, pairs, index, blocks, source, input, output,
-    ) {
-        return Ending::Failed;
-    }
-    if open_target(rt, run, true, output).is_none() {
-        return Ending::Failed;
-    }
+    tables: &TableSet,
+    source: &OpenFile,
+    names: Names,
+) -> Result<Ending, Reported> {
+    are_own(rt, run, tables, source, names.output)?;
+    take_up(rt, run, names.output)?;
     messages::say(b"tillbox: nothing to do: the run of the checkpoint has ended\n");
-    told(run, stops::none(), kinds::none(), checkpoint)
+    Ok(told(Turn::first(run), names.checkpoint))
 }
 
-// From an input of `total` units on.
-fn with_total(
-    rt: &HostRuntime,
-    job: Job,
-    numbers: Numbers,
-    classes: &[u8],
-    singles: &[u16],
-    pairs: &[u16],
-    index: &[u8],
-    blocks: &[u16],
-    line: &mut [u8],
-    source: &File,
-    total: u64,
-    input: &[u8],
-    output: &[u8],
-    checkpoint: &[u8],
-) -> Ending {
-    if Run::READ_LIMIT < total {
-        messages::refuse(16, input);
-        return Ending::Failed;
+// Looks whether an input has no half of a unit at its end. Where more may follow, that half waits in the input.
+fn is_complete(job: Job, wide: bool, bytes: u64, input: &[u8]) -> Result<(), Reported> {
+    if job.last && !tillbox_layout::is_whole(wide, bytes) {
+        return Err(messages::wrong(input, b"an odd number of bytes is no text of UTF-16 units"));
     }
-    let origin = resume::begin(
-        rt, job, numbers, classes, singles, pairs, index, blocks, total, checkpoint,
-    );
-    match origin {
-        Origin::At(beginning) => with_run(
-            rt, job, beginning, numbers, classes, singles, pairs, index, blocks, line, source,
-            total, input, output, checkpoint,
-        ),
-        Origin::Finished(run) => nothing_to_do(
-            rt, run, numbers, classes, singles, pairs, index, blocks, source, input, output,
-            checkpoint,
-        ),
-        Origin::Failed => Ending::Failed,
-    }
-}
-
-// Whether an input has no half of a unit at its end. Where more may follow, that half waits in the input.
-fn is_complete(job: Job, wide: bool, bytes: u64, input: &[u8]) -> bool {
-    if !job.last {
-        return true;
-    }
-    if tillbox_layout::is_whole(wide, bytes) {
-        return true;
-    }
-    messages::wrong(input, b"an odd number of bytes is no text of UTF-16 units");
-    false
+    Ok(())
 }
 
 // From an open input on, whose size is asked here: an earlier job may have worked on the checkpoint while the input grew.
 fn with_size(
     rt: &HostRuntime,
     job: Job,
-    numbers: Numbers,
-    classes: &[u8],
-    singles: &[u16],
-    pairs: &[u16],
-    index: &[u8],
-    blocks: &[u16],
+    tables: &TableSet,
     line: &mut [u8],
-    source: &File,
-    input: &[u8],
-    output: &[u8],
-    checkpoint: &[u8],
-) -> Ending {
-    let direction = job.direction;
-    let size = files::size_of(source, input);
-    if size < 0 {
-        return Ending::Failed;
-    }
-    let wide = reads_wide(direction);
-    let bytes = tillbox_layout::size_of(size);
-    if !is_complete(job, wide, bytes, input) {
-        return Ending::Failed;
-    }
+    source: &OpenFile,
+    names: Names,
+) -> Result<Ending, Reported> {
+    let wide = reads_wide(job.direction);
+    let bytes = source.size()?;
+    is_complete(job, wide, bytes, names.input)?;
     let total = tillbox_layout::units_in(wide, bytes);
-    with_total(
-        rt, job, numbers, classes, singles, pairs, index, blocks, line, source, total, input,
-        output, checkpoint,
-    )
-}
-
-// From an open input on. A job that saves has its checkpoint to itself.
-fn with_input(
-    rt: &HostRuntime,
-    job: Job,
-    numbers: Numbers,
-    classes: &[u8],
-    singles: &[u16],
-    pairs: &[u16],
-    index: &[u8],
-    blocks: &[u16],
-    line: &mut [u8],
-    source: &File,
-    input: &[u8],
-    output: &[u8],
-    checkpoint: &[u8],
-) -> Ending {
-    match locked(rt, job, checkpoint) {
-        Lock::Refused => Ending::Failed,
-        Lock::Free => with_size(
-            rt, job, numbers, classes, singles, pairs, index, blocks, line, source, input, output,
-            checkpoint,
-        ),
-        Lock::Held(file) => {
-            let ending = with_size(
-                rt, job, numbers, classes, singles, pairs, index, blocks, line, source, input,
-                output, checkpoint,
-            );
-            tillbox_lock::release(rt, file, checkpoint);
-            ending
-        }
+    if Run::READ_LIMIT < total {
+        return Err(messages::refuse(Refusal::ReadLimit.number(), names.input));
     }
+    let origin = resume::begin(rt, job, tables, total, names.checkpoint)?;
+    with_run(rt, job, origin, tables, line, source, total, names)
 }
 
-// The lock of a job that saves; one that does not needs none.
-fn locked(rt: &HostRuntime, job: Job, checkpoint: &[u8]) -> Lock {
-    if !job.saves {
-        return Lock::Free;
-    }
-    tillbox_lock::take(rt, checkpoint)
-}
-
-// Does a job with a table set. `checkpoint` is looked at only where the job saves, and `line` is room for a line that is broken. What
-// happened is said on standard error.
+// Does a job with a table set. `line` is room for a line that is broken. A job that saves has its checkpoint to itself. What happened is
+// said on standard error.
 pub fn with_tables(
     rt: &HostRuntime,
     job: Job,
-    numbers: Numbers,
-    classes: &[u8],
-    singles: &[u16],
-    pairs: &[u16],
-    index: &[u8],
-    blocks: &[u16],
+    tables: &TableSet,
     line: &mut [u8],
-    table: &[u8],
-    input: &[u8],
-    output: &[u8],
-    checkpoint: &[u8],
-) -> Ending {
-    if !tables::good_shape(table, numbers, classes, singles, pairs, index, blocks) {
-        return Ending::Failed;
-    }
-    let Some(source) = files::open_input(rt, input) else {
-        return Ending::Failed;
+    names: Names,
+) -> Result<Ending, Reported> {
+    tables::good_shape(names.table, tables)?;
+    let source = files::open_input(rt, names.input)?;
+    let Some(path) = names.checkpoint else {
+        return with_size(rt, job, tables, line, &source, names);
     };
-    with_input(
-        rt, job, numbers, classes, singles, pairs, index, blocks, line, &source, input, output,
-        checkpoint,
-    )
+    let lock = tillbox_lock::take(rt, path)?;
+    let ending = with_size(rt, job, tables, line, &source, names);
+    lock.release(rt);
+    ending
 }

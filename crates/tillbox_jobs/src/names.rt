@@ -1,79 +1,52 @@
-// The names of a job: each of a file that can be read or written, and no file that is written under two names.
-use crate::job::Job;
-use tillbox_storage::messages;
-use tillbox_storage::names::{beside, is_output, is_plain, is_replaced, named_twice};
+// The names of a call: each of a file that can be read or written, and no file that is written under two names.
+use tillbox_storage::messages::Reported;
+use tillbox_storage::names::{check_apart, check_output, check_plain, check_replaced, with_beside};
 
-// Whether what is read is of plain files, and an output of one that can be written.
-pub fn are_files(rt: &HostRuntime, table: &[u8], input: &[u8], output: &[u8]) -> bool {
-    if !is_plain(rt, table) {
-        return false;
-    }
-    if !is_plain(rt, input) {
-        return false;
-    }
-    is_output(rt, output)
+// The names of the files of a call. Those that it has not are empty.
+#[derive(Clone, Copy)]
+pub struct Names<'a> {
+    pub table: &'a [u8],
+    pub input: &'a [u8],
+    pub output: &'a [u8],
+    pub checkpoint: Option<&'a [u8]>,
 }
 
-// Whether an output is another file than what is read. Where it is not, that was said.
-pub fn output_apart(rt: &HostRuntime, table: &[u8], input: &[u8], output: &[u8]) -> bool {
-    if named_twice(rt, output, table) {
-        return false;
+impl Names<'_> {
+    // Looks whether what is read is of plain files, an output of one that can be written, and no file that is written another one of the
+    // call.
+    pub fn are_apart(self, rt: &HostRuntime) -> Result<(), Reported> {
+        check_plain(rt, self.table)?;
+        check_plain(rt, self.input)?;
+        check_output(rt, self.output)?;
+        self.is_not_read(rt, self.output)?;
+        let Some(checkpoint) = self.checkpoint else {
+            return Ok(());
+        };
+        self.is_apart(rt, checkpoint)?;
+        self.beside_apart(rt, checkpoint, b".new")?;
+        self.beside_apart(rt, checkpoint, b".lock")
     }
-    !named_twice(rt, output, input)
-}
 
-// Whether a file that stands for a checkpoint is another one than the files of its job.
-fn is_apart(rt: &HostRuntime, name: &[u8], table: &[u8], input: &[u8], output: &[u8]) -> bool {
-    if !is_replaced(rt, name) {
-        return false;
+    // Looks whether a file that is written is another one than what is read.
+    fn is_not_read(self, rt: &HostRuntime, name: &[u8]) -> Result<(), Reported> {
+        check_apart(rt, name, self.table)?;
+        check_apart(rt, name, self.input)
     }
-    if !output_apart(rt, table, input, name) {
-        return false;
-    }
-    !named_twice(rt, name, output)
-}
 
-// The same of the file beside a checkpoint that has an ending.
-fn beside_apart(
-    rt: &HostRuntime,
-    checkpoint: &[u8],
-    ending: &[u8],
-    table: &[u8],
-    input: &[u8],
-    output: &[u8],
-) -> bool {
-    let mut name = io::buffer();
-    let count = beside(checkpoint, ending, &mut name);
-    if count == 0 {
-        messages::wrong(checkpoint, b"the name is too long");
-        return false;
+    // Looks whether a file that stands for a checkpoint is another one than the files of its job.
+    fn is_apart(self, rt: &HostRuntime, name: &[u8]) -> Result<(), Reported> {
+        check_replaced(rt, name)?;
+        self.is_not_read(rt, name)?;
+        check_apart(rt, name, self.output)
     }
-    is_apart(rt, &name[..count], table, input, output)
-}
 
-// Whether a job's names are of files, and no file that is written is another one of the job. Where it is not so, that was said.
-pub fn are_apart(
-    rt: &HostRuntime,
-    job: Job,
-    table: &[u8],
-    input: &[u8],
-    output: &[u8],
-    checkpoint: &[u8],
-) -> bool {
-    if !are_files(rt, table, input, output) {
-        return false;
+    // The same of the file beside a checkpoint that has an ending.
+    fn beside_apart(
+        self,
+        rt: &HostRuntime,
+        checkpoint: &[u8],
+        ending: &[u8],
+    ) -> Result<(), Reported> {
+        with_beside(checkpoint, ending, |name| self.is_apart(rt, name))
     }
-    if !output_apart(rt, table, input, output) {
-        return false;
-    }
-    if !job.saves {
-        return true;
-    }
-    if !is_apart(rt, checkpoint, table, input, output) {
-        return false;
-    }
-    if !beside_apart(rt, checkpoint, b".new", table, input, output) {
-        return false;
-    }
-    beside_apart(rt, checkpoint, b".lock", table, input, output)
 }

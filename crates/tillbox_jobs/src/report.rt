@@ -4,8 +4,7 @@ ghost use Rattle.std.specs.Prelude.{◌<◌};
 use crate::stops;
 use crate::stops::Stop;
 use convert::{Direction, Pending, Policy, Run};
-use tillbox_checks::kinds::Kinds;
-use tillbox_layout::sum;
+use tillbox_checks::kinds::{Kind, Kinds};
 use tillbox_printing::Page;
 use tillbox_storage::messages::{say, say_hex, say_number};
 
@@ -27,20 +26,18 @@ fn say_output_unit(direction: Direction) {
 
 // One line for each 4 MiB of a journal.
 pub fn progress(run: Run, total: u64) {
-    let direction = run.direction;
     say(b"tillbox: read ");
     say_number(run.read);
     say(b" of ");
     say_number(total);
     say(b" ");
-    say_input_unit(direction);
+    say_input_unit(run.direction);
     say(b"s\n");
 }
 
 // What a run has read and written.
 fn say_totals(run: Run) {
-    let direction = run.direction;
-    say_sums(direction, run.read, run.written);
+    say_sums(run.direction, run.read, run.written);
 }
 
 // How many units of input were read, and of output written.
@@ -104,7 +101,7 @@ pub fn say_kinds(kinds: Kinds) {
 
 // Numbers of codes by kind, and what they are; nothing where there are none.
 pub fn say_by_kind(what: &[u8], kinds: Kinds) {
-    let before = sum(kinds.single, kinds.pair);
+    let before = kinds.single.saturating_add(kinds.pair);
     if kinds.all() == 0 {
         return;
     }
@@ -155,44 +152,43 @@ pub fn say_policy(policy: Policy) {
     say_number(policy.invalid as u64);
 }
 
-// A code's kind, by its flag.
-fn say_kind(flag: u8) {
-    match flag {
-        1 => say(b"an undefined single"),
-        2 => say(b"an undefined pair"),
-        _ => say(b"an invalid code"),
+// A code's kind.
+fn say_kind(kind: Kind) {
+    match kind {
+        Kind::Single => say(b"an undefined single"),
+        Kind::Pair => say(b"an undefined pair"),
+        Kind::Invalid => say(b"an invalid code"),
     }
 }
 
 // The units of a code, in hex.
 fn say_code(direction: Direction, stop: Stop) {
     say_input(direction, stop.first);
-    if stop.size == 2 {
+    if let Some(second) = stop.second {
         say(b" ");
-        say_input(direction, stop.second);
+        say_input(direction, second);
     }
 }
 
 // Where a run was stopped: the place of the code that did it, its units and its kind, as far as it is known.
-pub fn say_place(run: Run, stop: Stop) {
-    let direction = run.direction;
-    let size = stop.size as u64;
-    if size == 0 || run.read < size {
+pub fn say_place(run: Run, stop: Option<Stop>) {
+    let place = stop.and_then(|code| run.read.checked_sub(code.size() as u64));
+    let (Some(code), Some(place)) = (stop, place) else {
         say(b"; the next unread ");
-        say_input_unit(direction);
+        say_input_unit(run.direction);
         say(b" is at ");
         say_number(run.read);
         say(b", counted from 0\n");
         return;
-    }
+    };
     say(b" at ");
-    say_input_unit(direction);
+    say_input_unit(run.direction);
     say(b" ");
-    say_number(run.read - size);
+    say_number(place);
     say(b", counted from 0: ");
-    say_code(direction, stop);
+    say_code(run.direction, code);
     say(b", ");
-    say_kind(stop.flag);
+    say_kind(code.kind);
     say(b"\n");
 }
 
@@ -204,15 +200,14 @@ pub fn say_way_on() {
 }
 
 // Why and where a run was stopped, and what is to be done before it is called again.
-fn say_stop(run: Run, stop: Stop, checkpoint: &[u8]) {
-    let policy = run.policy;
+fn say_stop(run: Run, stop: Option<Stop>, checkpoint: Option<&[u8]>) {
     say(b"tillbox: stopped by policy ");
-    say_policy(policy);
+    say_policy(run.policy);
     say_place(run, stop);
     say_way_on();
-    if checkpoint.len() != 0 {
+    if let Some(path) = checkpoint {
         say(b"tillbox: the run of the checkpoint has ended: remove ");
-        say(checkpoint);
+        say(path);
         say(b" before you call again\n");
     }
 }
@@ -227,9 +222,8 @@ fn say_direction(direction: Direction) {
 
 // Says of which direction and page the run of a line is, which are asked for, and what to do.
 pub fn other_run(run: Run, asked: Direction, page: u16) {
-    let direction = run.direction;
     say(b"  the line is of a run ");
-    say_direction(direction);
+    say_direction(run.direction);
     say(b" page ");
     say_number(run.page as u64);
     say(b"; asked for is ");
@@ -254,13 +248,12 @@ pub fn digits_refused(policy: Policy, direction: Direction) {
 
 // Says that there is more input than a run that has ended was given. Where it was stopped, the summary says what to do.
 pub fn more_input(run: Run, total: u64, checkpoint: &[u8]) {
-    let direction = run.direction;
     say(b"  it has read ");
     say_number(run.read);
     say(b" of the ");
     say_number(total);
     say(b" ");
-    say_input_unit(direction);
+    say_input_unit(run.direction);
     say(b"s that are there now\n");
     if stops::is_stopped(run) {
         return;
@@ -270,13 +263,12 @@ pub fn more_input(run: Run, total: u64, checkpoint: &[u8]) {
     say(b" and call again.\n");
 }
 
-// The summary of a run, and how to go on where it was stopped. The name of the checkpoint is empty where there is none.
-pub fn summary(run: Run, stop: Stop, kinds: Kinds, checkpoint: &[u8]) {
-    let pending = run.pending;
+// The summary of a run, and how to go on where it was stopped.
+pub fn summary(run: Run, stop: Option<Stop>, kinds: Kinds, checkpoint: Option<&[u8]>) {
     say_totals(run);
     say_flags(run.flags);
     say_kinds(kinds);
-    say_pending(pending);
+    say_pending(run.pending);
     if stops::is_stopped(run) {
         say_stop(run, stop, checkpoint);
     }
@@ -291,8 +283,7 @@ pub fn summary(run: Run, stop: Stop, kinds: Kinds, checkpoint: &[u8]) {
 pub fn printed(page: Page) {
     let run = page.run;
     let kinds = page.kinds;
-    let direction = run.direction;
-    say_sums(direction, run.read, page.written);
+    say_sums(run.direction, run.read, page.written);
     say(b"tillbox: printed lines: ");
     say_number(page.printed);
     say(b"\ntillbox: lines not broken: ");

@@ -1,38 +1,31 @@
 // The shape report of a table image, and how much it holds, in words on standard output.
 use crate::job::Ending;
 use crate::tables;
-use codepage::{Fault, Numbers};
+use codepage::TableSet;
 use tillbox_checks::entries;
-use tillbox_storage::messages::{STDOUT, put, put_number};
+use tillbox_storage::messages::{Reported, Stream};
 
 // How many codes have a character, and how many characters a code.
-fn put_counts(classes: &[u8], singles: &[u16], pairs: &[u16], index: &[u8], blocks: &[u16]) {
-    put(STDOUT, b"codes with a character: ");
-    put_number(STDOUT, entries::single_codes(classes, singles));
-    put(STDOUT, b" of one byte, ");
-    put_number(STDOUT, entries::pair_codes(classes, pairs));
-    put(STDOUT, b" of two bytes; characters with a code: ");
-    put_number(STDOUT, entries::characters(index, blocks));
-    put(STDOUT, b"\n");
+fn put_counts(tables: &TableSet) {
+    Stream::Out.put(b"codes with a character: ");
+    Stream::Out.put_number(entries::single_codes(tables.classes, tables.singles));
+    Stream::Out.put(b" of one byte, ");
+    Stream::Out.put_number(entries::pair_codes(tables.classes, tables.pairs));
+    Stream::Out.put(b" of two bytes; characters with a code: ");
+    Stream::Out.put_number(entries::characters(tables.index, tables.blocks));
+    Stream::Out.put(b"\n");
 }
 
-// Writes the report.
-pub fn print(
-    numbers: Numbers,
-    classes: &[u8],
-    singles: &[u16],
-    pairs: &[u16],
-    index: &[u8],
-    blocks: &[u16],
-) -> Ending {
-    let fault = codepage::shape_report(numbers, classes, singles, pairs, index, blocks);
-    put(STDOUT, b"page ");
-    put_number(STDOUT, numbers.page as u64);
-    put(STDOUT, b": ");
-    tables::put_fault(STDOUT, fault);
-    if let Fault::Good = fault {
-        put_counts(classes, singles, pairs, index, blocks);
-        return Ending::Done;
+// Writes the report. A shape that is not good is no success.
+pub fn print(tables: &TableSet) -> Result<Ending, Reported> {
+    let report = codepage::shape_report(tables);
+    Stream::Out.put(b"page ");
+    Stream::Out.put_number(tables.numbers.page as u64);
+    Stream::Out.put(b": ");
+    tables::put_report(Stream::Out, report);
+    if report.is_err() {
+        return Err(Reported);
     }
-    Ending::Failed
+    put_counts(tables);
+    Ok(Ending::Done)
 }

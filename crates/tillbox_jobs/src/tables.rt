@@ -1,15 +1,16 @@
 // A table set from a file: reading its image, and its shape in words.
-use codepage::{Fault, Numbers};
-use image::Loaded;
-use tillbox_storage::messages::STDERR;
+use codepage::{Fault, Numbers, Sizes, TableRoom, TableSet};
+use tillbox_storage::messages::{Reported, Stream};
 use tillbox_storage::{files, messages};
 
-// Says so where a file is no image.
-fn told(path: &[u8], loaded: Loaded) -> Loaded {
-    if let Loaded::NotAnImage = loaded {
-        messages::wrong(path, b"it is not a table image");
-    }
-    loaded
+// The number of the refusal of tables whose shape is not good.
+const BAD_SHAPE: u8 = 10;
+
+// The memory that a program lends: for the image of a table set, and for its tables.
+#[derive(Drop)]
+pub struct Memory<'a> {
+    pub image: &'a mut [u8],
+    pub room: TableRoom<'a>,
 }
 
 // Reads a file's image, by way of lent memory, into the fronts of lent tables. Where it is no image the reason was said. The memory has
@@ -17,86 +18,76 @@ fn told(path: &[u8], loaded: Loaded) -> Loaded {
 pub fn load(
     rt: &HostRuntime,
     path: &[u8],
-    image: &mut [u8],
-    classes: &mut [u8],
-    singles: &mut [u16],
-    pairs: &mut [u16],
-    index: &mut [u8],
-    blocks: &mut [u16],
-) -> Loaded {
-    let Some(file) = files::open_input(rt, path) else {
-        return Loaded::NotAnImage;
-    };
-    let got = files::read_some(&file, image.len(), image, path);
-    if got.failed {
-        return Loaded::NotAnImage;
-    }
-    let count = got.count;
-    let loaded = image::load(&image[..count], classes, singles, pairs, index, blocks);
-    told(path, loaded)
+    memory: &mut Memory,
+) -> Result<(Numbers, Sizes), Reported> {
+    let file = files::open_input(rt, path)?;
+    let image = &mut *memory.image;
+    let room = &mut memory.room;
+    let count = file.read_some(image)?;
+    let loaded = image::load(
+        &image[..count],
+        room.classes,
+        room.singles,
+        room.pairs,
+        room.index,
+        room.blocks,
+    );
+    loaded.ok_or_else(|| messages::wrong(path, b"it is not a table image"))
 }
 
 // The words of a wrong size: which table, and the size it should have.
-fn put_size(fd: i32, table: &[u8], size: &[u8]) {
-    messages::put(fd, b"the table of ");
-    messages::put(fd, table);
-    messages::put(fd, b" has another size than ");
-    messages::put(fd, size);
+fn put_size(to: Stream, table: &[u8], size: &[u8]) {
+    to.put(b"the table of ");
+    to.put(table);
+    to.put(b" has another size than ");
+    to.put(size);
 }
 
 // The words of a bad entry: which table, its place in hex, and what is wrong.
-fn put_place(fd: i32, table: &[u8], place: usize, what: &[u8]) {
-    messages::put(fd, table);
-    messages::put(fd, b" at ");
-    messages::put_hex(fd, (place % 256) as u8);
-    messages::put(fd, what);
+fn put_place(to: Stream, table: &[u8], place: usize, what: &[u8]) {
+    to.put(table);
+    to.put(b" at ");
+    to.put_hex((place % 256) as u8);
+    to.put(what);
 }
 
-// A wrong size in words: that of the blocks, if it is no other one.
-fn put_size_fault(fd: i32, fault: Fault) {
+// A fault of a shape in words.
+fn put_fault(to: Stream, fault: Fault) {
     match fault {
-        Fault::ClassesSize => put_size(fd, b"classes", b"256"),
-        Fault::SinglesSize => put_size(fd, b"singles", b"256"),
-        Fault::PairsSize => put_size(fd, b"pairs", b"256 for each lead byte"),
-        Fault::IndexSize => put_size(fd, b"index numbers", b"256"),
-        _ => put_size(fd, b"blocks", b"1 to 256 blocks of 256"),
-    }
-}
-
-// The shape report in words.
-pub fn put_fault(fd: i32, fault: Fault) {
-    match fault {
-        Fault::Good => messages::put(fd, b"good"),
-        Fault::Page => messages::put(fd, b"the page is 0"),
-        Fault::Class(place) => put_place(fd, b"the class", place, b" is none of 0, 1, 2, 4, 5, 6"),
+        Fault::Page => to.put(b"the page is 0"),
+        Fault::ClassesSize => put_size(to, b"classes", b"256"),
+        Fault::SinglesSize => put_size(to, b"singles", b"256"),
+        Fault::PairsSize => put_size(to, b"pairs", b"256 for each lead byte"),
+        Fault::IndexSize => put_size(to, b"index numbers", b"256"),
+        Fault::BlocksSize => put_size(to, b"blocks", b"1 to 256 blocks of 256"),
+        Fault::Class(place) => put_place(to, b"the class", place, b" is none of 0, 1, 2, 4, 5, 6"),
         Fault::Lead(place) => put_place(
-            fd,
+            to,
             b"the class",
             place,
             b" is that of a lead byte below 80",
         ),
-        Fault::Number(place) => put_place(fd, b"the index number", place, b" names no block"),
-        _ => put_size_fault(fd, fault),
+        Fault::Number(place) => put_place(to, b"the index number", place, b" names no block"),
     }
-    messages::put(fd, b"\n");
 }
 
-// Whether the shape of a table set is good. Where it is not, its first bad place was said.
-pub fn good_shape(
-    path: &[u8],
-    numbers: Numbers,
-    classes: &[u8],
-    singles: &[u16],
-    pairs: &[u16],
-    index: &[u8],
-    blocks: &[u16],
-) -> bool {
-    let fault = codepage::shape_report(numbers, classes, singles, pairs, index, blocks);
-    if let Fault::Good = fault {
-        return true;
+// The shape report in words.
+pub fn put_report(to: Stream, report: Result<(), Fault>) {
+    match report {
+        Ok(()) => to.put(b"good"),
+        Err(fault) => put_fault(to, fault),
     }
-    messages::refuse(10, path);
+    to.put(b"\n");
+}
+
+// Looks whether the shape of a table set is good. Where it is not, its first bad place was said.
+pub fn good_shape(path: &[u8], tables: &TableSet) -> Result<(), Reported> {
+    let report = codepage::shape_report(tables);
+    if report.is_ok() {
+        return Ok(());
+    }
+    let reported = messages::refuse(BAD_SHAPE, path);
     messages::say(b"  the first bad place: ");
-    put_fault(STDERR, fault);
-    false
+    put_report(Stream::Err, report);
+    Err(reported)
 }

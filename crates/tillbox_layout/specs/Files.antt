@@ -2,13 +2,8 @@
 use Rattle.std.specs.Prelude.{Bool, true, false, List, ◌≡◌, ℕ, ◌+◌, ◌*◌, ◌-◌, ◌/◌, ◌%◌, ◌≤◌, min, max, leb, eqb, ℤ, pos, negsuc, length, take}
 
 -- `n` counts elements at the front of a list. The second part follows from the first; both are there so that a check finds them.
-abbrev pub Front : ℕ → List ℕ → Type 0
+abbrev pub Front : {A : Type 0} → ℕ → List A → Type 0
 Front n xs = (n ≤ length xs) × (n ≡ length (take n xs))
-
--- the size that the system told; none where it told a number below 0
-unfoldable pub file_size : ℤ → ℕ
-file_size (pos size) = size
-file_size (negsuc n) = 0
 
 -- how many units some bytes are, and whether they are whole units
 unfoldable pub units_in : (wide : Bool) → (bytes : ℕ) → ℕ
@@ -41,7 +36,3 @@ is_final size read total = leb (total - read) size
 unfoldable pub block_count : (read total : ℕ) → (last : Bool) → ℕ
 block_count read total true = max 1 ((total - read + 511) / 512)
 block_count read total false = (total - read + 511) / 512
-
--- the greatest number of 64 bits
-abbrev pub greatest : ℕ
-greatest = 18446744073709551615

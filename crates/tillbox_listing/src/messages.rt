@@ -1,33 +1,27 @@
 // What is said of a listing that is refused: the line's number, the line, what is wrong with it, and what to do next.
 use crate::faults;
-use crate::faults::Fault;
-use listing::{Progress, Refusal};
-use tillbox_storage::messages::{say, say_hex, say_number};
+use crate::faults::{Fault, FormFault, NeedFault, OrderFault};
+use crate::state::ReadState;
+use listing::Refusal;
+use tillbox_storage::messages::{Reported, say, say_hex, say_number};
 
 // A byte of a line: a tab as `>`, no line feed, and what can not be printed in hex.
 fn say_byte(byte: u8) {
-    if byte == b'\t' {
-        say(b">");
-        return;
+    match byte {
+        b'\t' => say(b">"),
+        b'\n' => {}
+        0x20..=0x7E => say(&[byte]),
+        _ => {
+            say(b"\\x");
+            say_hex(byte);
+        }
     }
-    if byte == b'\n' {
-        return;
-    }
-    if byte < 0x20 || 0x7E < byte {
-        say(b"\\x");
-        say_hex(byte);
-        return;
-    }
-    let bytes = [byte];
-    say(&bytes);
 }
 
 // A line, tabs as `>`.
 fn say_line(line: &[u8]) {
-    let mut i = 0;
-    while i < line.len() {
-        say_byte(line[i]);
-        i += 1;
+    for byte in line {
+        say_byte(*byte);
     }
 }
 
@@ -46,56 +40,63 @@ fn say_form(letter: u8) {
 }
 
 // What breaks the form.
-fn say_form_fault(fault: Fault) {
+fn say_form_fault(fault: FormFault) {
     match fault {
-        Fault::Empty => say(b"it is empty: each line is a record"),
-        Fault::NoLineFeed => say(b"no line feed closes it"),
-        Fault::TooLong => say(b"it has more bytes than any record"),
-        Fault::CarriageReturn => say(b"it has a carriage return: a line feed alone closes a line"),
-        Fault::Space => say(
+        FormFault::Empty => say(b"it is empty: each line is a record"),
+        FormFault::NoLineFeed => say(b"no line feed closes it"),
+        FormFault::TooLong => say(b"it has more bytes than any record"),
+        FormFault::CarriageReturn => say(
+            b"it has a carriage return: a line feed alone closes a line",
+        ),
+        FormFault::Space => say(
             b"it has a space: tabs part the fields, and nothing follows the last one",
         ),
-        Fault::SmallLetter => say(b"it has a small letter: letters and hex digits are capital"),
-        Fault::NoneOnTheRight => say(
+        FormFault::SmallLetter => say(b"it has a small letter: letters and hex digits are capital"),
+        FormFault::NoneOnTheRight => say(
             b"FFFF on the right: a byte S without a character has -, and an M or W without one is left out",
         ),
-        Fault::Form(letter) => say_form(letter),
-        _ => say(b"it begins with none of the letters P, D, S, L, T, M, W"),
+        FormFault::Form(letter) => say_form(letter),
+        FormFault::NoLetter => say(b"it begins with none of the letters P, D, S, L, T, M, W"),
     }
 }
 
 // What breaks the order.
-fn say_order_fault(fault: Fault) {
+fn say_order_fault(fault: OrderFault) {
     match fault {
-        Fault::NoPage => say(b"P is missing: the first line is the page"),
-        Fault::NoDefaults => say(
+        OrderFault::NoPage => say(b"P is missing: the first line is the page"),
+        OrderFault::NoDefaults => say(
             b"D is missing: the second line has the default byte and the default unit",
         ),
-        Fault::PageAgain => say(b"P again: it comes once, first"),
-        Fault::DefaultsAgain => say(b"D again: it comes once, second"),
-        Fault::KeyAgain => say(b"the line before it has the same left side: each is listed once"),
-        Fault::KeyOrder => say(
+        OrderFault::PageAgain => say(b"P again: it comes once, first"),
+        OrderFault::DefaultsAgain => say(b"D again: it comes once, second"),
+        OrderFault::KeyAgain => say(
+            b"the line before it has the same left side: each is listed once",
+        ),
+        OrderFault::KeyOrder => say(
             b"its left side is below that of the line before: they rise within a letter",
         ),
-        _ => say(b"its letter comes too late: the letters come in the order P, D, S, L, T, M, W"),
+        OrderFault::LetterOrder => say(
+            b"its letter comes too late: the letters come in the order P, D, S, L, T, M, W",
+        ),
+    }
+}
+
+// What a record needs.
+fn say_need_fault(fault: NeedFault) {
+    match fault {
+        NeedFault::LowLead => say(b"no lead byte is below 80"),
+        NeedFault::SingleAsLead => say(b"its byte is listed as S: a byte is not both S and L"),
+        NeedFault::NoLead => say(b"the first byte of its code is not listed as L"),
+        NeedFault::NoTrail => say(b"the second byte of its code is not listed as T"),
     }
 }
 
 // What is wrong with a line.
 fn say_fault(fault: Fault) {
     match fault {
-        Fault::LowLead => say(b"no lead byte is below 80"),
-        Fault::SingleAsLead => say(b"its byte is listed as S: a byte is not both S and L"),
-        Fault::NoLead => say(b"the first byte of its code is not listed as L"),
-        Fault::NoTrail => say(b"the second byte of its code is not listed as T"),
-        Fault::NoPage => say_order_fault(fault),
-        Fault::NoDefaults => say_order_fault(fault),
-        Fault::PageAgain => say_order_fault(fault),
-        Fault::DefaultsAgain => say_order_fault(fault),
-        Fault::LetterOrder => say_order_fault(fault),
-        Fault::KeyAgain => say_order_fault(fault),
-        Fault::KeyOrder => say_order_fault(fault),
-        _ => say_form_fault(fault),
+        Fault::Form(form) => say_form_fault(form),
+        Fault::Order(order) => say_order_fault(order),
+        Fault::Need(need) => say_need_fault(need),
     }
 }
 
@@ -120,30 +121,28 @@ fn say_place(number: u8, line: u64, listing: &[u8]) {
 // A line that was refused, shown as far as it was kept.
 pub fn say_refusal(
     why: Refusal,
-    number: u64,
-    progress: Progress,
-    line: &[u8],
-    cut: bool,
+    state: &ReadState,
     classes: &[u8],
     listing: &[u8],
     table: &[u8],
-) {
-    say_place(why.number(), number, listing);
+) -> Reported {
+    say_place(why.number(), state.lines.saturating_add(1), listing);
     match why {
-        Refusal::BadLine => say_fault(faults::fault_of(progress, line, classes)),
+        Refusal::BadLine => say_fault(faults::fault_of(state.progress, state.line(), classes)),
         Refusal::TooSmall => say(b"the memory of this program is too small for it"),
     }
     say(b"\n  ");
-    say_line(line);
-    if cut {
+    say_line(state.line());
+    if state.cut {
         say(b"...");
     }
     say(b"\n");
     say_next(table);
+    Reported
 }
 
 // A listing whose end was refused.
-pub fn say_end(why: Refusal, lines: u64, listing: &[u8], table: &[u8]) {
+pub fn say_end(why: Refusal, lines: u64, listing: &[u8], table: &[u8]) -> Reported {
     say(b"tillbox: error ");
     say_number(why.number() as u64);
     say(b": ");
@@ -152,4 +151,5 @@ pub fn say_end(why: Refusal, lines: u64, listing: &[u8], table: &[u8]) {
     say_number(lines);
     say(b", before P and D have come\n");
     say_next(table);
+    Reported
 }

@@ -1,178 +1,98 @@
 // The entries of a lock, and which of them is of a job at work.
-use crate::text;
-use crate::text::Text;
-use tillbox_identity::Identity;
+use arrayvec::ArrayString;
+use std::fmt;
+use std::fmt::Write;
+use tillbox_identity::{Identity, Known, Unknown};
 
 // The greatest number that a process can have.
 const PROCESS_LIMIT: u64 = 2147483647;
 
-// A line of a lock as far as it is read: its two numbers, how many spaces came, whether the number at hand has a digit, and whether
-// something else came.
+// An entry: a process, and the descriptor that it has the lock open on.
 #[derive(Clone, Copy)]
-pub struct Line {
+pub struct Entry {
     pub process: u64,
     pub descriptor: u64,
-    pub spaces: u8,
-    pub begun: bool,
-    pub wrong: bool,
 }
 
-// Before the first byte of a line.
-pub fn fresh() -> Line {
-    Line {
-        process: 0,
-        descriptor: 0,
-        spaces: 0,
-        begun: false,
-        wrong: false,
+// The line feed before it closes an entry that was written in part.
+impl fmt::Display for Entry {
+    fn fmt<W: fmt::Write>(&self, f: &mut fmt::Formatter<W>) -> fmt::Result {
+        let process = self.process;
+        let descriptor = self.descriptor;
+        write!(f, "\n{process} {descriptor}\n")
     }
 }
 
-// A number with one digit more; one that is over the limit stays so.
-fn grown(number: u64, digit: u8) -> u64 {
-    if PROCESS_LIMIT < number {
-        return number;
-    }
-    10 * number + digit as u64
-}
-
-impl Line {
-    // A line that is no entry.
-    fn broken(self) -> Line {
-        let mut line = self;
-        line.wrong = true;
-        line
-    }
-
-    // A digit more of the number at hand.
-    fn with_digit(self, digit: u8) -> Line {
-        let mut line = self;
-        line.begun = true;
-        if line.spaces == 0 {
-            line.process = grown(line.process, digit);
-            return line;
-        }
-        line.descriptor = grown(line.descriptor, digit);
-        line
-    }
-
-    // The second number begins.
-    fn with_space(self) -> Line {
-        let mut line = self;
-        if !line.begun {
-            return line.broken();
-        }
-        if line.spaces != 0 {
-            return line.broken();
-        }
-        line.spaces = 1;
-        line.begun = false;
-        line
-    }
-
-    // One byte more.
-    pub fn with(self, byte: u8) -> Line {
-        if byte == b'\n' {
-            return fresh();
-        }
-        if byte == b' ' {
-            return self.with_space();
-        }
-        if byte < b'0' {
-            return self.broken();
-        }
-        if b'9' < byte {
-            return self.broken();
-        }
-        self.with_digit(byte - b'0')
-    }
-
-    // Whether it is an entry, of another process than `own`.
-    fn is_entry(self, own: u64) -> bool {
-        if self.wrong {
-            return false;
-        }
-        if self.spaces == 0 {
-            return false;
-        }
-        if PROCESS_LIMIT < self.process {
-            return false;
-        }
-        self.begun && self.process != own
-    }
-
-    // Whether it is the entry of another process that is at work.
-    pub fn is_at_work(self, rt: &HostRuntime, lock: Identity, own: u64) -> bool {
-        if !self.is_entry(own) {
-            return false;
-        }
-        has_open(rt, self.process, self.descriptor, lock)
+// The value of a digit.
+fn digit_of(byte: u8) -> Option<u64> {
+    match byte {
+        b'0'..=b'9' => Some((byte - b'0') as u64),
+        _ => None,
     }
 }
 
-// What the system shows under a name.
-fn shown(rt: &HostRuntime, name: Text) -> Identity {
-    let bytes = name.bytes;
-    let count = tillbox_layout::front_bytes(name.length, &bytes);
-    tillbox_identity::at(rt, &bytes[..count])
+// A number in decimal digits. One that is too large is the greatest.
+fn number_of(digits: &[u8]) -> Option<u64> {
+    if digits.is_empty() {
+        return None;
+    }
+    let mut number: u64 = 0;
+    for byte in digits {
+        number = number.saturating_mul(10).saturating_add(digit_of(*byte)?);
+    }
+    Some(number)
 }
 
-// The name under which the system shows a process.
-fn process_name(process: u64) -> Text {
-    text::empty().with(b"/proc/").with_number(process)
+// What the system shows of a process, under a name in its folder.
+fn shown(rt: &HostRuntime, process: u64, name: &str) -> Result<Known, Unknown> {
+    let mut path = ArrayString::<64>::new();
+    let _ = write!(path, "/proc/{process}{name}");
+    tillbox_identity::at(rt, path.as_str().as_bytes())
 }
 
 // Whether there is a process of this number: the system shows it, or shows none at all, not even this one.
 fn is_there(rt: &HostRuntime, process: u64) -> bool {
-    if PROCESS_LIMIT < process {
-        return false;
-    }
-    if shown(rt, process_name(process)).is_known() {
-        return true;
-    }
-    !tillbox_identity::at(rt, b"/proc/self").is_known()
+    shown(rt, process, "").is_ok() || tillbox_identity::at(rt, b"/proc/self").is_err()
 }
 
-// Whether a process has the lock open on a descriptor. Where the system shows its descriptors to us, that is looked at: a process
-// that ended may have left its number to another one. Where it does not, it is asked whether the process is there.
-fn has_open(rt: &HostRuntime, process: u64, descriptor: u64, lock: Identity) -> bool {
-    let name = process_name(process);
-    let file = shown(rt, name.with(b"/fd/").with_number(descriptor));
-    if file.is_known() {
-        return file.is_same(lock);
+impl Entry {
+    // The entry that a line is.
+    fn of_line(line: &[u8]) -> Option<Entry> {
+        let space = line.iter().position(|byte| *byte == b' ')?;
+        let process = number_of(&line[..space])?;
+        let descriptor = number_of(&line[space + 1..])?;
+        if PROCESS_LIMIT < process {
+            return None;
+        }
+        Some(Entry {
+            process,
+            descriptor,
+        })
     }
-    if file.missing {
-        let seen = shown(rt, name);
-        if seen.is_known() {
-            return false;
+
+    // Whether its process has the lock open on its descriptor. Where the system shows the process's descriptors to us, that is looked at:
+    // a process that ended may have left its number to another one. Where it does not, it is asked whether the process is there.
+    fn is_at_work(self, rt: &HostRuntime, lock: Identity) -> bool {
+        let mut name = ArrayString::<32>::new();
+        let descriptor = self.descriptor;
+        let _ = write!(name, "/fd/{descriptor}");
+        match shown(rt, self.process, name.as_str()) {
+            Ok(file) => file.identity == lock,
+            Err(Unknown::Missing) if shown(rt, self.process, "").is_ok() => false,
+            Err(_) => is_there(rt, self.process),
         }
     }
-    is_there(rt, process)
 }
 
-// The first process of some entries that is at work, but for `own`; 0 where there is none.
-pub fn worker_in(rt: &HostRuntime, entries: &[u8], lock: Identity, own: u64) -> u64 {
-    let mut line = fresh();
-    let mut i = 0;
-    while i < entries.len() {
-        let byte = entries[i];
-        if byte == b'\n' {
-            if line.is_at_work(rt, lock, own) {
-                return line.process;
-            }
+// The first process of some entries that is at work, but for `own`. What stands behind the last line feed is no entry yet.
+pub fn worker_in(rt: &HostRuntime, entries: &[u8], lock: Identity, own: u64) -> Option<u64> {
+    for line in entries.split_inclusive(|byte| *byte == b'\n') {
+        if let Some(entry) = line.strip_suffix(b"\n").and_then(Entry::of_line)
+            && entry.process != own
+            && entry.is_at_work(rt, lock)
+        {
+            return Some(entry.process);
         }
-        line = line.with(byte);
-        i += 1;
     }
-    0
-}
-
-// The entry of a process that has the lock open. The line feed before it closes an entry that was written in part.
-pub fn entry(process: u64, descriptor: u64) -> Text {
-    text::empty()
-        .with(b"\n")
-        .with_number(process)
-        .with(b" ")
-        .with_number(descriptor)
-        .with(b"\n")
+    None
 }

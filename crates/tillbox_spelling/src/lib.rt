@@ -10,77 +10,39 @@ mod refused;
 mod state;
 
 use crate::state::ListState;
-use codepage::Numbers;
-use std::fs::File;
-use tillbox_storage::files;
+use codepage::TableSet;
+use tillbox_storage::files::OpenFile;
+use tillbox_storage::messages::Reported;
 
 // The next block of the list: its bytes are put line by line.
 fn next_block(
-    state: ListState,
-    numbers: Numbers,
-    classes: &[u8],
-    singles: &[u16],
-    pairs: &[u16],
-    index: &[u8],
-    blocks: &[u16],
-    source: &File,
-    target: &File,
+    state: &mut ListState,
+    tables: &TableSet,
+    source: &OpenFile,
+    target: &OpenFile,
     size: usize,
     line: &mut [u8],
-    input: &[u8],
-    output: &[u8],
-) -> ListState {
+) -> Result<(), Reported> {
     let mut block = [0u8; 512];
-    let got = files::read_block(source, size, &mut block, input);
-    if got.failed {
-        return state.broken();
-    }
-    let count = got.count;
-    lines::put_bytes(
-        state.with_read(count),
-        numbers,
-        classes,
-        singles,
-        pairs,
-        index,
-        blocks,
-        &block[..count],
-        line,
-        target,
-        output,
-    )
+    let size = tillbox_layout::front_len(size, &block);
+    source.read_block(&mut block[..size])?;
+    state.add_read(size);
+    lines::put_bytes(state, tables, &block[..size], line, target)
 }
 
 // All blocks of a list of `total` bytes, and its last line. `line` is room for the bytes of one line; one that is longer is not spelled.
 fn spell_list(
-    numbers: Numbers,
-    classes: &[u8],
-    singles: &[u16],
-    pairs: &[u16],
-    index: &[u8],
-    blocks: &[u16],
-    source: &File,
-    target: &File,
+    tables: &TableSet,
+    source: &OpenFile,
+    target: &OpenFile,
     total: u64,
     line: &mut [u8],
-    input: &[u8],
-    output: &[u8],
-) -> ListState {
-    let count = tillbox_layout::block_count(0, total, false);
-    let mut state = state::first();
-    let mut done = 0;
-    while done < count {
+) -> Result<ListState, Reported> {
+    let mut state = ListState::default();
+    for _ in 0..tillbox_layout::block_count(0, total, false) {
         let size = tillbox_layout::block_len(tillbox_layout::BLOCK, state.read, total);
-        state = next_block(
-            state, numbers, classes, singles, pairs, index, blocks, source, target, size, line,
-            input, output,
-        );
-        if state.failed {
-            return state;
-        }
-        done += 1;
+        next_block(&mut state, tables, source, target, size, line)?;
     }
-    lines::end_list(
-        state, numbers, classes, singles, pairs, index, blocks, line, target, output,
-    )
+    lines::end_list(&mut state, tables, line, target)?;
+    Ok(state)
 }

@@ -11,28 +11,17 @@ fn say_line(number: u64) {
 
 // The bytes of the code at a place of a line, in hex. Tables of another size than a call accepts tell no code: then it is one byte.
 fn say_code(classes: &[u8], line: &[u8], place: usize) {
-    if line.len() <= place {
+    let Some(first) = line.get(place) else {
+        return;
+    };
+    say_hex(*first);
+    if classes.len() != 256 || codepage_walk::code_size(classes, line, place) != 2 {
         return;
     }
-    say_hex(line[place]);
-    if classes.len() != 256 {
-        return;
+    if let Some(second) = line.get(place + 1) {
+        say(b" ");
+        say_hex(*second);
     }
-    if codepage_walk::code_size(classes, line, place) == 2 {
-        say_second(line, place);
-    }
-}
-
-// The byte behind a place of a line, in hex.
-fn say_second(line: &[u8], place: usize) {
-    if line.len() <= place {
-        return;
-    }
-    if line.len() - place == 1 {
-        return;
-    }
-    say(b" ");
-    say_hex(line[place + 1]);
 }
 
 // A line that is longer than a text may be.

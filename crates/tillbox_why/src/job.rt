@@ -1,20 +1,18 @@
 // A job: the findings of a journal, told one a line, and their summary.
+use crate::Asked;
 use crate::state::Telling;
-use codepage::Numbers;
-use convert::{Direction, Policy, Run, Started};
-use std::fs::File;
+use codepage::TableSet;
+use convert::Direction;
 use tillbox_jobs::job::Ending;
+use tillbox_jobs::names::Names;
+use tillbox_jobs::resume::start;
 use tillbox_jobs::{report, tables};
-use tillbox_layout::sum;
-use tillbox_storage::messages::{say, say_number};
-use tillbox_storage::{files, messages};
+use tillbox_storage::files;
+use tillbox_storage::messages::{Reported, say, say_number};
 
 // A flag, where there is something that sets it.
 fn flag(count: u64, value: u8) -> u8 {
-    if count == 0 {
-        return 0;
-    }
-    value
+    if count == 0 { 0 } else { value }
 }
 
 // The flags of the reading, as a run has them.
@@ -26,102 +24,32 @@ fn flags_of(state: Telling) -> u8 {
 
 // The summary: what was read, the flags of it, and how many codes of each kind set them.
 fn summary(state: Telling) {
-    let kinds = state.kinds;
     say(b"tillbox: read ");
     say_number(state.read());
     say(b" bytes, found ");
-    say_number(sum(sum(kinds.single, kinds.pair), kinds.invalid));
+    say_number(state.kinds.all());
     say(b" codes without a character\n");
     report::say_flags(flags_of(state));
-    report::say_by_kind(b"by kind", kinds);
+    report::say_by_kind(b"by kind", state.kinds);
 }
 
-// The end of a journal.
-fn finished(state: Telling) -> Ending {
-    if state.failed {
-        return Ending::Failed;
-    }
-    summary(state);
-    if state.stopped {
-        return Ending::Stopped;
-    }
-    Ending::Done
-}
-
-// From an open journal on.
-fn with_input(
-    rt: &HostRuntime,
-    policy: Policy,
-    context: bool,
-    numbers: Numbers,
-    classes: &[u8],
-    singles: &[u16],
-    pairs: &[u16],
-    index: &[u8],
-    blocks: &[u16],
-    part: &mut [u8],
-    source: &File,
-    input: &[u8],
-) -> Ending {
-    let size = files::size_of(source, input);
-    if size < 0 {
-        return Ending::Failed;
-    }
-    let state = crate::tell_journal(
-        rt,
-        policy,
-        context,
-        numbers,
-        classes,
-        singles,
-        pairs,
-        index,
-        blocks,
-        source,
-        tillbox_layout::size_of(size),
-        part,
-        input,
-    );
-    finished(state)
-}
-
-// Whether the digits of a policy are allowed. Where they are not, that was said.
-fn is_allowed(policy: Policy, page: u16) -> bool {
-    let started = Run::start(Direction::Decoding, page, policy);
-    if let Started::Refused = started {
-        messages::refuse(17, b"policy");
-        report::digits_refused(policy, Direction::Decoding);
-        return false;
-    }
-    true
-}
-
-// Tells why a flag is up, with a table set. `part` is room for one part of the journal, 65,536 bytes; where `context` is asked for, the
-// line of the journal around each finding is told too. The findings go to standard output, all else to standard error.
+// Tells why a flag is up, with a table set. `room` is for one part of the journal, 65,536 bytes. The findings go to standard output, all else
+// to standard error.
 pub fn with_tables(
     rt: &HostRuntime,
-    policy: Policy,
-    context: bool,
-    numbers: Numbers,
-    classes: &[u8],
-    singles: &[u16],
-    pairs: &[u16],
-    index: &[u8],
-    blocks: &[u16],
-    part: &mut [u8],
-    table: &[u8],
-    input: &[u8],
-) -> Ending {
-    if !tables::good_shape(table, numbers, classes, singles, pairs, index, blocks) {
-        return Ending::Failed;
+    asked: Asked,
+    tables: &TableSet,
+    room: &mut [u8],
+    names: Names,
+) -> Result<Ending, Reported> {
+    tables::good_shape(names.table, tables)?;
+    start(Direction::Decoding, tables.numbers.page, asked.policy)?;
+    let source = files::open_input(rt, names.input)?;
+    let total = source.size()?;
+    let state = crate::tell_journal(rt, asked, tables, &source, total, room)?;
+    summary(state);
+    if state.stopped {
+        return Ok(Ending::Stopped);
     }
-    if !is_allowed(policy, numbers.page) {
-        return Ending::Failed;
-    }
-    let Some(source) = files::open_input(rt, input) else {
-        return Ending::Failed;
-    };
-    with_input(
-        rt, policy, context, numbers, classes, singles, pairs, index, blocks, part, &source, input,
-    )
+    Ok(Ending::Done)
 }

@@ -5,122 +5,60 @@
 #![tactic(auto)]
 
 mod context;
-mod found;
 pub mod job;
 mod line;
 mod parts;
 mod state;
 mod telling;
-mod text;
-mod utf8;
 
 use crate::state::Telling;
-use codepage::Numbers;
+use codepage::TableSet;
 use convert::Policy;
-use std::fs::File;
-use tillbox_storage::files;
+use tillbox_layout::front_len;
+use tillbox_storage::files::OpenFile;
+use tillbox_storage::messages::Reported;
 
-// Some bytes that were read for a part: the part ends where a code begins, and is told.
-fn tell_read(
-    rt: &HostRuntime,
-    state: Telling,
-    policy: Policy,
-    context: bool,
-    numbers: Numbers,
-    classes: &[u8],
-    singles: &[u16],
-    pairs: &[u16],
-    index: &[u8],
-    blocks: &[u16],
-    read: &[u8],
-    complete: bool,
-) -> Telling {
-    let end = tillbox_layout::front_bytes(parts::part_end(classes, read, complete), read);
-    telling::tell_part(
-        rt,
-        state,
-        policy,
-        context,
-        numbers,
-        classes,
-        singles,
-        pairs,
-        index,
-        blocks,
-        &read[..end],
-    )
+// What is asked for: the findings under a policy, and whether the line of the journal around each is told too.
+#[derive(Clone, Copy)]
+pub struct Asked {
+    pub policy: Policy,
+    pub context: bool,
 }
 
-// The next part of the journal, read and told.
+// The next part of the journal, read and told: it ends where a code begins.
 fn tell_next_part(
     rt: &HostRuntime,
-    state: Telling,
-    policy: Policy,
-    context: bool,
-    numbers: Numbers,
-    classes: &[u8],
-    singles: &[u16],
-    pairs: &[u16],
-    index: &[u8],
-    blocks: &[u16],
-    source: &File,
+    state: &mut Telling,
+    asked: Asked,
+    tables: &TableSet,
+    source: &OpenFile,
     total: u64,
-    part: &mut [u8],
-    input: &[u8],
-) -> Telling {
-    let size = parts::part_len(state.start, total);
-    if !files::seek(source, tillbox_layout::place_of(false, state.start), input) {
-        return state.broken();
-    }
-    let got = files::read_block(source, size, part, input);
-    if got.failed {
-        return state.broken();
-    }
-    let count = got.count;
+    room: &mut [u8],
+) -> Result<(), Reported> {
+    let size = front_len(parts::part_len(state.start, total), room);
+    source.seek(tillbox_layout::place_of(false, state.start))?;
+    source.read_block(&mut room[..size])?;
     let complete = parts::is_complete(state.start, size, total);
-    tell_read(
-        rt,
-        state,
-        policy,
-        context,
-        numbers,
-        classes,
-        singles,
-        pairs,
-        index,
-        blocks,
-        &part[..count],
-        complete,
-    )
+    let read = &room[..size];
+    let end = parts::part_end(tables.classes, read, complete);
+    telling::tell_part(rt, state, asked, tables, &read[..end])
 }
 
-// All parts of a journal of `total` bytes. `part` is room for the bytes of one part.
+// All parts of a journal of `total` bytes. `room` is for the bytes of one part. Each part has a byte at least.
 fn tell_journal(
     rt: &HostRuntime,
-    policy: Policy,
-    context: bool,
-    numbers: Numbers,
-    classes: &[u8],
-    singles: &[u16],
-    pairs: &[u16],
-    index: &[u8],
-    blocks: &[u16],
-    source: &File,
+    asked: Asked,
+    tables: &TableSet,
+    source: &OpenFile,
     total: u64,
-    part: &mut [u8],
-    input: &[u8],
-) -> Telling {
-    let mut state = state::first();
-    let mut done = 0;
-    while done < total {
+    room: &mut [u8],
+) -> Result<Telling, Reported> {
+    let mut state = Telling::default();
+    for _ in 0..total {
         if state.is_over(total) {
-            return state;
+            break;
         }
-        state = tell_next_part(
-            rt, state, policy, context, numbers, classes, singles, pairs, index, blocks, source,
-            total, part, input,
-        );
-        done += 1;
+        tell_next_part(rt, &mut state, asked, tables, source, total, room)?;
     }
-    state
+    Ok(state)
 }

@@ -1,44 +1,53 @@
 // A finding as a line: its place in the journal, its kind in words, its bytes, and what the policy does with it.
-use crate::text::{Text, empty};
 use findings::Finding;
-use tillbox_layout::sum;
-use tillbox_storage::files;
+use std::fmt;
+use std::fmt::Write;
+use tillbox_checks::kinds::Kind;
 
-// The kind that a flag names.
-fn with_kind(text: Text, flag: u8) -> Text {
-    match flag {
-        1 => text.with(b"undefined single "),
-        2 => text.with(b"undefined pair "),
-        _ => text.with(b"invalid code "),
+// The bytes of a finding's code in hex: one or two.
+#[derive(Clone, Copy)]
+pub struct Code(pub Finding);
+
+impl fmt::Display for Code {
+    fn fmt<W: fmt::Write>(&self, f: &mut fmt::Formatter<W>) -> fmt::Result {
+        let first = self.0.first;
+        let second = self.0.second;
+        if self.0.size < 2 {
+            write!(f, "{first:02X}")
+        } else {
+            write!(f, "{first:02X} {second:02X}")
+        }
     }
 }
 
-// What a digit does; 6 writes F100 and the byte.
-fn with_digit(text: Text, digit: u8, first: u8) -> Text {
+// A kind in words.
+fn kind_name(kind: Kind) -> &'static str {
+    match kind {
+        Kind::Single => "undefined single",
+        Kind::Pair => "undefined pair",
+        Kind::Invalid => "invalid code",
+    }
+}
+
+// What a digit does with a code that begins with a byte; 6 writes F100 and the byte.
+fn put_digit<W: Write>(text: &mut W, digit: u8, first: u8) -> fmt::Result {
     match digit {
-        0 => text.with(b", stopped here\n"),
-        1 => text.with(b", skipped\n"),
-        2 => text.with(b", replaced by NUL\n"),
-        3 => text.with(b", replaced by ?\n"),
-        4 => text.with(b", replaced by _\n"),
-        5 => text.with(b", replaced by the table's default\n"),
-        _ => text.with(b", replaced by F1").with_hex(first).with(b"\n"),
+        0 => text.write_str("stopped here"),
+        1 => text.write_str("skipped"),
+        2 => text.write_str("replaced by NUL"),
+        3 => text.write_str("replaced by ?"),
+        4 => text.write_str("replaced by _"),
+        5 => text.write_str("replaced by the table's default"),
+        _ => write!(text, "replaced by F1{first:02X}"),
     }
 }
 
 // The line of a finding of a part that begins at a place of the journal.
-pub fn line_of(start: u64, found: Finding) -> Text {
-    let text = empty()
-        .with(b"byte ")
-        .with_number(sum(start, found.place as u64))
-        .with(b": ");
-    let text = with_kind(text, found.kind).with_code(found.first, found.second, found.size);
-    with_digit(text, found.digit, found.first)
-}
-
-// Writes a text to standard output. Where it could not, the reason was said.
-pub fn put(rt: &HostRuntime, text: Text) -> bool {
-    let bytes = text.bytes;
-    let size = tillbox_layout::front_bytes(text.length, &bytes);
-    files::write_out(rt, &bytes[..size])
+pub fn put_line<W: Write>(text: &mut W, start: u64, found: Finding) -> fmt::Result {
+    let place = start.saturating_add(found.place as u64);
+    let kind = kind_name(Kind::of_flag(found.kind));
+    let code = Code(found);
+    write!(text, "byte {place}: {kind} {code}, ")?;
+    put_digit(text, found.digit, found.first)?;
+    text.write_str("\n")
 }

@@ -6,26 +6,19 @@ const PART: u64 = 65536;
 
 // How many bytes are read for the part that begins at a place of a journal.
 pub fn part_len(start: u64, total: u64) -> usize {
-    if total < start {
-        return 0;
-    }
-    let left = total - start;
-    if left < PART {
-        return left as usize;
-    }
-    65536
+    total.saturating_sub(start).min(PART) as usize
 }
 
 // Whether a part of so many bytes goes to the journal's end.
 pub fn is_complete(start: u64, size: usize, total: u64) -> bool {
-    total <= tillbox_layout::sum(start, size as u64)
+    total <= start.saturating_add(size as u64)
 }
 
 // The first place from `least` on where a code begins, or the text's end: `from` is one where a code begins.
 pub fn code_from(classes: &[u8], text: &[u8], from: usize, least: usize) -> usize
     ensures { result ≤ length text.now }
 {
-    let mut at = tillbox_layout::front_bytes(from, text);
+    let mut at = tillbox_layout::front_len(from, text);
     if classes.len() != 256 {
         return at;
     }
@@ -42,14 +35,10 @@ pub fn code_from(classes: &[u8], text: &[u8], from: usize, least: usize) -> usiz
 pub fn behind_feed(text: &[u8]) -> usize
     ensures { result ≤ length text.now }
 {
-    let mut end = text.len();
-    while 0 < end {
-        if text[end - 1] == b'\n' {
-            return end;
-        }
-        end -= 1;
+    match text.iter().rposition(|byte| *byte == b'\n') {
+        Some(feed) => feed + 1,
+        None => 0,
     }
-    0
 }
 
 // Where a part ends of which some bytes were read: at the journal's end, else behind its last line or, where it has none, before its last
@@ -60,12 +49,8 @@ pub fn part_end(classes: &[u8], text: &[u8], complete: bool) -> usize
     if complete {
         return text.len();
     }
-    let feed = behind_feed(text);
-    if feed != 0 {
-        return code_from(classes, text, 0, feed);
+    match behind_feed(text) {
+        0 => code_from(classes, text, 0, text.len().saturating_sub(1)),
+        feed => code_from(classes, text, 0, feed),
     }
-    if text.len() == 0 {
-        return 0;
-    }
-    code_from(classes, text, 0, text.len() - 1)
 }
