@@ -7,66 +7,89 @@ mod commands;
 mod input;
 mod output;
 
-use console_script::state::Next;
-use console_script::{state, texts};
-use input::Cursor;
+use codepage::TableRoom;
+use console_print::Output;
+use console_script::state;
+use console_script::state::Console;
+use console_script::texts::Text;
+use input::Input;
+use lister::Cursor;
+use listing::Progress;
 
-// The tables have room for one element too many, and so have the texts, the rooms and the line. A proved loop has to end, and
-// nothing says that the input does: so the loop counts its turns, up to a number that no run reaches.
-fn main(rt: HostRuntime) {
-    let mut stdin = rt.stdin();
-    let mut classes = [0u8; 300];
-    let mut singles = [0u16; 300];
-    let mut pairs = [0u16; 33024];
-    let mut index = [0u8; 300];
-    let mut blocks = [0u16; 66048];
-    let mut bytes = [0u8; 66000];
-    let mut units = [0u16; 66000];
-    let mut lent_bytes = [0u8; 140000];
-    let mut lent_units = [0u16; 66000];
-    let mut field_buffer = [0u16; 300];
-    let mut entries = [0u32; 300];
-    let mut lent_classes = [0u8; 300];
-    let mut lent_singles = [0u16; 300];
-    let mut lent_pairs = [0u16; 33024];
-    let mut lent_index = [0u8; 300];
-    let mut lent_blocks = [0u16; 66048];
-    let mut block = [0u8; 65536];
-    let mut line = [0u8; 400001];
-    let mut out = [0u8; 600000];
-    let mut cursor = Cursor::new();
-    let mut next = Next {
-        state: state::initial(),
-        at: 0,
-    };
+// Answers the lines of the input. A proved loop has to end, and nothing says that the input does: so the loop counts its turns, up to a
+// number that no run reaches.
+fn answer_lines(
+    rt: &HostRuntime,
+    input: &mut Input<'_>,
+    line: &mut Output<'_>,
+    console: &mut Console<'_>,
+    out: &mut Output<'_>,
+) {
     for _ in 0..u64::MAX {
-        cursor = input::next_line(&mut stdin, &mut block, &mut line, cursor);
-        if cursor.is_over() {
+        if !input.next_line(line) {
             return;
         }
-        let end = texts::front_bytes(cursor.length, &line);
-        next = commands::answer(
-            &rt,
-            &line[..end],
-            next,
-            &mut classes,
-            &mut singles,
-            &mut pairs,
-            &mut index,
-            &mut blocks,
-            &mut bytes,
-            &mut units,
-            &mut lent_bytes,
-            &mut lent_units,
-            &mut field_buffer,
-            &mut entries,
-            &mut lent_classes,
-            &mut lent_singles,
-            &mut lent_pairs,
-            &mut lent_index,
-            &mut lent_blocks,
-            &mut out,
-        );
-        next.at = output::flush(&out, next.at, output::limit(cursor));
+        commands::answer(rt, line.printed(), console, out);
+        output::flush(out, input.is_waiting());
     }
+}
+
+// The tables have room for one element too many, and so have the texts, the rooms and the line.
+fn main(rt: HostRuntime) {
+    let mut tables = (
+        [0u8; 300],
+        [0u16; 300],
+        [0u16; 33024],
+        [0u8; 300],
+        [0u16; 66048],
+    );
+    let mut lent = (
+        [0u8; 300],
+        [0u16; 300],
+        [0u16; 33024],
+        [0u8; 300],
+        [0u16; 66048],
+    );
+    let mut bytes = [0u8; 66000];
+    let mut units = [0u16; 66000];
+    let mut buffer = [0u16; 300];
+    let mut entries = [0u32; 300];
+    let mut byte_room = [0u8; 140000];
+    let mut unit_room = [0u16; 66000];
+    let mut block = [0u8; 65536];
+    let mut line_room = [0u8; 400001];
+    let mut room = [0u8; 400000];
+    let mut out = Output::new(&mut room);
+    let mut line = Output::new(&mut line_room);
+    let mut input = Input::new(rt.stdin(), &mut block);
+    let mut console = Console {
+        numbers: state::no_numbers(),
+        tables: TableRoom {
+            classes: &mut tables.0,
+            singles: &mut tables.1,
+            pairs: &mut tables.2,
+            index: &mut tables.3,
+            blocks: &mut tables.4,
+        },
+        sizes: state::no_sizes(),
+        bytes: Text::new(&mut bytes),
+        units: Text::new(&mut units),
+        run: state::no_run(),
+        buffer: Text::new(&mut buffer),
+        held: 0,
+        entries: Text::new(&mut entries),
+        lent: TableRoom {
+            classes: &mut lent.0,
+            singles: &mut lent.1,
+            pairs: &mut lent.2,
+            index: &mut lent.3,
+            blocks: &mut lent.4,
+        },
+        lent_sizes: state::no_sizes(),
+        progress: Progress::new(),
+        cursor: Cursor::new(),
+        byte_room: Text::new(&mut byte_room),
+        unit_room: Text::new(&mut unit_room),
+    };
+    answer_lines(&rt, &mut input, &mut line, &mut console, &mut out);
 }

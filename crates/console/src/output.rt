@@ -1,27 +1,18 @@
 // The output, gathered and written.
-use crate::input::Cursor;
-use console_script::texts;
+use console_print::Output;
 
 // Standard output's descriptor.
 const STDOUT_FILENO: i32 = 1;
 
 // An output with more than this is written before the next command: no answer is longer than the rest.
-const OUT_LIMIT: usize = 300000;
+const OUT_LIMIT: usize = 100000;
 
-// How much may be held back: nothing where the next line waits for more input.
-pub fn limit(cursor: Cursor) -> usize {
-    if cursor.waits() {
-        return 0;
+// Writes the output if it has much, or if the next line waits for more input.
+pub fn flush(out: &mut Output<'_>, is_waiting: bool) {
+    let limit = if is_waiting { 0 } else { OUT_LIMIT };
+    if out.at <= limit {
+        return;
     }
-    OUT_LIMIT
-}
-
-// Writes the output if it has more than `limit` bytes, and gives the place for the next answer.
-pub fn flush(out: &[u8], at: usize, limit: usize) -> usize {
-    if at <= limit {
-        return at;
-    }
-    let end = texts::front_bytes(at, out);
-    io::write_all(STDOUT_FILENO, &out[..end]);
-    0
+    io::write_all(STDOUT_FILENO, out.printed());
+    out.at = 0;
 }

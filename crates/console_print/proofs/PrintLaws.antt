@@ -55,47 +55,48 @@ module _ {first second : List ℕ} {at end : ℕ} (xs : List ℕ) (i : ℕ) wher
   pub bytes_end : length xs ≤ i → Printed (take i xs) first at end second → Printed xs first at end second
   bytes_end h p = subst (λ (l : List ℕ). Printed l first at end second) (take_all i xs h) p
 
-spread_last : (spell : ℕ → List ℕ) (xs : List ℕ) (x : ℕ) → spread spell (xs ++ (x ∷ [])) ≡ spread spell xs ++ spell x
+spread_last : {A : Type 0} (spell : A → List ℕ) (xs : List A) (x : A) → spread spell (xs ++ (x ∷ [])) ≡ spread spell xs ++ spell x
 unfolding spread
 spread_last spell [] x = append-nil (spell x)
 spread_last spell (y ∷ ys) x = ap (λ (l : List ℕ). spell y ++ l) (spread_last spell ys x) ∙ sym (append_assoc (spell y) (spread spell ys) (spell x))
 
-module _ (spell : ℕ → List ℕ) {first second third : List ℕ} {at mid end : ℕ} (xs : List ℕ) (i : ℕ) where
+module _ {A : Type 0} (spell : A → List ℕ) {first second third : List ℕ} {at mid end : ℕ} (xs : List A) (i : ℕ) where
   -- one turn: the next element, spelled, behind the first i
-  pub spread_turn : i < length xs → Printed (spread spell (take i xs)) first at mid second → Printed (spell (get_or xs i 0)) second mid end third
+  pub spread_turn : (x : A) → x ≡ get_or xs i x → i < length xs → Printed (spread spell (take i xs)) first at mid second → Printed (spell x) second mid end third
       → Printed (spread spell (take (i + 1) xs)) first at end third
-  spread_turn h p q =
-      let e : take (i + 1) xs ≡ take i xs ++ (get_or xs i 0 ∷ []) = ap (λ (k : ℕ). take k xs) (add-one i) ∙ take-suc xs i 0 h in
+  spread_turn x same h p q =
+      let e : take (i + 1) xs ≡ take i xs ++ (x ∷ []) =
+      ap (λ (k : ℕ). take k xs) (add-one i) ∙ take-suc xs i x h ∙ ap (λ (y : A). take i xs ++ (y ∷ [])) (sym same) in
       subst (λ (l : List ℕ). Printed l first at end third)
-      (sym (ap (spread spell) e ∙ spread_last spell (take i xs) (get_or xs i 0)))
+      (sym (ap (spread spell) e ∙ spread_last spell (take i xs) x))
       (printed_then p q)
 
 -- no element, and the last
-module _ (spell : ℕ → List ℕ) where
+module _ {A : Type 0} (spell : A → List ℕ) where
   -- for no elements nothing is printed
   pub spread_none : {out : List ℕ} {at : ℕ} → Printed (spread spell []) out at at out
   unfolding spread
   spread_none {out} {at} = printed_none out at
 
   -- for no elements a space and `-`
-  pub run_none : {first second : List ℕ} {at end : ℕ} (xs : List ℕ) → length xs ≡ 0 → Printed (0x20 ∷ 0x2D ∷ []) first at end second
+  pub run_none : {first second : List ℕ} {at end : ℕ} (xs : List A) → length xs ≡ 0 → Printed (0x20 ∷ 0x2D ∷ []) first at end second
       → Printed (hex_run spell xs) first at end second
   unfolding hex_run
   run_none [] h p = p
   run_none (x ∷ xs) h p = absurd (omega arith)
 
-  run_some : {first second : List ℕ} {at end : ℕ} (xs : List ℕ) → (length xs ≡ 0 → ⊥) → Printed (0x20 ∷ spread spell xs) first at end second
+  run_some : {first second : List ℕ} {at end : ℕ} (xs : List A) → (length xs ≡ 0 → ⊥) → Printed (0x20 ∷ spread spell xs) first at end second
       → Printed (hex_run spell xs) first at end second
   unfolding hex_run
   run_some [] h p = absurd (h refl)
   run_some (x ∷ xs) h p = p
 
   -- a space, and then all elements, spelled
-  pub run_end : {first second third : List ℕ} {at mid end : ℕ} (xs : List ℕ) (i : ℕ) → (length xs ≡ 0 → ⊥) → length xs ≤ i
+  pub run_end : {first second third : List ℕ} {at mid end : ℕ} (xs : List A) (i : ℕ) → (length xs ≡ 0 → ⊥) → length xs ≤ i
       → Printed (0x20 ∷ []) first at mid second → Printed (spread spell (take i xs)) second mid end third → Printed (hex_run spell xs) first at end third
   run_end {first} {second} {third} {at} {mid} {end} xs i h l p q =
       run_some xs h
-      (printed_then p (subst (λ (k : List ℕ). Printed (spread spell k) second mid end third) (take_all i xs l) q))
+      (printed_then p (subst (λ (k : List A). Printed (spread spell k) second mid end third) (take_all i xs l) q))
 
 -- ---- Hex digits
 module _ {first second third : List ℕ} {at mid end : ℕ} where

@@ -18,11 +18,11 @@ unfoldable pub hex_of_unit : ℕ → List ℕ
 hex_of_unit unit = hex_of_byte (unit / 256) ++ hex_of_byte (unit % 256)
 
 -- elements, each spelled by `spell`
-unfoldable pub spread : (spell : ℕ → List ℕ) → List ℕ → List ℕ
+unfoldable pub spread : {A : Type 0} → (spell : A → List ℕ) → List A → List ℕ
 spread spell [] = []
 spread spell (x ∷ xs) = spell x ++ spread spell xs
 
 -- a space, and a run of hex: all elements, or `-`
-unfoldable pub hex_run : (spell : ℕ → List ℕ) → List ℕ → List ℕ
+unfoldable pub hex_run : {A : Type 0} → (spell : A → List ℕ) → List A → List ℕ
 hex_run spell [] = 0x20 ∷ 0x2D ∷ []
 hex_run spell (x ∷ xs) = 0x20 ∷ spread spell (x ∷ xs)

@@ -1,44 +1,46 @@
-// Inner: writing answers. Each function writes at a place of the output and returns the place behind what it wrote; what does not
-// fit is left out, and an output that was emptied in time has room for every answer.
+// Inner: writing answers. What does not fit is left out, and an output that was emptied in time has room for every answer.
 
 #![tactic(auto)]
 
-ghost use Rattle.std.specs.Prelude.{◌≡◌, [], ◌∷◌, ◌<◌};
+ghost use Rattle.std.specs.Prelude.{◌≡◌, ℕ, List, [], ◌∷◌, ◌<◌};
 ghost use Rattle.checkpoint.specs.Line.{hex_byte};
 ghost use Rattle.console_print.specs.Prints.{Printed, hex_of_byte, hex_of_unit, hex_run};
 
 use convert::{Direction, Pending, Policy, Run};
 
-// A byte.
-fn put_byte(byte: u8, out: &mut [u8], at: usize) -> usize
-    ensures { Printed (byte ∷ []) out.old at result out.new }
-{
-    if at < out.len() {
-        out[at] = byte;
-        return at + 1;
-    }
-    at
+// The answers that wait to be written: the room that has them, and the place behind the last.
+#[derive(Drop)]
+pub struct Output<'a> {
+    pub room: &'a mut [u8],
+    pub at: usize,
 }
 
-// Some bytes.
-pub fn put(bytes: &[u8], out: &mut [u8], at: usize) -> usize
-    ensures { Printed bytes.now out.old at result out.new }
-{
-    let mut end = at;
-    let mut i = 0;
-    while i < bytes.len() {
-        end = put_byte(bytes[i], out, end);
-        i += 1;
-    }
-    end
+// A number that is printed in capital hex digits: a byte as two, a unit as four.
+pub trait Hex: Copy {
+    ghost spelled: { Self → List ℕ };
+
+    fn put_hex(self, out: &mut Output<'_>)
+        ensures { Printed (spelled self) out.old.room.now out.old.at out.new.at out.new.room.now };
 }
 
-// A space and a decimal number.
-pub fn put_number(number: u64, out: &mut [u8], at: usize) -> usize {
-    let end = put_byte(b' ', out, at);
-    let mut digits = [0u8; 20];
-    let count = io::decimal(number, &mut digits);
-    put(&digits[..count], out, end)
+impl Hex for u8 {
+    ghost spelled = { hex_of_byte };
+
+    fn put_hex(self, out: &mut Output<'_>) {
+        out.put_byte(hex_digit(self / 16));
+        out.put_byte(hex_digit(self % 16));
+    }
+}
+
+impl Hex for u16 {
+    ghost spelled = { hex_of_unit };
+
+    fn put_hex(self, out: &mut Output<'_>) {
+        let high = (self / 256) as u8;
+        let low = (self % 256) as u8;
+        high.put_hex(out);
+        low.put_hex(out);
+    }
 }
 
 // A capital hex digit.
@@ -52,127 +54,115 @@ fn hex_digit(value: u8) -> u8
     b'A' + (value - 10)
 }
 
-// A byte as two hex digits.
-pub fn put_hex_byte(byte: u8, out: &mut [u8], at: usize) -> usize
-    ensures { Printed (hex_of_byte byte) out.old at result out.new }
-{
-    let end = put_byte(hex_digit(byte / 16), out, at);
-    put_byte(hex_digit(byte % 16), out, end)
-}
-
-// A unit as four hex digits.
-pub fn put_hex_unit(unit: u16, out: &mut [u8], at: usize) -> usize
-    ensures { Printed (hex_of_unit unit) out.old at result out.new }
-{
-    let end = put_hex_byte((unit / 256) as u8, out, at);
-    put_hex_byte((unit % 256) as u8, out, end)
-}
-
-// A space, and some bytes in hex, or `-`.
-pub fn put_hex_bytes(bytes: &[u8], out: &mut [u8], at: usize) -> usize
-    ensures { Printed (hex_run hex_of_byte bytes.now) out.old at result out.new }
-{
-    if bytes.len() == 0 {
-        return put(b" -", out, at);
+impl<'a> Output<'a> {
+    // No answer yet.
+    pub fn new(room: &'a mut [u8]) -> Output<'a>
+        ensures { result.at ≡ 0 }
+    {
+        Output { room, at: 0 }
     }
-    let mut end = put_byte(b' ', out, at);
-    let mut i = 0;
-    while i < bytes.len() {
-        end = put_hex_byte(bytes[i], out, end);
-        i += 1;
+
+    // What was printed.
+    pub fn printed(&self) -> &[u8] {
+        &self.room[..self.at.min(self.room.len())]
     }
-    end
-}
 
-// A space, and some units in hex, or `-`.
-pub fn put_hex_units(units: &[u16], out: &mut [u8], at: usize) -> usize
-    ensures { Printed (hex_run hex_of_unit units.now) out.old at result out.new }
-{
-    if units.len() == 0 {
-        return put(b" -", out, at);
+    // A byte.
+    fn put_byte(&mut self, byte: u8)
+        ensures { Printed (byte ∷ []) self.old.room.now self.old.at self.new.at self.new.room.now }
+    {
+        if self.at < self.room.len() {
+            self.room[self.at] = byte;
+            self.at += 1;
+        }
     }
-    let mut end = put_byte(b' ', out, at);
-    let mut i = 0;
-    while i < units.len() {
-        end = put_hex_unit(units[i], out, end);
-        i += 1;
+
+    // Some bytes.
+    pub fn put(&mut self, bytes: &[u8])
+        ensures { Printed bytes.now self.old.room.now self.old.at self.new.at self.new.room.now }
+    {
+        for byte in bytes {
+            self.put_byte(*byte);
+        }
     }
-    end
-}
 
-// A line feed.
-pub fn put_end(out: &mut [u8], at: usize) -> usize {
-    put_byte(b'\n', out, at)
-}
-
-// A space, and `kept` or `changed`.
-pub fn put_kept(kept: bool, out: &mut [u8], at: usize) -> usize {
-    if kept {
-        return put(b" kept", out, at);
+    // A decimal number.
+    pub fn put_decimal(&mut self, number: u64) {
+        let mut digits = [0u8; 20];
+        let count = io::decimal(number, &mut digits);
+        self.put(&digits[..count]);
     }
-    put(b" changed", out, at)
-}
 
-// `D` or `E`.
-fn put_direction(direction: Direction, out: &mut [u8], at: usize) -> usize {
-    match direction {
-        Direction::Decoding => put_byte(b'D', out, at),
-        Direction::Encoding => put_byte(b'E', out, at),
+    // A space and a decimal number.
+    pub fn put_number(&mut self, number: u64) {
+        self.put_byte(b' ');
+        self.put_decimal(number);
     }
-}
 
-// A space, and the pending byte or unit, or `-`.
-fn put_pending(pending: Pending, out: &mut [u8], at: usize) -> usize {
-    let end = put_byte(b' ', out, at);
-    match pending {
-        Pending::Nothing => put_byte(b'-', out, end),
-        Pending::Byte(byte) => put_hex_byte(byte, out, end),
-        Pending::High(unit) => put_hex_unit(unit, out, end),
+    // A space, and some bytes or units in hex, or `-`.
+    pub fn put_run<T: Hex>(&mut self, items: &[T])
+        ensures { Printed (hex_run T.spelled items.now) self.old.room.now self.old.at self.new.at self.new.room.now }
+    {
+        if items.is_empty() {
+            self.put(b" -");
+            return;
+        }
+        self.put_byte(b' ');
+        for item in items {
+            item.put_hex(self);
+        }
     }
-}
 
-// A space, `on` or `over`, and the line's end.
-fn put_ending(ended: bool, out: &mut [u8], at: usize) -> usize {
-    if ended {
-        return put(b" over\n", out, at);
+    // A line feed.
+    pub fn put_end(&mut self) {
+        self.put_byte(b'\n');
     }
-    put(b" on\n", out, at)
-}
 
-// The three digits, each behind a space.
-pub fn put_policy(policy: Policy, out: &mut [u8], at: usize) -> usize {
-    let end = put_number(policy.single as u64, out, at);
-    let end = put_number(policy.pair as u64, out, end);
-    put_number(policy.invalid as u64, out, end)
-}
+    // A space, and `kept` or `changed`.
+    pub fn put_kept(&mut self, kept: bool) {
+        self.put(if kept { b" kept" } else { b" changed" });
+    }
 
-// Direction, page and the three digits.
-fn put_start(run: Run, out: &mut [u8], at: usize) -> usize {
-    let direction = run.direction;
-    let policy = run.policy;
-    let end = put_direction(direction, out, at);
-    let end = put_number(run.page as u64, out, end);
-    put_policy(policy, out, end)
-}
+    // `D` or `E`.
+    fn put_direction(&mut self, direction: Direction) {
+        match direction {
+            Direction::Decoding => self.put_byte(b'D'),
+            Direction::Encoding => self.put_byte(b'E'),
+        }
+    }
 
-// Flags, read and written.
-fn put_totals(run: Run, out: &mut [u8], at: usize) -> usize {
-    let end = put_number(run.flags as u64, out, at);
-    let end = put_number(run.read, out, end);
-    put_number(run.written, out, end)
-}
+    // A space, and the pending byte or unit, or `-`.
+    fn put_pending(&mut self, pending: Pending) {
+        self.put_byte(b' ');
+        match pending {
+            Pending::Nothing => self.put_byte(b'-'),
+            Pending::Byte(byte) => byte.put_hex(self),
+            Pending::High(unit) => unit.put_hex(self),
+        }
+    }
 
-// A space, the ten words of a run, and the line's end.
-pub fn put_run(run: Run, out: &mut [u8], at: usize) -> usize {
-    let pending = run.pending;
-    let end = put_byte(b' ', out, at);
-    let end = put_start(run, out, end);
-    let end = put_pending(pending, out, end);
-    let end = put_totals(run, out, end);
-    put_ending(run.ended, out, end)
-}
+    // The three digits, each behind a space.
+    pub fn put_policy(&mut self, policy: Policy) {
+        self.put_number(policy.single as u64);
+        self.put_number(policy.pair as u64);
+        self.put_number(policy.invalid as u64);
+    }
 
-// A line that is no command is answered `?`.
-pub fn put_refusal(out: &mut [u8], at: usize) -> usize {
-    put(b"?\n", out, at)
+    // A space, the ten words of a run, and the line's end.
+    pub fn put_run_line(&mut self, run: Run) {
+        self.put_byte(b' ');
+        self.put_direction(run.direction);
+        self.put_number(run.page as u64);
+        self.put_policy(run.policy);
+        self.put_pending(run.pending);
+        self.put_number(run.flags as u64);
+        self.put_number(run.read);
+        self.put_number(run.written);
+        self.put(if run.ended { b" over\n" } else { b" on\n" });
+    }
+
+    // A line that is no command is answered `?`.
+    pub fn put_refusal(&mut self) {
+        self.put(b"?\n");
+    }
 }

@@ -1,10 +1,10 @@
 -- Laws of the words of a line: how a loop over their bytes goes on and ends.
-use mathlib.Core.Bool.{Bool, true, false, not, false≢true}
+use mathlib.Core.Bool.{Bool, true, false, not}
 use mathlib.Core.List.{List, [], ◌∷◌}
 use mathlib.Core.Option
 use mathlib.Core.Option.{Option, none, some}
 use mathlib.Core.Path.{◌≡◌, refl, sym, ap, ◌∙◌}
-use Prim.Native.Nat.{ℕ, suc, ◌+◌, ◌-◌, ◌*◌, ◌%◌, ◌<◌, ◌≤◌}
+use Prim.Native.Nat.{ℕ, suc, ◌+◌, ◌-◌, ◌*◌, ◌<◌, ◌≤◌}
 use native.Mathlib.Numerals.{add-one}
 use native.Mathlib.Omega.{arith}
 use lib.Dec.{eqb}
@@ -13,9 +13,9 @@ use lib.Seq.{drop-cons}
 use borrow.Author.Tests.{eq-eqb, ne_eqb, le-leb, lt-leb, eqb-true, eqb-false}
 use Rattle.codepage.specs.CodePage.{pick}
 use Rattle.checkpoint.specs.Line.{digit_value, hex_value}
-use Rattle.checkpoint.proofs.ParserLaws.{hex_back}
-use Rattle.console_script.specs.declared.words.Number.{Number}
-use Rattle.console_script.specs.Words.{first_word, spelled, limited, plain, given, number_in, number_then, number_at, all_hex, digit_at, byte_at, unit_at}
+use Rattle.std.specs.Prelude.{Some, None, is_some}
+use Rattle.std.specs.Prelude as answer
+use Rattle.console_script.specs.Words.{first_word, next_at, spelled, limited, answered, plain, number_in, number_at, all_hex, digit_at, byte_at, unit_at}
 
 -- ---- The end of a word
 module _ (byte : ℕ) (bytes : List ℕ) where
@@ -61,6 +61,23 @@ word_front (byte ∷ bytes) = by_case (word_front bytes) (eqb byte 0x20) refl
         let w : first_word (byte ∷ bytes) ≡ byte ∷ first_word bytes = word_cons byte bytes (eqb-false byte 0x20 e) in
         ap (λ (l : List ℕ). take (length l) (byte ∷ bytes)) w ∙ ap (λ (l : List ℕ). byte ∷ l) rest ∙ sym w
 
+module _ (line : List ℕ) (at : ℕ) where
+  -- the word at a place, cut from the line by its end
+  pub the_word : (end : ℕ) → end ≡ at + length (first_word (drop at line)) → take (end - at) (drop at line) ≡ first_word (drop at line)
+  the_word end e =
+      let n : end - at ≡ length (first_word (drop at line)) = omega arith in
+      ap (λ (k : ℕ). take k (drop at line)) n ∙ word_front (drop at line)
+
+  -- the place behind it
+  pub next_word : (end : ℕ) → at ≤ length line → end ≡ at + length (first_word (drop at line)) → end + 1 ≡ next_at line at
+  unfolding next_at
+  next_word end h e = rw (le-leb at (length line) h, e)
+
+  -- there is none behind the line's end
+  pub no_next : length line < at → at ≡ next_at line at
+  unfolding next_at
+  no_next h = rw (lt-leb at (length line) h)
+
 -- ---- Decimal digits
 module _ (value byte : ℕ) (bytes : List ℕ) where
   spelled_cons : (digit : ℕ) → digit_value byte ≡ some digit → spelled value (byte ∷ bytes) ≡ spelled (10 * value + digit) bytes
@@ -90,17 +107,15 @@ module _ (word : List ℕ) (value i : ℕ) where
   spelled_end : length word ≤ i → spelled value (drop i word) ≡ some value
   spelled_end h = ap (spelled value) (drop_of_length-le word h) ∙ spelled_nil value
 
--- a number that was found, or none
-module _ (number : ℕ) {o : Option ℕ} where
-  -- not found, by a test turned round: none
-  pub given_none : (found : Bool) → not found ≡ true → given found number ≡ o → none ≡ o
-  given_none true e f = absurd (false≢true e)
-  given_none false e f = f
+-- ---- What is read, as a function answers it
+module _ {A : Type 0} where
+  pub answered_none : (o : Option A) → ◌≡◌ {A = answer.Option A} None (answered o) → o ≡ none
+  answered_none none e = refl
+  answered_none (some x) e = absurd (cc)
 
-  -- found, by a test turned round: the number
-  pub given_some : (found : Bool) → not found ≡ false → given found number ≡ o → some number ≡ o
-  given_some true e f = f
-  given_some false e f = absurd (false≢true (sym e))
+  pub answered_some : (o : Option A) (x : A) → ◌≡◌ {A = answer.Option A} (Some x) (answered o) → o ≡ some x
+  answered_some none x e = absurd (cc)
+  answered_some (some y) x e = cc
 
 module _ (limit : ℕ) where
   at_most : (value : ℕ) → value ≤ limit → limited limit (some value) ≡ some value
@@ -157,39 +172,49 @@ module _ (limit : ℕ) where
 
   module _ (line : List ℕ) (at : ℕ) where
     -- no word is at a place behind the line's end
-    pub no_word : (next : ℕ) → length line < at → next ≡ length line + 2 → ◌≡◌ {A = Number} (record { value = 0; next = next }) (number_at limit line at)
-    unfolding number_at number_then
-    no_word next h e = rw (lt-leb at (length line) h, e)
+    pub no_number : length line < at → ◌≡◌ {A = answer.Option ℕ} None (answered (number_at limit line at))
+    unfolding number_at
+    no_number h = rw (lt-leb at (length line) h)
 
-    module _ (end : ℕ) (inside : at ≤ length line) (ends : end ≡ at + length (first_word (drop at line))) where
-      the_word : take (end - at) (drop at line) ≡ first_word (drop at line)
-      the_word =
-          let n : end - at ≡ length (first_word (drop at line)) = omega arith in
-          ap (λ (k : ℕ). take k (drop at line)) n ∙ word_front (drop at line)
-
-      found : (o : Option ℕ) → number_in limit (take (end - at) (drop at line)) ≡ o → number_then line (end + 1) o ≡ number_at limit line at
+    module _ (word : List ℕ) (inside : at ≤ length line) (is : word ≡ first_word (drop at line)) where
+      found : (o : Option ℕ) → number_in limit word ≡ o → number_at limit line at ≡ o
       unfolding number_at
-      found o e =
-          let w : number_in limit (first_word (drop at line)) ≡ o = ap (number_in limit) (sym the_word) ∙ e in
-          rw (le-leb at (length line) inside, w, ends)
+      found o e = rw (le-leb at (length line) inside, ← is, e)
 
       -- a word with a byte that is no digit, or over the limit: no number
-      pub not_digits : (next : ℕ) → none ≡ limited limit (spelled 0 (take (end - at) (drop at line))) → next ≡ length line + 2
-          → ◌≡◌ {A = Number} (record { value = 0; next = next }) (number_at limit line at)
-      unfolding number_then
-      not_digits next e q = rw q (found none (number_bad _ (sym e)))
+      pub not_digits : ◌≡◌ {A = answer.Option ℕ} None (answered (limited limit (spelled 0 word))) → ◌≡◌ {A = answer.Option ℕ} None (answered (number_at limit line at))
+      not_digits e = rw (found none (number_bad word (answered_none _ e)))
 
       -- a word that is empty or has a spare zero: no number
-      pub not_plain : (next : ℕ) → false ≡ plain (take (end - at) (drop at line)) → next ≡ length line + 2
-          → ◌≡◌ {A = Number} (record { value = 0; next = next }) (number_at limit line at)
-      unfolding number_then
-      not_plain next e q = rw q (found none (number_spare _ (sym e)))
+      pub not_plain : false ≡ plain word → ◌≡◌ {A = answer.Option ℕ} None (answered (number_at limit line at))
+      not_plain e = rw (found none (number_spare word (sym e)))
 
-      -- a word that is a number within the limit: its value, and the place of the next word
-      pub is_number : (value : ℕ) → some value ≡ limited limit (spelled 0 (take (end - at) (drop at line))) → true ≡ plain (take (end - at) (drop at line))
-          → ◌≡◌ {A = Number} (record { value = value; next = end + 1 }) (number_at limit line at)
-      unfolding number_then
-      is_number value e p = found (some value) (number_good _ value (sym e) (sym p))
+      -- a word that is a number within the limit: its value
+      pub is_number : (value : ℕ) → ◌≡◌ {A = answer.Option ℕ} (Some value) (answered (limited limit (spelled 0 word))) → true ≡ plain word
+          → ◌≡◌ {A = answer.Option ℕ} (Some value) (answered (number_at limit line at))
+      is_number value e p = rw (found (some value) (number_good word value (answered_some _ value e) (sym p)))
+
+-- ---- A test whether there is a value
+module _ {A : Type 0} {r : answer.Option A} {t : Bool} (o : Option A) where
+  pub none_by_test : r ≡ answered o → is_some r ≡ not t → t ≡ true → o ≡ none
+  none_by_test e f h = by_case o refl
+    where
+      by_case : (p : Option A) → o ≡ p → o ≡ none
+      by_case none q = q
+      by_case (some x) q =
+          let one : is_some r ≡ true = ap is_some e ∙ ap (λ (p : Option A). is_some (answered p)) q in
+          let other : is_some r ≡ false = f ∙ ap not h in
+          absurd (cc)
+
+  pub some_by_test : {P : Type 0} → r ≡ answered o → is_some r ≡ not t → t ≡ false → ((x : A) → o ≡ some x → P) → P
+  some_by_test {P} e f h then = by_case o refl
+    where
+      by_case : (p : Option A) → o ≡ p → P
+      by_case none q =
+          let one : is_some r ≡ false = ap is_some e ∙ ap (λ (p : Option A). is_some (answered p)) q in
+          let other : is_some r ≡ true = f ∙ ap not h in
+          absurd (cc)
+      by_case (some x) q = then x q
 
 -- ---- Hex digits
 module _ (byte : ℕ) (bytes : List ℕ) where
@@ -218,19 +243,15 @@ module _ (word : List ℕ) (i : ℕ) where
   pub hex_end : length word ≤ i → all_hex (drop i word) ≡ true
   hex_end h = ap all_hex (drop_of_length-le word h) ∙ hex_nil
 
--- a digit's value, from a value that is 16 for none
-pub nibble_of : (byte value : ℕ) → value ≡ Option.get_or (hex_value byte) 16 → value % 16 ≡ Option.get_or (hex_value byte) 0
-nibble_of byte value e = by_case (hex_value byte) refl e
-  where
-    by_case : (o : Option ℕ) → hex_value byte ≡ o → value ≡ Option.get_or o 16 → value % 16 ≡ Option.get_or o 0
-    by_case none q f = omega arith
-    by_case (some v) q f = omega (arith, (hex_back byte v q).1)
-
 module _ (digits : List ℕ) (place : ℕ) where
-  -- the value of the digit at a place
-  pub digit_in : (value : ℕ) → value ≡ Option.get_or (hex_value (get_or digits place 0)) 16 → value % 16 ≡ digit_at digits place
+  -- the value of the digit at a place, with 0 for none
+  pub digit_read : {r : answer.Option ℕ} {value : ℕ} → r ≡ answered (hex_value (get_or digits place 0)) → value ≡ answer.unwrap_or r 0 → value ≡ digit_at digits place
   unfolding digit_at
-  digit_in value e = nibble_of (get_or digits place 0) value e
+  digit_read e f = f ∙ ap (λ (o : answer.Option ℕ). answer.unwrap_or o 0) e ∙ by_case (hex_value (get_or digits place 0))
+    where
+      by_case : (o : Option ℕ) → answer.unwrap_or (answered o) 0 ≡ Option.get_or o 0
+      by_case none = refl
+      by_case (some v) = refl
 
   -- behind the last digit it is 0
   pub digit_out : length digits ≤ place → 0 ≡ digit_at digits place

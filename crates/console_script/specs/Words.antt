@@ -1,15 +1,24 @@
 -- What the words of a console line mean. (docs/CONSOLE.md; docs/CONSOLE_NOTES.md, 4, 7 and 10.)
-use Rattle.std.specs.Prelude.{Bool, true, false, List, [], ◌∷◌, ℕ, ◌+◌, ◌*◌, leb, eqb, length, drop, get_or}
+use Rattle.std.specs.Prelude.{Bool, true, false, List, [], ◌∷◌, ℕ, ◌+◌, ◌*◌, leb, eqb, length, drop, get_or, Some, None}
+use Rattle.std.specs.Prelude as answer
 use Rattle.std.proofs.Math.Option
 use Rattle.std.proofs.Math.Option.{Option, none, some}
 use Rattle.codepage.specs.CodePage.{pick}
 use Rattle.checkpoint.specs.Line.{digit_value, hex_value}
-use Rattle.console_script.specs.declared.words.Number.{Number}
 
 -- the word at the front of some bytes: what stands before the first space
 unfoldable pub first_word : List ℕ → List ℕ
 first_word [] = []
 first_word (byte ∷ bytes) = elim (eqb byte 0x20) [ true ↦ [] | false ↦ byte ∷ first_word bytes ]
+
+-- the place of the word behind the one at a place; where there is none, that place
+unfoldable pub next_at : (line : List ℕ) → (at : ℕ) → ℕ
+next_at line at = pick (leb at (length line)) (at + length (first_word (drop at line)) + 1) at
+
+-- what is read, as a function answers it
+abbrev pub answered : {A : Type 0} → Option A → answer.Option A
+answered none = None
+answered (some value) = Some value
 
 -- ---- Decimal numbers
 
@@ -27,10 +36,6 @@ unfoldable pub limited : (limit : ℕ) → Option ℕ → Option ℕ
 limited limit none = none
 limited limit (some number) = pick (leb number limit) (some number) none
 
--- a number that was found, or none
-abbrev pub given : (found : Bool) → (number : ℕ) → Option ℕ
-given found number = pick found (some number) none
-
 -- at least one digit, and no spare zero
 unfoldable pub plain : List ℕ → Bool
 plain word = pick (eqb (length word) 0) false (pick (eqb (get_or word 0 0) 0x30) (eqb (length word) 1) true)
@@ -39,17 +44,9 @@ plain word = pick (eqb (length word) 0) false (pick (eqb (get_or word 0 0) 0x30)
 unfoldable pub number_in : (limit : ℕ) → (word : List ℕ) → Option ℕ
 number_in limit word = pick (plain word) (limited limit (spelled 0 word)) none
 
--- a number and the place of the next word; where there is none, the place two behind the line's end
-unfoldable pub number_then : (line : List ℕ) → (next : ℕ) → Option ℕ → Number
-number_then line next none = record { value = 0; next = length line + 2 }
-number_then line next (some number) = record { value = number; next = next }
-
 -- the decimal number at a place of a line
-unfoldable pub number_at : (limit : ℕ) → (line : List ℕ) → (at : ℕ) → Number
-number_at limit line at =
-    pick (leb at (length line))
-    (number_then line (at + length (first_word (drop at line)) + 1) (number_in limit (first_word (drop at line))))
-    (number_then line 0 none)
+unfoldable pub number_at : (limit : ℕ) → (line : List ℕ) → (at : ℕ) → Option ℕ
+number_at limit line at = pick (leb at (length line)) (number_in limit (first_word (drop at line))) none
 
 -- ---- Hex digits
 

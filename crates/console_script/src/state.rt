@@ -1,157 +1,66 @@
-// What the console holds beside the tables and the texts themselves.
-use codepage::Numbers;
+// What the console holds.
+use crate::texts::Text;
+use codepage::{Numbers, Sizes, TableRoom};
 use convert::{Direction, Pending, Policy, Run};
-use image::Sizes;
 use lister::Cursor;
 use listing::Progress;
 
-// The table set's numbers and sizes, the lengths of the two texts, the run in hand, the length of the field buffer, how many units
-// the state of the fields claims to be held in it, how many entries the index has, the sizes of the tables that are lent for reading a
-// listing, what has been read of it, and where writing one goes on.
-#[derive(Clone, Copy)]
-pub struct State {
+// The table set: its numbers, its tables in memory with room for one element too many, and their sizes. The two texts, the run in hand,
+// the field buffer, how many units the state of the fields claims to be held in it, and the entries of the index. The tables that are
+// lent for reading a listing, their sizes, what has been read of it, where writing one goes on, and the lent output.
+#[derive(Drop)]
+pub struct Console<'a> {
     pub numbers: Numbers,
+    pub tables: TableRoom<'a>,
     pub sizes: Sizes,
-    pub bytes: usize,
-    pub units: usize,
+    pub bytes: Text<'a, u8>,
+    pub units: Text<'a, u16>,
     pub run: Run,
-    pub buffer: usize,
+    pub buffer: Text<'a, u16>,
     pub held: usize,
-    pub entries: usize,
-    pub lent: Sizes,
+    pub entries: Text<'a, u32>,
+    pub lent: TableRoom<'a>,
+    pub lent_sizes: Sizes,
     pub progress: Progress,
     pub cursor: Cursor,
+    pub byte_room: Text<'a, u8>,
+    pub unit_room: Text<'a, u16>,
 }
 
-// The state after a command, and the place behind its answer.
-#[derive(Clone, Copy)]
-pub struct Next {
-    pub state: State,
-    pub at: usize,
-}
-
-// No table, empty texts, a run that breaks the run rules, an empty field buffer with nothing held, an empty index, empty lent tables, a
-// reader that has read nothing, and a writer at the first line.
-pub fn initial() -> State {
-    let numbers = Numbers {
+// The numbers of no table set.
+pub fn no_numbers() -> Numbers {
+    Numbers {
         page: 0,
         default_byte: 0,
         default_unit: 0,
-    };
-    let sizes = Sizes {
+    }
+}
+
+// Empty tables.
+pub fn no_sizes() -> Sizes {
+    Sizes {
         classes: 0,
         singles: 0,
         pairs: 0,
         index: 0,
         blocks: 0,
-    };
-    let policy = Policy {
-        single: 0,
-        pair: 0,
-        invalid: 0,
-    };
-    let run = Run {
+    }
+}
+
+// A run that breaks the run rules.
+pub fn no_run() -> Run {
+    Run {
         direction: Direction::Decoding,
         page: 0,
-        policy,
+        policy: Policy {
+            single: 0,
+            pair: 0,
+            invalid: 0,
+        },
         pending: Pending::Nothing,
         flags: 0,
         read: 0,
         written: 0,
         ended: false,
-    };
-    let lent = sizes;
-    let progress = Progress::new();
-    let cursor = Cursor::new();
-    State {
-        numbers,
-        sizes,
-        bytes: 0,
-        units: 0,
-        run,
-        buffer: 0,
-        held: 0,
-        entries: 0,
-        lent,
-        progress,
-        cursor,
-    }
-}
-
-impl State {
-    // The state as it is, with the place behind an answer.
-    pub fn answered(self, at: usize) -> Next {
-        Next { state: self, at }
-    }
-
-    // The state with another table set.
-    pub fn with_table(self, numbers: Numbers, sizes: Sizes) -> State {
-        let mut state = self;
-        state.numbers = numbers;
-        state.sizes = sizes;
-        state
-    }
-
-    // The state with a byte text of another length.
-    pub fn with_bytes(self, bytes: usize) -> State {
-        let mut state = self;
-        state.bytes = bytes;
-        state
-    }
-
-    // The state with a unit text of another length.
-    pub fn with_units(self, units: usize) -> State {
-        let mut state = self;
-        state.units = units;
-        state
-    }
-
-    // The state with another run in hand.
-    pub fn with_run(self, run: Run) -> State {
-        let mut state = self;
-        state.run = run;
-        state
-    }
-
-    // The state with a field buffer of another length.
-    pub fn with_buffer(self, buffer: usize) -> State {
-        let mut state = self;
-        state.buffer = buffer;
-        state
-    }
-
-    // The state with another number of held units.
-    pub fn with_held(self, held: usize) -> State {
-        let mut state = self;
-        state.held = held;
-        state
-    }
-
-    // The state with an index of another length.
-    pub fn with_entries(self, entries: usize) -> State {
-        let mut state = self;
-        state.entries = entries;
-        state
-    }
-
-    // The state with lent tables of other sizes.
-    pub fn with_lent(self, lent: Sizes) -> State {
-        let mut state = self;
-        state.lent = lent;
-        state
-    }
-
-    // The state with another part of a listing read.
-    pub fn with_progress(self, progress: Progress) -> State {
-        let mut state = self;
-        state.progress = progress;
-        state
-    }
-
-    // The state with the writer at another place.
-    pub fn with_cursor(self, cursor: Cursor) -> State {
-        let mut state = self;
-        state.cursor = cursor;
-        state
     }
 }

@@ -1,130 +1,179 @@
-// The texts and the lent output.
-ghost use Rattle.io.specs.Counts.{IsPrefixLen};
+// The texts and the lent output: each is the front of a buffer.
+ghost use Rattle.std.specs.Prelude.{◌≡◌, ◌≤◌, length, min};
 
 use crate::words;
+use console_print::{Hex, Output};
 
-// What the output is filled with before a call.
-const BYTE_FILL: u8 = 0xEE;
+// The most elements of a text, and of a word of hex digits.
+pub const TEXT_LIMIT: usize = 66000;
 
-const UNIT_FILL: u16 = 0xEEEE;
+// What an element holds before a call, so that what the call left as it was is seen after it.
+pub trait Filled: Copy + Eq {
+    const FILL: Self;
+}
 
-// A number of elements at the front of a text: as many as asked, if it has them.
-pub fn front_bytes(count: usize, text: &[u8]) -> usize
-    ensures { IsPrefixLen result text.now }
+impl Filled for u8 {
+    const FILL: u8 = 0xEE;
+}
+
+impl Filled for u16 {
+    const FILL: u16 = 0xEEEE;
+}
+
+// An entry of an index: the count 61,166 (EEEE) with its mark.
+impl Filled for u32 {
+    const FILL: u32 = 122333;
+}
+
+impl Filled for u64 {
+    const FILL: u64 = 0xEEEEEEEEEEEEEEEE;
+}
+
+// An element of a text: a byte or a unit.
+pub trait Element: Filled + Hex {
+    // The most elements of output that a call is lent.
+    const ROOM: u64;
+
+    // How many elements some hex digits spell, if they spell whole ones.
+    fn count_of(digits: &[u8]) -> Option<usize>;
+
+    // An element of a run of hex digits; 0 where there is none.
+    fn of_digits(digits: &[u8], place: usize) -> Self;
+}
+
+impl Element for u8 {
+    const ROOM: u64 = 140000;
+
+    fn count_of(digits: &[u8]) -> Option<usize> {
+        if digits.len() % 2 == 0 {
+            Some(digits.len() / 2)
+        } else {
+            None
+        }
+    }
+
+    fn of_digits(digits: &[u8], place: usize) -> u8 {
+        words::byte_of(digits, place)
+    }
+}
+
+impl Element for u16 {
+    const ROOM: u64 = 66000;
+
+    fn count_of(digits: &[u8]) -> Option<usize> {
+        if digits.len() % 4 == 0 {
+            Some(digits.len() / 4)
+        } else {
+            None
+        }
+    }
+
+    fn of_digits(digits: &[u8], place: usize) -> u16 {
+        words::unit_of(digits, place)
+    }
+}
+
+// Elements that a line spells: their hex digits, and how many they are.
+#[derive(Clone, Copy)]
+pub struct Spelled<'a> {
+    pub digits: &'a [u8],
+    pub count: usize,
+}
+
+// Some elements at the front of a buffer.
+#[derive(Drop)]
+pub struct Text<'a, T> {
+    buffer: &'a mut [T],
+    count: usize,
+}
+
+impl<'a, T: Filled> Text<'a, T> {
+    // No elements yet.
+    pub fn new(buffer: &'a mut [T]) -> Text<'a, T> {
+        Text { buffer, count: 0 }
+    }
+
+    pub fn items(&self) -> &[T] {
+        let count = self.count.min(self.buffer.len());
+        &self.buffer[..count]
+    }
+
+    pub fn items_mut(&mut self) -> &mut [T] {
+        let count = self.count.min(self.buffer.len());
+        &mut self.buffer[..count]
+    }
+
+    // The first elements alone: as many as asked, if the buffer has them.
+    fn cut(&mut self, count: usize) {
+        self.count = count.min(self.buffer.len());
+    }
+
+    // Other elements: as many as asked, if the buffer has room for them, each the fill.
+    pub fn fill(&mut self, count: usize) {
+        self.cut(count);
+        fill(self.buffer, count);
+    }
+
+    // Those, lent.
+    pub fn lend(&mut self, count: usize) -> &mut [T] {
+        self.fill(count);
+        self.items_mut()
+    }
+
+    // Sets an element, if there is one at the place.
+    pub fn set(&mut self, place: usize, item: T) {
+        if place < self.count.min(self.buffer.len()) {
+            self.buffer[place] = item;
+        }
+    }
+}
+
+impl<T: Element> Text<'_, T> {
+    // Other elements: as many as asked, if the buffer has room for them, those that a line spells, over and over.
+    pub fn repeat(&mut self, count: usize, spelled: Spelled<'_>) {
+        self.cut(count);
+        for (i, item) in self.items_mut().iter_mut().enumerate() {
+            *item = spelled.at(i);
+        }
+    }
+}
+
+impl Spelled<'_> {
+    // An element at a place, where they are given over and over.
+    fn at<T: Element>(self, place: usize) -> T {
+        T::of_digits(self.digits, place.checked_rem(self.count).unwrap_or(0))
+    }
+}
+
+// Fills the first elements of a buffer: as many as asked, if it has them.
+pub fn fill<T: Filled>(buffer: &mut [T], count: usize) {
+    for item in buffer.iter_mut().take(count) {
+        *item = T::FILL;
+    }
+}
+
+// Whether every element from a place on is still the fill.
+pub fn is_kept<T: Filled>(room: &[T], from: usize) -> bool {
+    room.iter().skip(from).all(|item| *item == T::FILL)
+}
+
+// Whether the elements of a text from a place on are still those that a line spells, over and over from its front.
+pub fn repeats_from<T: Element>(spelled: Spelled<'_>, text: &[T], from: usize) -> bool {
+    text.iter()
+        .enumerate()
+        .skip(from)
+        .all(|(i, item)| *item == spelled.at(i))
+}
+
+// The first elements of a slice: as many as asked, if it has them.
+pub fn front<T>(items: &[T], count: usize) -> &[T]
+    ensures { length result.now ≡ min count (length items.now) }
 {
-    if count < text.len() {
-        return count;
-    }
-    text.len()
+    &items[..count.min(items.len())]
 }
 
-// The same of units.
-pub fn front_units(count: usize, text: &[u16]) -> usize
-    ensures { IsPrefixLen result text.now }
-{
-    if count < text.len() {
-        return count;
-    }
-    text.len()
-}
-
-// The place behind one of `count` places, or the first.
-fn following(place: usize, count: usize) -> usize {
-    if count <= place {
-        return 0;
-    }
-    if place + 1 == count {
-        return 0;
-    }
-    place + 1
-}
-
-// Whether a byte at a place, from another place on, is not what it was.
-fn differs_behind(before: u8, now: u8, place: usize, from: usize) -> bool {
-    if place < from {
-        return false;
-    }
-    before != now
-}
-
-// The bytes of some hex digits, over and over.
-pub fn repeat_bytes(digits: &[u8], text: &mut [u8]) {
-    let count = digits.len() / 2;
-    let mut place = 0;
-    let mut i = 0;
-    while i < text.len() {
-        text[i] = words::byte_of(digits, place);
-        place = following(place, count);
-        i += 1;
-    }
-}
-
-// The units of some hex digits, over and over.
-pub fn repeat_units(digits: &[u8], text: &mut [u16]) {
-    let count = digits.len() / 4;
-    let mut place = 0;
-    let mut i = 0;
-    while i < text.len() {
-        text[i] = words::unit_of(digits, place);
-        place = following(place, count);
-        i += 1;
-    }
-}
-
-// Whether the bytes of a text from a place on are still those of some hex digits, over and over from its front.
-pub fn repeats_from(digits: &[u8], text: &[u8], from: usize) -> bool {
-    let count = digits.len() / 2;
-    let mut kept = true;
-    let mut place = 0;
-    let mut i = 0;
-    while i < text.len() {
-        if differs_behind(words::byte_of(digits, place), text[i], i, from) {
-            kept = false;
-        }
-        place = following(place, count);
-        i += 1;
-    }
-    kept
-}
-
-// Fills lent bytes before a call, so that what it left as it was is seen after it.
-pub fn fill_bytes(room: &mut [u8]) {
-    let mut i = 0;
-    while i < room.len() {
-        room[i] = BYTE_FILL;
-        i += 1;
-    }
-}
-
-// Fills lent units before a call, so that what it left as it was is seen after it.
-pub fn fill_units(room: &mut [u16]) {
-    let mut i = 0;
-    while i < room.len() {
-        room[i] = UNIT_FILL;
-        i += 1;
-    }
-}
-
-// Whether every byte from a place on is still the fill.
-pub fn kept_bytes(room: &[u8], from: usize) -> bool {
-    let mut i = from;
-    while i < room.len() {
-        if room[i] != BYTE_FILL {
-            return false;
-        }
-        i += 1;
-    }
-    true
-}
-
-// Whether every unit from a place on is still the fill.
-pub fn kept_units(room: &[u16], from: usize) -> bool {
-    let mut i = from;
-    while i < room.len() {
-        if room[i] != UNIT_FILL {
-            return false;
-        }
-        i += 1;
-    }
-    true
+// What a call wrote, in hex, and whether the rest of the room was kept.
+pub fn put_written<T: Element>(room: &[T], written: usize, out: &mut Output<'_>) {
+    out.put_run(front(room, written));
+    out.put_kept(is_kept(room, written));
 }

@@ -1,173 +1,72 @@
-// Reading the words of a line. Each function reads the word at a place and gives what it means and the place of the next
-// word: one behind the line's end after the last word. Where the word is not what it must be, that place is two behind the
-// end, and no word is found from there on.
-ghost use Rattle.std.specs.Prelude.{◌≡◌, ◌+◌, ◌*◌, ◌≤◌, ◌<◌, length, drop};
-ghost use Rattle.std.proofs.Math.Option.{get_or};
+// Reading the words of a line, one after another. A word that is not what it must be is `None`.
+ghost use Rattle.std.specs.Prelude.{◌≡◌, ◌+◌, ◌*◌, ◌≤◌, ◌<◌, length, drop, IfSome, MatchOption};
 ghost use Rattle.checkpoint.specs.Line.{digit_value, hex_value};
-ghost use Rattle.console_script.specs.Words.{first_word, spelled, limited, given, plain, number_at, all_hex, digit_at, byte_at, unit_at};
+ghost use Rattle.console_script.specs.Words.{first_word, next_at, spelled, limited, answered, plain, number_at, all_hex, digit_at, byte_at, unit_at};
 
+use crate::texts::{Element, Spelled, TEXT_LIMIT};
 use convert::{Direction, Pending, Policy, Run};
 
-// The most elements of a text, and of a word of hex digits.
-pub const TEXT_LIMIT: usize = 66000;
-// The most units and bytes of output that a call is lent.
-pub const UNITS_ROOM: u64 = 66000;
+// The most bytes of a file's name.
+const NAME_LIMIT: usize = 4000;
 
-pub const BYTES_ROOM: u64 = 140000;
-
+// A line, and the place of its next word: one behind the line's end after the last word.
 #[derive(Clone, Copy)]
-pub struct Number {
-    pub value: u64,
-    pub next: usize,
-}
-
-#[derive(Clone, Copy)]
-pub struct Letter {
-    pub value: Direction,
-    pub next: usize,
-}
-
-#[derive(Clone, Copy)]
-pub struct Digits {
-    pub value: Policy,
-    pub next: usize,
-}
-
-#[derive(Clone, Copy)]
-pub struct FoundPending {
-    pub value: Pending,
-    pub next: usize,
-}
-
-#[derive(Clone, Copy)]
-pub struct Record {
-    pub value: Run,
-    pub next: usize,
-}
-
-#[derive(Clone, Copy)]
-pub struct Flag {
-    pub value: bool,
-    pub next: usize,
-}
-
-// A part: of the line, hex digits or a file's name; or of a text.
-#[derive(Clone, Copy)]
-pub struct Part {
-    pub from: usize,
-    pub to: usize,
-    pub next: usize,
-}
-
-// A number, if the digits are one within a limit.
-#[derive(Clone, Copy)]
-struct Value {
-    ok: bool,
-    value: u64,
-}
-
-// The place that no word is found from.
-fn nowhere(line: &[u8]) -> usize
-    ensures { result ≡ length line.now + 2 }
-{
-    line.len() + 2
-}
-
-// Whether the line ends with the word before a place.
-pub fn at_end(line: &[u8], next: usize) -> bool {
-    next == line.len() + 1
+pub struct Words<'a> {
+    pub line: &'a [u8],
+    pub at: usize,
 }
 
 // The end of the word at a place.
-pub fn word_end(line: &[u8], at: usize) -> usize
+fn word_end(line: &[u8], at: usize) -> usize
     requires { at ≤ length line.now }
     ensures lower_bound { (at ≤ result) × (result ≤ length line.now) }
     ensures value { result ≡ at + length (first_word (drop at line.now)) }
 {
-    let mut i = at;
-    while i < line.len() {
+    for i in at..line.len() {
         if line[i] == b' ' {
             return i;
         }
-        i += 1;
     }
-    i
+    line.len()
 }
 
-// Whether a word is a given one.
-pub fn is_word(word: &[u8], name: &[u8]) -> bool {
-    if word.len() != name.len() {
-        return false;
-    }
-    let mut i = 0;
-    while i < word.len() {
-        if word[i] != name[i] {
-            return false;
-        }
-        i += 1;
-    }
-    true
-}
-
-// A digit's value, or 16.
-fn digit_value(byte: u8) -> u8
-    ensures upper_bound { result ≤ 16 }
-    ensures value { result ≡ get_or (digit_value byte) 16 }
+// A digit's value.
+fn digit_value(byte: u8) -> Option<u8>
+    ensures { result ≡ answered (digit_value byte) }
 {
-    if byte < b'0' {
-        return 16;
+    match byte {
+        b'0'..=b'9' => Some(byte - b'0'),
+        _ => None,
     }
-    if b'9' < byte {
-        return 16;
-    }
-    byte - b'0'
 }
 
-// A capital hex digit's value, or 16.
-fn hex_value(byte: u8) -> u8
-    ensures upper_bound { result ≤ 16 }
-    ensures value { result ≡ get_or (hex_value byte) 16 }
+// A capital hex digit's value.
+fn hex_value(byte: u8) -> Option<u8>
+    ensures { result ≡ answered (hex_value byte) }
 {
-    if byte < b'A' {
-        return digit_value(byte);
+    match byte {
+        b'A'..=b'F' => Some(byte - b'A' + 10),
+        _ => digit_value(byte),
     }
-    if b'F' < byte {
-        return 16;
-    }
-    byte - b'A' + 10
 }
 
-// The value of decimal digits with no spare zero, if it is within a limit. A larger one is left at once, so it never wraps.
-fn decimal_value(word: &[u8], limit: u64) -> Value
-    ensures value_le_limit { result.value ≤ limit }
-    ensures value_value { given result.ok result.value ≡ limited limit (spelled 0 word.now) }
+// The value of decimal digits, if it is within a limit. A larger one is left at once, so it never wraps.
+fn decimal_value(word: &[u8], limit: u64) -> Option<u64>
+    ensures value_le_limit { IfSome result (λ value. value ≤ limit) }
+    ensures value { result ≡ answered (limited limit (spelled 0 word.now)) }
 {
     let mut value: u64 = 0;
-    let mut i = 0;
-    while i < word.len() {
-        let digit = digit_value(word[i]) as u64;
-        if 9 < digit {
-            return Value {
-                ok: false,
-                value: 0,
-            };
-        }
+    for byte in word {
+        let digit = digit_value(*byte)? as u64;
         if limit / 10 < value {
-            return Value {
-                ok: false,
-                value: 0,
-            };
+            return None;
         }
         if limit - 10 * value < digit {
-            return Value {
-                ok: false,
-                value: 0,
-            };
+            return None;
         }
         value = 10 * value + digit;
-        i += 1;
     }
-    Value { ok: true, value }
+    Some(value)
 }
 
 // Whether a word is not empty and has no spare zero.
@@ -183,302 +82,16 @@ fn is_plain(word: &[u8]) -> bool
     true
 }
 
-// A decimal number of at most `limit`.
-pub fn number_at(line: &[u8], at: usize, limit: u64) -> Number
-    ensures value_le_limit { result.value ≤ limit }
-    ensures value { result ≡ number_at limit line.now at }
-{
-    if line.len() < at {
-        return Number {
-            value: 0,
-            next: nowhere(line),
-        };
-    }
-    let end = word_end(line, at);
-    let word = &line[at..end];
-    let number = decimal_value(word, limit);
-    if !number.ok {
-        return Number {
-            value: 0,
-            next: nowhere(line),
-        };
-    }
-    if !is_plain(word) {
-        return Number {
-            value: 0,
-            next: nowhere(line),
-        };
-    }
-    Number {
-        value: number.value,
-        next: end + 1,
-    }
-}
-
-// FROM and COUNT: a part of a text of `size` elements.
-pub fn piece_at(line: &[u8], at: usize, size: usize) -> Part
-    ensures { (result.from ≤ result.to) × (result.to ≤ size) × (result.from ≤ 66000) }
-{
-    let from = number_at(line, at, TEXT_LIMIT as u64);
-    let count = number_at(line, from.next, TEXT_LIMIT as u64);
-    let to = from.value + count.value;
-    if (size as u64) < to {
-        return Part {
-            from: 0,
-            to: 0,
-            next: nowhere(line),
-        };
-    }
-    Part {
-        from: from.value as usize,
-        to: to as usize,
-        next: count.next,
-    }
-}
-
-// One of two words: false for the first, true for the second.
-pub fn choice_at(line: &[u8], at: usize, first: &[u8], second: &[u8]) -> Flag {
-    if line.len() < at {
-        return Flag {
-            value: false,
-            next: nowhere(line),
-        };
-    }
-    let end = word_end(line, at);
-    let word = &line[at..end];
-    if is_word(word, first) {
-        return Flag {
-            value: false,
-            next: end + 1,
-        };
-    }
-    if is_word(word, second) {
-        return Flag {
-            value: true,
-            next: end + 1,
-        };
-    }
-    Flag {
-        value: false,
-        next: nowhere(line),
-    }
-}
-
-// `D` or `E`.
-pub fn direction_at(line: &[u8], at: usize) -> Letter {
-    let choice = choice_at(line, at, b"D", b"E");
-    if choice.value {
-        return Letter {
-            value: Direction::Encoding,
-            next: choice.next,
-        };
-    }
-    Letter {
-        value: Direction::Decoding,
-        next: choice.next,
-    }
-}
-
-// `more` or `last`.
-pub fn mark_at(line: &[u8], at: usize) -> Flag {
-    choice_at(line, at, b"more", b"last")
-}
-
-// `on` or `over`.
-pub fn ending_at(line: &[u8], at: usize) -> Flag {
-    choice_at(line, at, b"on", b"over")
-}
-
-// Three digits in one word.
-pub fn policy_at(line: &[u8], at: usize) -> Digits {
-    let none = Policy {
-        single: 0,
-        pair: 0,
-        invalid: 0,
-    };
-    if line.len() < at {
-        return Digits {
-            value: none,
-            next: nowhere(line),
-        };
-    }
-    let end = word_end(line, at);
-    if end - at != 3 {
-        return Digits {
-            value: none,
-            next: nowhere(line),
-        };
-    }
-    let single = digit_value(line[at]);
-    let pair = digit_value(line[at + 1]);
-    let invalid = digit_value(line[at + 2]);
-    if !all_digits(single, pair, invalid) {
-        return Digits {
-            value: none,
-            next: nowhere(line),
-        };
-    }
-    let policy = Policy {
-        single,
-        pair,
-        invalid,
-    };
-    Digits {
-        value: policy,
-        next: end + 1,
-    }
-}
-
-// Whether each of a policy's digits is one decimal digit. Whether it is allowed is for the library to say.
-fn all_digits(single: u8, pair: u8, invalid: u8) -> bool {
-    if 9 < single {
-        return false;
-    }
-    if 9 < pair {
-        return false;
-    }
-    invalid <= 9
-}
-
-// How many hex digits say what is pending: a byte in decoding, a unit in encoding.
-fn pending_digits(direction: Direction) -> usize {
-    match direction {
-        Direction::Decoding => 2,
-        Direction::Encoding => 4,
-    }
-}
-
-// What hex digits say is pending: a byte in decoding, a unit in encoding.
-fn pending_of(direction: Direction, digits: &[u8]) -> Pending {
-    match direction {
-        Direction::Decoding => Pending::Byte(byte_of(digits, 0)),
-        Direction::Encoding => Pending::High(unit_of(digits, 0)),
-    }
-}
-
-// What is pending in a run of a direction, in its hex digits, or `-`.
-pub fn pending_at(line: &[u8], at: usize, direction: Direction) -> FoundPending {
-    let digits = hex_at(line, at);
-    let from = digits.from;
-    let to = digits.to;
-    if to - from == 0 {
-        return FoundPending {
-            value: Pending::Nothing,
-            next: digits.next,
-        };
-    }
-    if to - from != pending_digits(direction) {
-        return FoundPending {
-            value: Pending::Nothing,
-            next: nowhere(line),
-        };
-    }
-    let value = pending_of(direction, &line[from..to]);
-    FoundPending {
-        value,
-        next: digits.next,
-    }
-}
-
 // Whether a word is capital hex digits.
 fn is_hex(word: &[u8]) -> bool
     ensures { result ≡ all_hex word.now }
 {
-    let mut i = 0;
-    while i < word.len() {
-        if 15 < hex_value(word[i]) {
+    for byte in word {
+        if hex_value(*byte).is_none() {
             return false;
         }
-        i += 1;
     }
     true
-}
-
-// Hex digits; none for `-`.
-fn hex_at(line: &[u8], at: usize) -> Part
-    ensures { (result.from ≤ result.to) × (result.to ≤ length line.now) }
-{
-    if line.len() < at {
-        return Part {
-            from: 0,
-            to: 0,
-            next: nowhere(line),
-        };
-    }
-    let end = word_end(line, at);
-    let word = &line[at..end];
-    if is_word(word, b"-") {
-        return Part {
-            from: at,
-            to: at,
-            next: end + 1,
-        };
-    }
-    if word.len() == 0 {
-        return Part {
-            from: at,
-            to: at,
-            next: nowhere(line),
-        };
-    }
-    if !is_hex(word) {
-        return Part {
-            from: at,
-            to: at,
-            next: nowhere(line),
-        };
-    }
-    Part {
-        from: at,
-        to: end,
-        next: end + 1,
-    }
-}
-
-// Bytes in hex, at most 66,000.
-pub fn bytes_at(line: &[u8], at: usize) -> Part
-    ensures { (result.from ≤ result.to) × (result.to ≤ length line.now) }
-{
-    let digits = hex_at(line, at);
-    let size = digits.to - digits.from;
-    if size % 2 != 0 {
-        return Part {
-            from: 0,
-            to: 0,
-            next: nowhere(line),
-        };
-    }
-    if 2 * TEXT_LIMIT < size {
-        return Part {
-            from: 0,
-            to: 0,
-            next: nowhere(line),
-        };
-    }
-    digits
-}
-
-// Units in hex, at most 66,000.
-pub fn units_at(line: &[u8], at: usize) -> Part
-    ensures { (result.from ≤ result.to) × (result.to ≤ length line.now) }
-{
-    let digits = hex_at(line, at);
-    let size = digits.to - digits.from;
-    if size % 4 != 0 {
-        return Part {
-            from: 0,
-            to: 0,
-            next: nowhere(line),
-        };
-    }
-    if 4 * TEXT_LIMIT < size {
-        return Part {
-            from: 0,
-            to: 0,
-            next: nowhere(line),
-        };
-    }
-    digits
 }
 
 // The value of a hex digit; 0 where there is none.
@@ -487,7 +100,7 @@ fn nibble(digits: &[u8], at: usize) -> u8
     ensures value { result ≡ digit_at digits.now at }
 {
     if at < digits.len() {
-        return hex_value(digits[at]) % 16;
+        return hex_value(digits[at]).unwrap_or(0);
     }
     0
 }
@@ -514,93 +127,165 @@ pub fn unit_of(digits: &[u8], place: usize) -> u16
     0
 }
 
-// Whether every byte of a file's name is printable and no space.
-fn is_name(word: &[u8]) -> bool {
-    let mut i = 0;
-    while i < word.len() {
-        if word[i] < 0x21 {
-            return false;
-        }
-        if 0x7E < word[i] {
-            return false;
-        }
-        i += 1;
+impl<'a> Words<'a> {
+    // All words of a line.
+    pub fn new(line: &'a [u8]) -> Words<'a>
+        ensures { (result.line.now ≡ line.now) × (result.at ≡ 0) }
+    {
+        Words { line, at: 0 }
     }
-    true
-}
 
-// A file's name: 1 to 4,000 bytes.
-pub fn name_at(line: &[u8], at: usize) -> Part
-    ensures { (result.from ≤ result.to) × (result.to ≤ length line.now) }
-{
-    if line.len() < at {
-        return Part {
-            from: 0,
-            to: 0,
-            next: nowhere(line),
-        };
+    // The next word.
+    pub fn word(&mut self) -> Option<&'a [u8]>
+        ensures word { MatchOption result (length self.old.line.now < self.old.at) (λ word. (self.old.at ≤ length self.old.line.now) × (word.now ≡ first_word (drop self.old.at self.old.line.now))) }
+        ensures next { self.new.at ≡ next_at self.old.line.now self.old.at }
+        ensures line { self.new.line.now ≡ self.old.line.now }
+    {
+        let line = self.line;
+        let at = self.at;
+        if line.len() < at {
+            return None;
+        }
+        let end = word_end(line, at);
+        self.at = end + 1;
+        Some(&line[at..end])
     }
-    let end = word_end(line, at);
-    let word = &line[at..end];
-    if word.len() == 0 {
-        return Part {
-            from: 0,
-            to: 0,
-            next: nowhere(line),
-        };
-    }
-    if 4000 < word.len() {
-        return Part {
-            from: 0,
-            to: 0,
-            next: nowhere(line),
-        };
-    }
-    if !is_name(word) {
-        return Part {
-            from: 0,
-            to: 0,
-            next: nowhere(line),
-        };
-    }
-    Part {
-        from: at,
-        to: end,
-        next: end + 1,
-    }
-}
 
-// The ten words of a run.
-pub fn run_at(line: &[u8], at: usize) -> Record {
-    let letter = direction_at(line, at);
-    let direction = letter.value;
-    let page = number_at(line, letter.next, 65535);
-    let single = number_at(line, page.next, 255);
-    let pair = number_at(line, single.next, 255);
-    let invalid = number_at(line, pair.next, 255);
-    let found = pending_at(line, invalid.next, direction);
-    let flags = number_at(line, found.next, 255);
-    let read = number_at(line, flags.next, u64::MAX);
-    let written = number_at(line, read.next, u64::MAX);
-    let ending = ending_at(line, written.next);
-    let pending = found.value;
-    let policy = Policy {
-        single: single.value as u8,
-        pair: pair.value as u8,
-        invalid: invalid.value as u8,
-    };
-    let run = Run {
-        direction,
-        page: page.value as u16,
-        policy,
-        pending,
-        flags: flags.value as u8,
-        read: read.value,
-        written: written.value,
-        ended: ending.value,
-    };
-    Record {
-        value: run,
-        next: ending.next,
+    // Whether the line ends with the word before.
+    pub fn end(self) -> Option<()> {
+        if self.at == self.line.len() + 1 {
+            Some(())
+        } else {
+            None
+        }
+    }
+
+    // A decimal number of at most `limit`.
+    pub fn number(&mut self, limit: u64) -> Option<u64>
+        ensures value_le_limit { IfSome result (λ number. number ≤ limit) }
+        ensures value { result ≡ answered (number_at limit self.old.line.now self.old.at) }
+        ensures next { self.new.at ≡ next_at self.old.line.now self.old.at }
+        ensures line { self.new.line.now ≡ self.old.line.now }
+    {
+        let word = self.word()?;
+        let number = decimal_value(word, limit)?;
+        if !is_plain(word) {
+            return None;
+        }
+        Some(number)
+    }
+
+    // FROM and COUNT: a part of a text.
+    pub fn piece<'t, T>(&mut self, text: &'t [T]) -> Option<&'t [T]>
+        ensures { IfSome result (λ piece. length piece.now ≤ length text.now) }
+    {
+        let from = self.number(TEXT_LIMIT as u64)? as usize;
+        let count = self.number(TEXT_LIMIT as u64)? as usize;
+        text.get(from..from + count)
+    }
+
+    // `D` or `E`.
+    pub fn direction(&mut self) -> Option<Direction> {
+        match self.word()? {
+            b"D" => Some(Direction::Decoding),
+            b"E" => Some(Direction::Encoding),
+            _ => None,
+        }
+    }
+
+    // `more`, or `last`: whether a piece is the last.
+    pub fn is_last(&mut self) -> Option<bool> {
+        match self.word()? {
+            b"more" => Some(false),
+            b"last" => Some(true),
+            _ => None,
+        }
+    }
+
+    // `on`, or `over`: whether a run is over.
+    pub fn is_over(&mut self) -> Option<bool> {
+        match self.word()? {
+            b"on" => Some(false),
+            b"over" => Some(true),
+            _ => None,
+        }
+    }
+
+    // Three digits in one word. Whether they are a policy that is allowed is for the library to say.
+    pub fn policy(&mut self) -> Option<Policy> {
+        let [single, pair, invalid] = self.word()? else {
+            return None;
+        };
+        Some(Policy {
+            single: digit_value(*single)?,
+            pair: digit_value(*pair)?,
+            invalid: digit_value(*invalid)?,
+        })
+    }
+
+    // Hex digits; none for `-`.
+    fn digits(&mut self) -> Option<&'a [u8]> {
+        let word = self.word()?;
+        if word == b"-".as_slice() {
+            return Some(&word[..0]);
+        }
+        if word.is_empty() || !is_hex(word) {
+            return None;
+        }
+        Some(word)
+    }
+
+    // Bytes or units in hex, at most 66,000.
+    pub fn elements<T: Element>(&mut self) -> Option<Spelled<'a>> {
+        let digits = self.digits()?;
+        let count = T::count_of(digits)?;
+        if TEXT_LIMIT < count {
+            return None;
+        }
+        Some(Spelled { digits, count })
+    }
+
+    // What is pending in a run of a direction, in hex: a byte in decoding, a unit in encoding; or `-`.
+    pub fn pending(&mut self, direction: Direction) -> Option<Pending> {
+        let digits = self.digits()?;
+        match (direction, digits.len()) {
+            (_, 0) => Some(Pending::Nothing),
+            (Direction::Decoding, 2) => Some(Pending::Byte(byte_of(digits, 0))),
+            (Direction::Encoding, 4) => Some(Pending::High(unit_of(digits, 0))),
+            _ => None,
+        }
+    }
+
+    // A file's name: 1 to 4,000 bytes, each printable and no space.
+    pub fn name(&mut self) -> Option<&'a [u8]> {
+        let word = self.word()?;
+        if word.is_empty() || NAME_LIMIT < word.len() {
+            return None;
+        }
+        if !word.iter().all(|byte| matches!(*byte, 0x21..=0x7E)) {
+            return None;
+        }
+        Some(word)
+    }
+
+    // The ten words of a run.
+    pub fn run(&mut self) -> Option<Run> {
+        let direction = self.direction()?;
+        let page = self.number(65535)? as u16;
+        let policy = Policy {
+            single: self.number(255)? as u8,
+            pair: self.number(255)? as u8,
+            invalid: self.number(255)? as u8,
+        };
+        Some(Run {
+            direction,
+            page,
+            policy,
+            pending: self.pending(direction)?,
+            flags: self.number(255)? as u8,
+            read: self.number(u64::MAX)?,
+            written: self.number(u64::MAX)?,
+            ended: self.is_over()?,
+        })
     }
 }

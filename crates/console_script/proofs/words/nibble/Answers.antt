@@ -1,9 +1,8 @@
-use native.Mathlib.Omega.{arith}
-use Rattle.console_script.proofs.WordLaws.{digit_in, digit_out}
+use Rattle.console_script.proofs.WordLaws.{digit_read, digit_out}
 use Rattle.console_script.proofs.words.nibble.Goals as goal
 
-pub returns-then-at-digits : goal.returns-then-at-digits
-returns-then-at-digits c = record { upper_bound = omega arith; value = digit_in _ _ _ c.hex_value.ensures.value }
+pub returns-then-at-digits-clause-value : goal.returns-then-at-digits-clause-value
+returns-then-at-digits-clause-value c = digit_read c.args.digits.now c.args.at c.hex_value.ensures c.unwrap_or.ensures
 
-pub returns : goal.returns
-returns c = record { upper_bound = omega arith; value = digit_out _ _ c.if-at-digits.false }
+pub returns-clause-value : goal.returns-clause-value
+returns-clause-value c = digit_out _ _ c.if-at-digits.false
