@@ -79,6 +79,7 @@ fn met_plain(plain: bool, text: &[u8], from: usize, n: usize) -> usize
         return 0;
     }
     let mut k = 0;
+    // Kept: the step is what was found there, so there is no range to go over.
     while 8 <= n - k {
         let count = mixed::plain_count(words::word_at(text, from + k));
         k += count;
@@ -171,6 +172,7 @@ fn met_long(plain: bool, tables: &LeadTables<'_>, text: &[u8], from: usize) -> P
 {
     let mut i = from;
     let mut w = 0;
+    // Kept: the step is what was found there, so there is no range to go over.
     while i < text.len() {
         let place = met_mixed(plain, tables, text, i, text.len() - i);
         if place.read <= i {

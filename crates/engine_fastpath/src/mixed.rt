@@ -86,6 +86,7 @@ fn run_of_plain(piece: &[u8], from: usize, at: usize, n: usize, out: &mut [u16])
     ensures { (result ≤ n) × ((classes singles pairs : List ℕ) → PlainPage classes singles → Ran (decoder classes singles pairs) piece.now out.old from at out.new (from + result) (at + result)) }
 {
     let mut k = 0;
+    // Kept: the step is what was found there, so there is no range to go over.
     while 8 <= n - k {
         let word = words::word_at(piece, from + k);
         if 0x80 <= first_of(word) {
@@ -112,13 +113,15 @@ fn run_of_pairs(
     requires { (from + n ≤ length piece.now) × (at + n ≤ length out.old) }
     ensures { (2 * result ≤ n) × Ran (byte_reader tables.now.tables) piece.now out.old from at out.new (from + 2 * result) (at + result) }
 {
+    // A copy, so that what is written can not be taken for a part of it.
+    let own = *tables;
     let most = n / 2;
     for k in 0..most {
         let lead = piece[from + 2 * k];
-        if !tables.tables.is_known_lead(lead) {
+        if !own.tables.is_known_lead(lead) {
             return k;
         }
-        let unit = tables.pair_unit(lead, piece[from + 2 * k + 1]);
+        let unit = own.pair_unit(lead, piece[from + 2 * k + 1]);
         if unit == 0xFFFF {
             return k;
         }
@@ -171,6 +174,7 @@ pub fn run_of_mixed(
     let end = from + runs::smaller(piece.len() - from, out.len() - at);
     let mut i = from;
     let mut w = at;
+    // Kept: the step is what was found there, so there is no range to go over.
     while i < end {
         let place = take_mixed(tables, piece, i, w, end - i, out);
         if place.read <= i {

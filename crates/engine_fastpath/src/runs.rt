@@ -112,7 +112,7 @@ fn run_of_few(
 }
 
 // Bytes alone, `n` at most, four in a turn: how many were taken.
-pub fn run_of_alone(
+pub(crate) fn run_of_alone(
     tables: &ByteTables<'_>,
     piece: &[u8],
     from: usize,
@@ -123,15 +123,17 @@ pub fn run_of_alone(
     requires { (from + n ≤ length piece.now) × (at + n ≤ length out.old) }
     ensures { (result ≤ n) × SinglesTaken tables.now.singles.now piece.now out.old from at out.new result }
 {
+    // A copy, so that what is written can not be taken for a part of it.
+    let own = *tables;
     let mut k = 0;
     while 4 <= n - k {
-        let taken = take_four(tables, piece, from + k, out, at + k);
+        let taken = take_four(&own, piece, from + k, out, at + k);
         if taken < 4 {
             return k + taken;
         }
         k += 4;
     }
-    k + run_of_few(tables, piece, from + k, at + k, n - k, out)
+    k + run_of_few(&own, piece, from + k, at + k, n - k, out)
 }
 
 // Bytes of a page that has only singles, sixteen in a turn: how many were taken. So large a turn, with two callers, stays a function
@@ -146,16 +148,18 @@ pub fn run_of_singles(
     requires { (from ≤ length piece.now) × (at ≤ length out.old) }
     ensures { SinglesTaken tables.now.singles.now piece.now out.old from at out.new result }
 {
+    // A copy, so that what is written can not be taken for a part of it.
+    let own = *tables;
     let n = smaller(piece.len() - from, out.len() - at);
     let mut k = 0;
     while 16 <= n - k {
-        let taken = take_sixteen(tables, piece, from + k, out, at + k);
+        let taken = take_sixteen(&own, piece, from + k, out, at + k);
         if taken < 16 {
             return k + taken;
         }
         k += 16;
     }
-    k + run_of_few(tables, piece, from + k, at + k, n - k, out)
+    k + run_of_few(&own, piece, from + k, at + k, n - k, out)
 }
 
 // Codes of one or two bytes. The classes of the two bytes behind a code's first are read before it is told what the code is: where
@@ -170,6 +174,8 @@ pub fn run_of_codes(
     requires { (from ≤ length piece.now) × (at ≤ length out.old) }
     ensures { Ran (byte_reader tables.now.tables) piece.now out.old from at out.new result.read result.written }
 {
+    // A copy, so that what is written can not be taken for a part of it.
+    let own = *tables;
     let end = from + smaller(piece.len() - from, out.len() - at);
     let mut i = from;
     let mut w = at;
@@ -179,15 +185,16 @@ pub fn run_of_codes(
             written: w,
         };
     }
-    let bytes = tables.tables;
+    let bytes = own.tables;
     let mut class = bytes.class_of(piece[i]);
+    // Kept: the step is what was found there, so there is no range to go over.
     while 3 <= end - i {
         let byte = piece[i];
         let second = piece[i + 1];
         let next = bytes.class_of(second);
         let after = bytes.class_of(piece[i + 2]);
         if codepage_lookup::known_lead(class) {
-            let unit = tables.known_pair_unit(next, byte, second);
+            let unit = own.known_pair_unit(next, byte, second);
             if unit == 0xFFFF {
                 return Place {
                     read: i,

@@ -132,6 +132,7 @@ fn count_codes(v: &ByteConverter<'_>, text: &[u8]) -> Progress
     let leads = v.with_leads();
     let plain = v.tables.keeps_plain();
     let mut t = turns::start(None);
+    // Kept: a turn says how far it went, so there is no range to go over.
     while t.at < text.len() {
         t = turn_decoded(&leads, plain, text, t);
         let s = t.progress;
@@ -167,6 +168,7 @@ fn count_singles(v: &ByteConverter<'_>, text: &[u8]) -> Progress
     ensures { result ≡ summary (feed_from (by_bytes v.now) true endless none text.now) }
 {
     let mut t = turns::start(None);
+    // Kept: a turn says how far it went, so there is no range to go over.
     while t.at < text.len() {
         t = turn_singles(v, text, t);
         let s = t.progress;
@@ -273,6 +275,7 @@ fn count_units(v: &UnitConverter<'_>, bound: u16, text: &[u16]) -> Progress
 {
     let asked = v.tables.may_ask(bound, text);
     let mut t = turns::start(None);
+    // Kept: a turn says how far it went, so there is no range to go over.
     while t.at < text.len() {
         t = turn_encoded(v, asked, text, t);
         let s = t.progress;

@@ -64,6 +64,7 @@ fn singles_rest(
     ensures { (length out.new ≡ length out.old) × ((F : Fed) (before : List ℕ) → Loop (by_bytes v.now) last F before piece.now out.old from → Ends F before out.new result) }
 {
     let mut t = from;
+    // Kept: a turn says how far it went, so there is no range to go over.
     while t.at < piece.len() {
         t = singles_turn(v, piece, t, out);
         let s = t.progress;
@@ -203,6 +204,7 @@ fn decode_rest(
 {
     let mut t = from;
     let mut long = plain;
+    // Kept: a turn says how far it went, so there is no range to go over.
     while t.at < piece.len() {
         let before = t.at;
         t = codes_turn(v, long, piece, t, out);

@@ -118,6 +118,7 @@ fn encode_codes(
 {
     let asked = v.tables.may_ask(bound, piece);
     let mut t = turns::start(pending);
+    // Kept: a turn says how far it went, so there is no range to go over.
     while t.at < piece.len() {
         t = codes_turn(v, asked, piece, t, out);
         let s = t.progress;
