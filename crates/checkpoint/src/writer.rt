@@ -14,6 +14,7 @@ fn decimal_len(number: u64) -> usize
 {
     let mut rest = number;
     let mut size = 1;
+    // Kept: it divides until one digit is left, so there is no range to go over.
     while 9 < rest {
         rest = rest / 10;
         size += 1;

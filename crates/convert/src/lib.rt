@@ -30,6 +30,7 @@ pub use engine::{Direction, Policy};
 pub use units::{Input, byte_converter, unit_converter};
 
 // What was read at the end of a piece and waits for what follows (documents 01 and 02: what is pending), or none.
+// Kept: two of its cases hold a unit, of different sizes, so it is no Option.
 #[derive(Clone, Copy)]
 pub enum Pending {
     Nothing,
@@ -79,6 +80,7 @@ pub enum Refusal {
 }
 
 // What a run call answers.
+// Kept: documents 01 and 02 number its cases, and a refused call gives counts and the run too, so it is no Result.
 #[derive(Clone, Copy, Debug, PartialEq, Eq)]
 pub enum Answer {
     // 0: all read, nothing pending, not stopped.
@@ -192,7 +194,7 @@ pub fn call<I: Input>(
 }
 
 // One call of a decoding run.
-// Kept: the C interface (`capi::till_decode`) calls `call` for bytes by this name.
+// Kept: README.md and docs/PROMISES.md promise `call` for bytes by this name.
 pub fn decode(run: Run, tables: &TableSet, piece: &[u8], last: bool, out: &mut [u16]) -> Outcome
     ensures { Answered (run_call Decoding run (page_of tables.now) piece.now last (length out.old)) result out.old out.new }
 {
@@ -200,7 +202,7 @@ pub fn decode(run: Run, tables: &TableSet, piece: &[u8], last: bool, out: &mut [
 }
 
 // One call of an encoding run.
-// Kept: the C interface (`capi::till_encode`) calls `call` for units by this name.
+// Kept: README.md and docs/PROMISES.md promise `call` for units by this name.
 pub fn encode(run: Run, tables: &TableSet, piece: &[u16], last: bool, out: &mut [u8]) -> Outcome
     ensures { Answered (run_call Encoding run (page_of tables.now) piece.now last (length out.old)) result out.old out.new }
 {

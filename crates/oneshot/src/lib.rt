@@ -190,7 +190,7 @@ pub fn convert_text<I: Text>(
 }
 
 // Decodes a byte text, and says what all of it needs; with empty room it only counts.
-// Kept: the C interface (`capi_text::till_decode_text`) calls `convert_text` for bytes by this name.
+// Kept: README.md and docs/PROMISES.md promise `convert_text` for bytes by this name.
 pub fn decode_text(
     policy: Policy,
     tables: &TableSet,
@@ -203,7 +203,7 @@ pub fn decode_text(
 }
 
 // Encodes a unit text, and says what all of it needs; with empty room it only counts.
-// Kept: the C interface (`capi_text::till_encode_text`) calls `convert_text` for units by this name.
+// Kept: README.md and docs/PROMISES.md promise `convert_text` for units by this name.
 pub fn encode_text(
     policy: Policy,
     tables: &TableSet,
