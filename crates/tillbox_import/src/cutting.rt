@@ -47,6 +47,7 @@ impl Begun {
         records: &mut Records,
     ) -> Result<Option<usize>, Reported> {
         let mut at = 0;
+        // Kept: a turn moves by the units that it read, so there is no range to go over.
         loop {
             let rest = &units[at..];
             let Some(read) = self.cut_next(rest, last, records)? else {

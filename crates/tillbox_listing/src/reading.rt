@@ -56,6 +56,7 @@ fn take_bytes(
     table: &[u8],
 ) -> Result<(), Reported> {
     let mut rest = block;
+    // Kept: `split_inclusive` would leave the edit `line_feed_left` nothing to apply to.
     while !rest.is_empty() {
         let (line, next) = rest.split_at(line_len(rest));
         state.append(line);

@@ -84,14 +84,19 @@ impl Entry {
     }
 }
 
-// The first process of some entries that is at work, but for `own`. What stands behind the last line feed is no entry yet.
+// The first process of some entries that is at work, but for `own`. What stands behind the last line feed is no entry yet. No job has the
+// process 0: an entry of it that is taken for one at work ends the search.
 pub fn worker_in(rt: &HostRuntime, entries: &[u8], lock: Identity, own: u64) -> Option<u64> {
     for line in entries.split_inclusive(|byte| *byte == b'\n') {
         if let Some(entry) = line.strip_suffix(b"\n").and_then(Entry::of_line)
             && entry.process != own
             && entry.is_at_work(rt, lock)
         {
-            return Some(entry.process);
+            return if entry.process == 0 {
+                None
+            } else {
+                Some(entry.process)
+            };
         }
     }
     None

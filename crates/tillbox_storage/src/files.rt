@@ -152,6 +152,7 @@ impl OpenFile<'_> {
     {
         let mut reader = &self.file;
         let mut at = 0;
+        // Kept: each read gives as many bytes as there are, so there is no range to go over.
         while at < buffer.len() {
             match reader.read(&mut buffer[at..]) {
                 Ok(0) => break,

@@ -22,6 +22,7 @@ pub fn code_from(classes: &[u8], text: &[u8], from: usize, least: usize) -> usiz
     if classes.len() != 256 {
         return at;
     }
+    // Kept: a turn moves by the code that it read, so there is no range to go over.
     while at < text.len() {
         if least <= at {
             return at;
