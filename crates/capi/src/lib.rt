@@ -11,9 +11,10 @@ ghost use Rattle.checkpoint.specs.Line.{read_of, restored_as, written_as};
 ghost use Rattle.capi.specs.Interface.{direction_in, direction_out, is_pending, pending_in, pending_out, flag_out, is_run, run_on, run_out, no_run, till_page, is_last, till_call, TillAnswered, page_named, answer_out, start_out, till_start, load_out, till_save, TillSavedAs, fault_out};
 
 pub mod cutting;
+pub mod tables;
 
 use checkpoint::Refusal;
-use codepage::{Fault, Numbers, TableSet};
+use codepage::Fault;
 use convert::{Outcome, Pending, Run, StartError};
 use engine::{Direction, Policy};
 
@@ -249,18 +250,16 @@ pub fn till_decode(
 ) -> TillOutcome
     ensures { TillAnswered (till_call Decoding run (till_page page default_byte default_unit classes.now singles.now pairs.now index.now blocks.now) piece.now last (length out.old)) result out.old out.new }
 {
-    let tables = TableSet {
-        numbers: Numbers {
-            page,
-            default_byte,
-            default_unit,
-        },
+    let tables = tables::table_set(
+        page,
+        default_byte,
+        default_unit,
         classes,
         singles,
         pairs,
         index,
         blocks,
-    };
+    );
     let inner = run_on(page_named(run), run);
     let o = convert::decode(inner, &tables, piece, is_last(last), out);
     answer_out(run, o)
@@ -284,18 +283,16 @@ pub fn till_encode(
 ) -> TillOutcome
     ensures { TillAnswered (till_call Encoding run (till_page page default_byte default_unit classes.now singles.now pairs.now index.now blocks.now) piece.now last (length out.old)) result out.old out.new }
 {
-    let tables = TableSet {
-        numbers: Numbers {
-            page,
-            default_byte,
-            default_unit,
-        },
+    let tables = tables::table_set(
+        page,
+        default_byte,
+        default_unit,
         classes,
         singles,
         pairs,
         index,
         blocks,
-    };
+    );
     let inner = run_on(page_named(run), run);
     let o = convert::encode(inner, &tables, piece, is_last(last), out);
     answer_out(run, o)
@@ -469,18 +466,16 @@ pub fn till_shape(
 ) -> TillFault
     ensures { result ≡ fault_out (first_fault (till_page page default_byte default_unit classes.now singles.now pairs.now index.now blocks.now)) }
 {
-    let tables = TableSet {
-        numbers: Numbers {
-            page,
-            default_byte,
-            default_unit,
-        },
+    let tables = tables::table_set(
+        page,
+        default_byte,
+        default_unit,
         classes,
         singles,
         pairs,
         index,
         blocks,
-    };
+    );
     let report = codepage::shape_report(&tables);
     TillFault::from(report)
 }

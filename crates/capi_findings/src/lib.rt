@@ -9,7 +9,6 @@ ghost use Rattle.findings.specs.Calls.{findings_call};
 ghost use Rattle.capi.specs.Interface.{till_page};
 ghost use Rattle.capi_findings.specs.Findings.{findings_out, TillListed};
 
-use codepage::{Numbers, TableSet};
 use engine::Policy;
 use findings::{Finding, Refusal};
 
@@ -59,18 +58,16 @@ pub fn till_findings(
         pair,
         invalid,
     };
-    let tables = TableSet {
-        numbers: Numbers {
-            page,
-            default_byte,
-            default_unit,
-        },
+    let tables = capi::tables::table_set(
+        page,
+        default_byte,
+        default_unit,
         classes,
         singles,
         pairs,
         index,
         blocks,
-    };
+    );
     let answer = findings::list_findings(policy, &tables, text, list);
     TillFindings::from(answer)
 }

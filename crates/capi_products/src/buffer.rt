@@ -5,7 +5,6 @@ ghost use Rattle.inplace.specs.InPlace.{in_place_of};
 ghost use Rattle.capi.specs.Interface.{till_page};
 ghost use Rattle.capi_products.specs.Buffer.{encoded_out, TillEncodedAs};
 
-use codepage::{Numbers, TableSet};
 use convert::Policy;
 use inplace::{Encoded, Refusal};
 
@@ -58,18 +57,16 @@ pub fn till_encode_in_place(
 ) -> TillInPlace
     ensures { TillEncodedAs (in_place_of (digits single pair invalid) (till_page page default_byte default_unit classes.now singles.now pairs.now index.now blocks.now) buffer.old) result buffer.new }
 {
-    let tables = TableSet {
-        numbers: Numbers {
-            page,
-            default_byte,
-            default_unit,
-        },
+    let tables = capi::tables::table_set(
+        page,
+        default_byte,
+        default_unit,
         classes,
         singles,
         pairs,
         index,
         blocks,
-    };
+    );
     let policy = Policy {
         single,
         pair,

@@ -5,7 +5,6 @@ ghost use Rattle.capi.specs.Interface.{till_page};
 ghost use Rattle.capi_products.specs.Index.{appended_out, found_out, TillIndexed};
 
 use charindex::{Found, Refusal};
-use codepage::{Numbers, TableSet};
 
 // What appending answers. number: 0, or that of the refusal. count: the entries that the index then has for the journal.
 #[repr(C)]
@@ -75,18 +74,16 @@ pub fn till_append_index(
 ) -> TillAppended
     ensures { TillIndexed (appending_of (till_page page default_byte default_unit classes.now singles.now pairs.now index.now blocks.now) journal.now former entries.old) result entries.new }
 {
-    let tables = TableSet {
-        numbers: Numbers {
-            page,
-            default_byte,
-            default_unit,
-        },
+    let tables = capi::tables::table_set(
+        page,
+        default_byte,
+        default_unit,
         classes,
         singles,
         pairs,
         index,
         blocks,
-    };
+    );
     let appended = charindex::append(&tables, journal, former, entries);
     TillAppended::from(appended)
 }
@@ -107,18 +104,16 @@ pub fn till_find_code(
 ) -> TillFound
     ensures { result ≡ found_out (finding_of (till_page page default_byte default_unit classes.now singles.now pairs.now index.now blocks.now) journal.now entries.now n) }
 {
-    let tables = TableSet {
-        numbers: Numbers {
-            page,
-            default_byte,
-            default_unit,
-        },
+    let tables = capi::tables::table_set(
+        page,
+        default_byte,
+        default_unit,
         classes,
         singles,
         pairs,
         index,
         blocks,
-    };
+    );
     let found = charindex::find(&tables, journal, entries, n);
     TillFound::from(found)
 }

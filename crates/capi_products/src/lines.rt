@@ -4,7 +4,6 @@ ghost use Rattle.linebreak.specs.Calls.{check_of, proposal_of};
 ghost use Rattle.capi.specs.Interface.{till_page};
 ghost use Rattle.capi_products.specs.Lines.{checked_out, proposed_out, TillProposed};
 
-use codepage::{Numbers, TableSet};
 use linebreak::Refusal;
 
 // What a proposal answers. number: 0, or that of the refusal. count: the breaks that were written to the front of the list.
@@ -57,18 +56,16 @@ pub fn till_check_breaks(
 ) -> u8
     ensures { result ≡ checked_out (check_of (till_page page default_byte default_unit classes.now singles.now pairs.now index.now blocks.now) text.now width breaks.now) }
 {
-    let tables = TableSet {
-        numbers: Numbers {
-            page,
-            default_byte,
-            default_unit,
-        },
+    let tables = capi::tables::table_set(
+        page,
+        default_byte,
+        default_unit,
         classes,
         singles,
         pairs,
         index,
         blocks,
-    };
+    );
     let checked = linebreak::check_breaks(&tables, text, width, breaks);
     checked_out(checked)
 }
@@ -89,18 +86,16 @@ pub fn till_propose_breaks(
 ) -> TillBreaks
     ensures { TillProposed (proposal_of (till_page page default_byte default_unit classes.now singles.now pairs.now index.now blocks.now) text.now width (length out.old)) result out.old out.new }
 {
-    let tables = TableSet {
-        numbers: Numbers {
-            page,
-            default_byte,
-            default_unit,
-        },
+    let tables = capi::tables::table_set(
+        page,
+        default_byte,
+        default_unit,
         classes,
         singles,
         pairs,
         index,
         blocks,
-    };
+    );
     let proposed = linebreak::propose_breaks(&tables, text, width, out);
     TillBreaks::from(proposed)
 }

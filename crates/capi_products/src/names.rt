@@ -4,7 +4,6 @@ ghost use Rattle.spelling.specs.Calls.{spelling_of};
 ghost use Rattle.capi.specs.Interface.{till_page};
 ghost use Rattle.capi_products.specs.Spelling.{refused_out, spelled_out, TillSpelledAs};
 
-use codepage::{Numbers, TableSet};
 use spelling::Refusal;
 
 // What the call answers. number: 0, or that of the refusal. written: the bytes of the spelling. place: of 24, that of the first code at
@@ -78,18 +77,16 @@ pub fn till_spell(
 ) -> TillSpelled
     ensures { TillSpelledAs (spelling_of (till_page page default_byte default_unit classes.now singles.now pairs.now index.now blocks.now) text.now (length out.old)) result out.old out.new }
 {
-    let tables = TableSet {
-        numbers: Numbers {
-            page,
-            default_byte,
-            default_unit,
-        },
+    let tables = capi::tables::table_set(
+        page,
+        default_byte,
+        default_unit,
         classes,
         singles,
         pairs,
         index,
         blocks,
-    };
+    );
     let spelled = spelling::standard_spelling(&tables, text, out);
     TillSpelled::from(spelled)
 }

@@ -8,7 +8,7 @@ ghost use Rattle.engine.specs.declared.Direction.TheVariants.{Decoding, Encoding
 ghost use Rattle.capi.specs.Interface.{till_page, till_call, TillAnswered};
 ghost use Rattle.capi_record.specs.Records.{till_outcome_of};
 
-use capi::TillRun;
+use capi::{TillOutcome, TillRun};
 
 // What a call on a record answers; the new run is in the record.
 #[repr(C)]
@@ -17,6 +17,18 @@ pub struct TillHere {
     pub read: usize,
     pub written: usize,
     pub number: u8,
+}
+
+// Puts the new run of a call into the record, and answers the rest.
+fn stored(run: &mut TillRun, outcome: TillOutcome) -> TillHere
+    ensures { till_outcome_of result run.new ≡ outcome }
+{
+    *run = outcome.run;
+    TillHere {
+        read: outcome.read,
+        written: outcome.written,
+        number: outcome.number,
+    }
 }
 
 // One call of the decoding run in a record. A refused call leaves in the record what it held.
@@ -51,12 +63,7 @@ pub fn till_decode_here(
         last,
         out,
     );
-    *run = outcome.run;
-    TillHere {
-        read: outcome.read,
-        written: outcome.written,
-        number: outcome.number,
-    }
+    stored(run, outcome)
 }
 
 // One call of the encoding run in a record. A refused call leaves in the record what it held.
@@ -91,10 +98,5 @@ pub fn till_encode_here(
         last,
         out,
     );
-    *run = outcome.run;
-    TillHere {
-        read: outcome.read,
-        written: outcome.written,
-        number: outcome.number,
-    }
+    stored(run, outcome)
 }

@@ -10,7 +10,6 @@ ghost use Rattle.capi.specs.Interface.{till_page};
 ghost use Rattle.engine.specs.Policies.{digits};
 ghost use Rattle.capi_text.specs.Texts.{converted_out, TillConverted};
 
-use codepage::{Numbers, TableSet};
 use engine::Policy;
 use oneshot::{Converted, TextRefusal};
 
@@ -88,18 +87,16 @@ pub fn till_decode_text(
 ) -> TillText
     ensures { TillConverted (text_of Decoding (digits single pair invalid) (till_page page default_byte default_unit classes.now singles.now pairs.now index.now blocks.now) text.now (length out.old)) result out.old out.new }
 {
-    let tables = TableSet {
-        numbers: Numbers {
-            page,
-            default_byte,
-            default_unit,
-        },
+    let tables = capi::tables::table_set(
+        page,
+        default_byte,
+        default_unit,
         classes,
         singles,
         pairs,
         index,
         blocks,
-    };
+    );
     let policy = policy_in(single, pair, invalid);
     let answer = oneshot::decode_text(policy, &tables, text, out);
     TillText::from(answer)
@@ -124,18 +121,16 @@ pub fn till_encode_text(
 ) -> TillText
     ensures { TillConverted (text_of Encoding (digits single pair invalid) (till_page page default_byte default_unit classes.now singles.now pairs.now index.now blocks.now) text.now (length out.old)) result out.old out.new }
 {
-    let tables = TableSet {
-        numbers: Numbers {
-            page,
-            default_byte,
-            default_unit,
-        },
+    let tables = capi::tables::table_set(
+        page,
+        default_byte,
+        default_unit,
         classes,
         singles,
         pairs,
         index,
         blocks,
-    };
+    );
     let policy = policy_in(single, pair, invalid);
     let answer = oneshot::encode_text(policy, &tables, text, out);
     TillText::from(answer)

@@ -8,4 +8,4 @@ use Rattle.capi.proofs.till_decode.Goals as goal
 pub returns : goal.returns
 returns c =
     let inner = c.run_on-inner.ensures ∙ ap (λ (page : ℕ). run_on page c.args.run) c.page_named.ensures in
-    call_answered Decoding _ _ _ _ _ _ _ _ _ _ inner c.is_last.ensures c.decode-o.ensures c.answer_out.ensures
+    call_answered Decoding _ _ _ _ _ _ _ _ _ _ inner c.is_last.ensures (rw c.table_set-tables.ensures at c.decode-o.ensures) c.answer_out.ensures

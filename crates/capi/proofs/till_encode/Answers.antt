@@ -8,4 +8,4 @@ use Rattle.capi.proofs.till_encode.Goals as goal
 pub returns : goal.returns
 returns c =
     let inner = c.run_on-inner.ensures ∙ ap (λ (page : ℕ). run_on page c.args.run) c.page_named.ensures in
-    call_answered Encoding _ _ _ _ _ _ _ _ _ _ inner c.is_last.ensures c.encode-o.ensures c.answer_out.ensures
+    call_answered Encoding _ _ _ _ _ _ _ _ _ _ inner c.is_last.ensures (rw c.table_set-tables.ensures at c.encode-o.ensures) c.answer_out.ensures
