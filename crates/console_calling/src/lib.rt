@@ -6,14 +6,56 @@ mod answers;
 mod run;
 mod text;
 
+use codepage::TableSet;
 use console_print::Output;
 use console_script::command::Command;
 use console_script::state::Console;
+use console_script::texts::{Element, Text};
 use console_script::words::Words;
+use convert::{Input, Run};
+
+// A run call by the name of its command: on a run that is given, or, as the second name says, through a run record.
+fn call_either<I: Input>(
+    names: (&[u8], &[u8]),
+    is_here: bool,
+    words: Words<'_>,
+    tables: &TableSet<'_>,
+    text: &[I],
+    run: &mut Run,
+    room: &mut Text<'_, I::Output>,
+    out: &mut Output<'_>,
+) -> Option<()>
+where
+    I::Output: Element,
+{
+    let (given, here) = names;
+    if is_here {
+        return run::call(
+            here,
+            words,
+            text,
+            run,
+            room,
+            out,
+            |run, piece, is_last, room| {
+                runrecord::call_through(run, tables, piece, is_last, room)
+            },
+        );
+    }
+    run::call(
+        given,
+        words,
+        text,
+        run,
+        room,
+        out,
+        |run, piece, is_last, room| { convert::call(run, tables, piece, is_last, room) },
+    )
+}
 
 // `decode FROM COUNT more ROOM`, or `decodehere`.
 fn decode(
-    command: Command,
+    is_here: bool,
     words: Words<'_>,
     console: &mut Console<'_>,
     out: &mut Output<'_>,
@@ -22,31 +64,21 @@ fn decode(
     let text = console.bytes.items();
     let run = &mut console.run;
     let room = &mut console.unit_room;
-    if let Command::DecodeHere = command {
-        return run::call(
-            b"decodehere",
-            words,
-            text,
-            run,
-            room,
-            out,
-            |run, piece, is_last, room| runrecord::call_through(run, tables, piece, is_last, room),
-        );
-    }
-    run::call(
-        b"decode",
+    call_either(
+        (b"decode", b"decodehere"),
+        is_here,
         words,
+        tables,
         text,
         run,
         room,
         out,
-        |run, piece, is_last, room| convert::decode(run, tables, piece, is_last, room),
     )
 }
 
 // `encode FROM COUNT more ROOM`, or `encodehere`.
 fn encode(
-    command: Command,
+    is_here: bool,
     words: Words<'_>,
     console: &mut Console<'_>,
     out: &mut Output<'_>,
@@ -55,25 +87,15 @@ fn encode(
     let text = console.units.items();
     let run = &mut console.run;
     let room = &mut console.byte_room;
-    if let Command::EncodeHere = command {
-        return run::call(
-            b"encodehere",
-            words,
-            text,
-            run,
-            room,
-            out,
-            |run, piece, is_last, room| runrecord::call_through(run, tables, piece, is_last, room),
-        );
-    }
-    run::call(
-        b"encode",
+    call_either(
+        (b"encode", b"encodehere"),
+        is_here,
         words,
+        tables,
         text,
         run,
         room,
         out,
-        |run, piece, is_last, room| convert::encode(run, tables, piece, is_last, room),
     )
 }
 
@@ -100,8 +122,10 @@ fn call_product(
         Command::Spell => console_spelling::spell(words, tables, text, room, out),
         Command::InPlace => console_inplace::encode_in_place(words, tables, room, out),
         Command::Findings => console_findings::list_findings(words, tables, text, out),
-        Command::Decode | Command::DecodeHere => decode(command, words, console, out),
-        Command::Encode | Command::EncodeHere => encode(command, words, console, out),
+        Command::Decode => decode(false, words, console, out),
+        Command::DecodeHere => decode(true, words, console, out),
+        Command::Encode => encode(false, words, console, out),
+        Command::EncodeHere => encode(true, words, console, out),
         _ => None,
     }
 }
