@@ -67,7 +67,10 @@ fn put_bytes(bytes: &[u8], at: usize, out: &mut [u8]) -> usize
     requires { at + length bytes.now ≤ length out.old }
     ensures { Put bytes.now out.old at result out.new }
 {
-    out[at..at + bytes.len()].copy_from_slice(bytes);
+    // Kept: std's copy of a slice would have the archive for C ask for memmove.
+    for i in 0..bytes.len() {
+        out[at + i] = bytes[i];
+    }
     at + bytes.len()
 }
 

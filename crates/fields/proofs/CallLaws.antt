@@ -2,15 +2,15 @@
 use Rattle.std.proofs.Common.{Result, Ok, Err, Some, None, cond, position, unwrap_or}
 use Rattle.std.specs.List.{position_or_len}
 use Rattle.std.proofs.lemmas.List.Recursion.{is_position_or_len}
-use borrow.Rule.Slice.PartMut.{put_mid}
 use mathlib.Core.Bool.{Bool, true, false, ◌||◌, ◌&&◌, true≢false, false≢true}
-use mathlib.Core.List.{List, [], ◌∷◌}
+use mathlib.Core.List.{List, [], ◌∷◌, ◌++◌, append_assoc}
 use mathlib.Core.Option.{Option, none, some}
 use mathlib.Core.Path.{◌≡◌, refl, sym, ap, ◌∙◌, subst}
 use Prim.Native.Nat.{ℕ, zero, suc, ◌+◌, ◌≤◌, ◌<◌, min}
 use native.Mathlib.Omega.{arith}
 use lib.Dec.{eqb, ltb}
-use lib.ListN.{length, get_or, take, length-take}
+use lib.ListN.{length, get_or, take, drop, length-take}
+use lib.Seq.{paste, drop-drop, take-length}
 use borrow.Author.Tests.{ltb-false, le-leb, lt-leb, eq-eqb, ne_eqb}
 use Rattle.codepage.specs.CodePage.{pick}
 use Rattle.codepage.specs.Lent.{over}
@@ -85,9 +85,12 @@ scanned_size units = by (ltb (position_or_len is_separator units) (length units)
 
 -- ---- the copy
 -- units copied behind those held are laid over the buffer there
-pub laid : (buffer : List ℕ) (held size : ℕ) (units copied : List ℕ) → size ≡ length units → copied ≡ units → put_mid held size buffer copied ≡ over_from held buffer units
+pub laid : (buffer : List ℕ) (held : ℕ) (units : List ℕ) → paste buffer held units (length units) ≡ over_from held buffer units
 unfolding over_from over
-laid buffer held size units copied n e = ap (λ (l : List ℕ). put_mid held size buffer l) e ∙ ap (λ (k : ℕ). put_mid held k buffer units) n
+laid buffer held units =
+    append_assoc (take held buffer) (take (length units) units) (drop (held + length units) buffer)
+    ∙ ap (λ (l : List ℕ). take held buffer ++ (l ++ drop (held + length units) buffer)) (take-length units)
+    ∙ ap (λ (r : List ℕ). take held buffer ++ (units ++ r)) (sym (drop-drop (length units) held buffer))
 
 -- ---- what ends the next field
 separator_end_lem : (u : ℕ) (end : End) → separator u ≡ some end → end ≡ separator_end u

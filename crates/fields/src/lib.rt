@@ -228,7 +228,10 @@ fn lay(buffer: &mut [u16], held: usize, units: &[u16])
     requires { held + length units.now ≤ length buffer.old }
     ensures { buffer.new ≡ over_from held buffer.old units.now }
 {
-    buffer[held..held + units.len()].copy_from_slice(units);
+    // Kept: std's copy of a slice would have the archive for C ask for memmove.
+    for i in 0..units.len() {
+        buffer[held + i] = units[i];
+    }
 }
 
 // The units of the block that a field takes: its own, and one for the separator that ended it.
