@@ -44,6 +44,18 @@ pub fn known_lead(class: u8) -> bool
     class & 2 == 2
 }
 
+// A byte alone.
+pub fn byte_alone(classes: &[u8], singles: &[u16], byte: u8) -> Lookup
+    requires { (length classes.now ≡ 256) × (length singles.now ≡ 256) }
+    ensures { result ≡ byte_alone classes.now singles.now byte }
+{
+    let at = byte as usize;
+    if codepage::is_single_class(classes[at]) {
+        return found(Kind::UndefinedSingle, singles[at]);
+    }
+    Err(Kind::Invalid)
+}
+
 // The entry of a lead byte and the byte after it: in the lead's block at the second byte.
 fn pair_entry(pairs: &[u16], block: usize, byte: u8) -> u16
     requires { 256 * block + 256 ≤ length pairs.now }
@@ -79,6 +91,47 @@ pub fn settle(classes: &[u8], pairs: &[u16], leads: Leads, lead: u8, byte: u8) -
     SettledCode { means, more: 1 }
 }
 
+// The character of a byte alone, or FFFF where it has none.
+pub fn single_unit(classes: &[u8], singles: &[u16], byte: u8) -> u16
+    requires { (length classes.now ≡ 256) × (length singles.now ≡ 256) }
+    ensures { (result ≡ 0xFFFF → ⊥) → byte_alone classes.now singles.now byte ≡ Ok result }
+{
+    let at = byte as usize;
+    if codepage::is_single_class(classes[at]) {
+        return singles[at];
+    }
+    0xFFFF
+}
+
+// The character of a lead byte and the byte after it, or FFFF where they have none. `class` is that of the byte.
+fn known_pair_unit(
+    class: u8,
+    classes: &[u8],
+    pairs: &[u16],
+    leads: Leads,
+    lead: u8,
+    byte: u8,
+) -> u16
+    requires classes_len { (length classes.now ≡ 256) × (is_lead (entry_at classes.now lead) ≡ true) × (256 * leads_below classes.now lead + 256 ≤ length pairs.now) }
+    requires leads_at { LeadsAt classes.now leads × (class ≡ entry_at classes.now byte) }
+    ensures { (result ≡ 0xFFFF → ⊥) → byte_pair classes.now pairs.now lead byte ≡ Ok result }
+{
+    if codepage::is_trail_class(class) {
+        let block = profile::block_of(classes, leads, lead);
+        return pair_entry(pairs, block, byte);
+    }
+    0xFFFF
+}
+
+// The same, with the class looked up.
+pub fn pair_unit(classes: &[u8], pairs: &[u16], leads: Leads, lead: u8, byte: u8) -> u16
+    requires classes_len { (length classes.now ≡ 256) × (is_lead (entry_at classes.now lead) ≡ true) × (256 * leads_below classes.now lead + 256 ≤ length pairs.now) }
+    requires leads_at { LeadsAt classes.now leads }
+    ensures { (result ≡ 0xFFFF → ⊥) → byte_pair classes.now pairs.now lead byte ≡ Ok result }
+{
+    known_pair_unit(classes[byte as usize], classes, pairs, leads, lead, byte)
+}
+
 // Whether a unit is a high surrogate.
 pub fn is_high(unit: u16) -> bool
     ensures { result ≡ is_high unit }
@@ -107,6 +160,30 @@ fn is_surrogate(unit: u16) -> bool
         return false;
     }
     unit <= 0xDFFF
+}
+
+// The entry of a unit: in the block of its high half at its low half.
+fn unit_entry(index: &[u8], blocks: &[u16], unit: u16) -> u16
+    requires index_len { length index.now ≡ 256 }
+    requires by_index { (high : ℕ) → 256 * entry_at index.now high + 256 ≤ length blocks.now }
+    ensures { result ≡ unit_entry index.now blocks.now unit }
+{
+    let high = (unit / 256) as usize;
+    let low = (unit % 256) as usize;
+    let block = index[high] as usize;
+    blocks[256 * block + low]
+}
+
+// A unit alone.
+pub fn unit_alone(index: &[u8], blocks: &[u16], unit: u16) -> Lookup
+    requires index_len { length index.now ≡ 256 }
+    requires by_index { (high : ℕ) → 256 * entry_at index.now high + 256 ≤ length blocks.now }
+    ensures { result ≡ unit_alone index.now blocks.now unit }
+{
+    if is_surrogate(unit) {
+        return Err(Kind::Invalid);
+    }
+    found(Kind::UndefinedSingle, unit_entry(index, blocks, unit))
 }
 
 // A high surrogate, settled by the unit after it: with a low one it is one undefined single, else it is invalid alone.
@@ -147,22 +224,14 @@ impl ByteTables<'_> {
     pub fn byte_alone(&self, byte: u8) -> Lookup
         ensures { result ≡ byte_alone self.now.classes.now self.now.singles.now byte }
     {
-        let at = byte as usize;
-        if codepage::is_single_class(self.classes[at]) {
-            return found(Kind::UndefinedSingle, self.singles[at]);
-        }
-        Err(Kind::Invalid)
+        byte_alone(self.classes, self.singles, byte)
     }
 
     // The character of a byte alone, or FFFF where it has none.
     pub fn single_unit(&self, byte: u8) -> u16
         ensures { (result ≡ 0xFFFF → ⊥) → byte_alone self.now.classes.now self.now.singles.now byte ≡ Ok result }
     {
-        let at = byte as usize;
-        if codepage::is_single_class(self.classes[at]) {
-            return self.singles[at];
-        }
-        0xFFFF
+        single_unit(self.classes, self.singles, byte)
     }
 
     // The same of a byte whose class is known: its bit 0 tells a single byte.
@@ -194,11 +263,7 @@ impl LeadTables<'_> {
         ensures { (result ≡ 0xFFFF → ⊥) → byte_pair self.now.tables.classes.now self.now.tables.pairs.now lead byte ≡ Ok result }
     {
         let tables = self.tables;
-        if codepage::is_trail_class(class) {
-            let block = self.block_of(lead);
-            return pair_entry(tables.pairs, block, byte);
-        }
-        0xFFFF
+        known_pair_unit(class, tables.classes, tables.pairs, self.leads, lead, byte)
     }
 
     // The same, with the class looked up.
@@ -216,10 +281,7 @@ impl UnitTables<'_> {
     fn entry(&self, unit: u16) -> u16
         ensures { result ≡ unit_entry self.now.index.now self.now.blocks.now unit }
     {
-        let high = (unit / 256) as usize;
-        let low = (unit % 256) as usize;
-        let block = self.index[high] as usize;
-        self.blocks[256 * block + low]
+        unit_entry(self.index, self.blocks, unit)
     }
 
     // The code of a unit, or FFFF where it has none. Asked of a surrogate only where its entry is none: see `profile`.
@@ -234,9 +296,6 @@ impl UnitTables<'_> {
     pub fn unit_alone(&self, unit: u16) -> Lookup
         ensures { result ≡ unit_alone self.now.index.now self.now.blocks.now unit }
     {
-        if is_surrogate(unit) {
-            return Err(Kind::Invalid);
-        }
-        found(Kind::UndefinedSingle, self.entry(unit))
+        unit_alone(self.index, self.blocks, unit)
     }
 }

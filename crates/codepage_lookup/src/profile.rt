@@ -162,6 +162,23 @@ fn eight_bits(classes: &[u8], from: usize) -> u64
     ((folded * 0x204081) >> 21) & 0xFF
 }
 
+// The lead bytes of a page, met from the last on.
+pub fn leads_of(classes: &[u8]) -> Leads
+    requires classes_len { length classes.now ≡ 256 }
+    requires known_classes { KnownClasses classes.now × NoLowLead classes.now }
+    ensures { LeadsAt classes.now result }
+{
+    let mut low: u64 = 0;
+    let mut high: u64 = 0;
+    let mut i: usize = 64;
+    while 0 < i {
+        i -= 8;
+        low = (low << 8) + eight_bits(classes, 0x80 + i);
+        high = (high << 8) + eight_bits(classes, 0xC0 + i);
+    }
+    Leads { low, high }
+}
+
 // How many ones a word has.
 fn ones_of(word: u64) -> usize
     ensures { (result ≡ ones word) × (result ≤ 64) }
@@ -217,6 +234,30 @@ fn first_from(from: usize, word: u64) -> usize
     from + (u64::trailing_zeros(word) as usize)
 }
 
+// The block of a lead byte where the ones of both words stand side by side: its distance to the first lead, less the gap between the
+// words for a lead from C0 on. Bit 6 of a lead tells its word, so that nothing is asked.
+fn block_in_runs(classes: &[u8], leads: Leads, lead: u8) -> usize
+    requires classes_len { (length classes.now ≡ 256) × (is_lead (entry_at classes.now lead) ≡ true) × LeadsAt classes.now leads }
+    requires low_value { (side_by_side leads.low ≡ true) × (side_by_side leads.high ≡ true) }
+    ensures { result ≡ leads_below classes.now lead }
+{
+    let low = first_from(0x80, leads.low);
+    let high = first_from(0xC0, leads.high) - ones_of(leads.low);
+    let byte = lead as usize;
+    byte - low - (high - low) * (byte / 64 % 2)
+}
+
+// The block of a lead byte, in loops: the compiler asks once whether there are gaps. `classes` serve the contract alone.
+pub fn block_of(classes: &[u8], leads: Leads, lead: u8) -> usize
+    requires { (length classes.now ≡ 256) × (is_lead (entry_at classes.now lead) ≡ true) × LeadsAt classes.now leads }
+    ensures { result ≡ leads_below classes.now lead }
+{
+    if are_runs(leads) {
+        return block_in_runs(classes, leads, lead);
+    }
+    block_counted(leads, lead)
+}
+
 impl<'a> ByteTables<'a> {
     // Whether every byte is single. Where the first lead bytes of most pages stand is looked at first.
     pub fn only_singles(&self) -> bool
@@ -242,27 +283,11 @@ impl<'a> ByteTables<'a> {
         mixed_page(self.classes, self.singles)
     }
 
-    // The lead bytes, met from the last on.
-    fn leads(&self) -> Leads
-        ensures { LeadsAt self.now.classes.now result }
-    {
-        let classes = self.classes;
-        let mut low: u64 = 0;
-        let mut high: u64 = 0;
-        let mut i: usize = 64;
-        while 0 < i {
-            i -= 8;
-            low = (low << 8) + eight_bits(classes, 0x80 + i);
-            high = (high << 8) + eight_bits(classes, 0xC0 + i);
-        }
-        Leads { low, high }
-    }
-
     // The tables with the lead bytes.
     pub fn with_leads(&self) -> LeadTables<'a>
         ensures { result.tables ≡ self.now }
     {
-        let leads = self.leads();
+        let leads = leads_of(self.classes);
         LeadTables {
             tables: *self,
             leads,
@@ -271,29 +296,12 @@ impl<'a> ByteTables<'a> {
 }
 
 impl LeadTables<'_> {
-    // The block of a lead byte where the ones of both words stand side by side: its distance to the first lead, less the gap between
-    // the words for a lead from C0 on. Bit 6 of a lead tells its word, so that nothing is asked.
-    fn block_in_runs(&self, lead: u8) -> usize
-        requires is_lead { LeadOf self.now.tables lead }
-        requires low_value { (side_by_side self.now.leads.low ≡ true) × (side_by_side self.now.leads.high ≡ true) }
-        ensures { result ≡ leads_below self.now.tables.classes.now lead }
-    {
-        let leads = self.leads;
-        let low = first_from(0x80, leads.low);
-        let high = first_from(0xC0, leads.high) - ones_of(leads.low);
-        let byte = lead as usize;
-        byte - low - (high - low) * (byte / 64 % 2)
-    }
-
     // The block of a lead byte, in loops: the compiler asks once whether there are gaps.
     pub fn block_of(&self, lead: u8) -> usize
         requires { LeadOf self.now.tables lead }
         ensures { result ≡ leads_below self.now.tables.classes.now lead }
     {
-        if are_runs(self.leads) {
-            return self.block_in_runs(lead);
-        }
-        block_counted(self.leads, lead)
+        block_of(self.tables.classes, self.leads, lead)
     }
 }
 

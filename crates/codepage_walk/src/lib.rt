@@ -3,11 +3,15 @@
 
 #![tactic(auto)]
 
-ghost use Rattle.std.specs.Prelude.{◌≡◌, ◌<◌, length};
+ghost use Rattle.std.specs.Prelude.{◌≡◌, true, ℕ, ◌+◌, ◌*◌, ◌≤◌, ◌<◌, length};
+ghost use Rattle.codepage.specs.CodePage.{entry_at, is_lead, leads_below};
+ghost use Rattle.codepage.specs.Reading.{decoder};
+ghost use Rattle.codepage_lookup.specs.Profile.{LeadsAt};
 ghost use Rattle.codepage_lookup.specs.Tables.{byte_reader};
 ghost use Rattle.codepage_walk.specs.Walk.{ReadAs, ClassesSize};
 
 use codepage::Lookup;
+use codepage_lookup::profile::Leads;
 use codepage_lookup::tables::LeadTables;
 
 // A code: how many bytes it has, 1 or 2, and what it means.
@@ -40,28 +44,51 @@ pub fn code_size(classes: &[u8], text: &[u8], place: usize) -> usize
 }
 
 // The code at a place.
-pub fn code_at(tables: &LeadTables<'_>, text: &[u8], place: usize) -> CodeRead
-    requires { place < length text.now }
-    ensures { ReadAs (byte_reader tables.now.tables) text.now place result }
+pub fn code_at(
+    classes: &[u8],
+    singles: &[u16],
+    pairs: &[u16],
+    leads: Leads,
+    text: &[u8],
+    place: usize,
+) -> CodeRead
+    requires classes_len { (length classes.now ≡ 256) × (length singles.now ≡ 256) × (place < length text.now) × LeadsAt classes.now leads }
+    requires by_index { (lead : ℕ) → lead < 256 → is_lead (entry_at classes.now lead) ≡ true → 256 * leads_below classes.now lead + 256 ≤ length pairs.now }
+    ensures { ReadAs (decoder classes.now singles.now pairs.now) text.now place result }
 {
-    let bytes = tables.tables;
     let byte = text[place];
     if text.len() - place == 1 {
         return CodeRead {
             size: 1,
-            means: bytes.byte_alone(byte),
+            means: codepage_lookup::byte_alone(classes, singles, byte),
         };
     }
-    if !bytes.is_lead(byte) {
+    if !codepage_lookup::is_lead(classes, byte) {
         return CodeRead {
             size: 1,
-            means: bytes.byte_alone(byte),
+            means: codepage_lookup::byte_alone(classes, singles, byte),
         };
     }
-    let settled = tables.settle(byte, text[place + 1]);
+    let settled = codepage_lookup::settle(classes, pairs, leads, byte, text[place + 1]);
     let means = settled.means;
     CodeRead {
         size: settled.more + 1,
         means,
     }
+}
+
+// The same, on tables that carry what it asks of them.
+pub fn code_in(tables: &LeadTables<'_>, text: &[u8], place: usize) -> CodeRead
+    requires { place < length text.now }
+    ensures { ReadAs (byte_reader tables.now.tables) text.now place result }
+{
+    let bytes = tables.tables;
+    code_at(
+        bytes.classes,
+        bytes.singles,
+        bytes.pairs,
+        tables.leads,
+        text,
+        place,
+    )
 }

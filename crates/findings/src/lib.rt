@@ -205,7 +205,7 @@ impl Search<'_> {
         ensures { LookedAt (byte_reader self.now.tables.tables) self.now.policy self.now.text.now place result }
     {
         let text = self.text;
-        let read = codepage_walk::code_at(&self.tables, text, place);
+        let read = codepage_walk::code_in(&self.tables, text, place);
         let size = read.size;
         let end = place + size;
         let means = read.means;

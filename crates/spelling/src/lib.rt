@@ -172,7 +172,7 @@ impl Speller<'_> {
         requires { place < length text.now }
         ensures { SpelledRead (byte_reader self.now.bytes.tables) self.now.units.index.now self.now.units.blocks.now text.now place result }
     {
-        let read = codepage_walk::code_at(&self.bytes, text, place);
+        let read = codepage_walk::code_in(&self.bytes, text, place);
         let size = read.size;
         let means = read.means;
         match means {

@@ -2,7 +2,7 @@ use mathlib.Core.Path.{sym, ◌∙◌}
 use Prim.Native.Nat.{◌+◌}
 use native.Mathlib.Omega.{arith}
 use Rattle.codepage.specs.CodePage.{entry_at}
-use Rattle.codepage_lookup.specs.Tables.{byte_reader}
+use Rattle.codepage.specs.Reading.{decoder}
 use Rattle.codepage.proofs.ReadingLaws.{more_le}
 use Rattle.codepage_walk.proofs.WalkLaws.{read_single, read_last, read_settled}
 use Rattle.codepage_walk.proofs.code_at.Goals as goal
@@ -17,11 +17,11 @@ returns-then-not-is_lead c =
 
 pub overflow_add-result : goal.overflow_add-result
 overflow_add-result c =
-    let reader = byte_reader c.args.tables.now.tables in
+    let reader = decoder c.args.classes.now c.args.singles.now c.args.pairs.now in
     let lead = entry_at c.args.text.now c.args.place in
-    omega (arith, c.settle-settled.ensures.more, more_le reader lead (entry_at c.args.text.now (c.args.place + 1)))
+    omega (arith, (c.settle-settled.ensures c.args.singles.now).more, more_le reader lead (entry_at c.args.text.now (c.args.place + 1)))
 
 pub returns : goal.returns
 returns c =
     let lead = sym c.is_lead.ensures ∙ c.if-not-is_lead.false in
-    read_settled _ _ _ c.args.text.now c.args.place _ (omega arith) lead c.settle-settled.ensures
+    read_settled _ _ _ c.args.text.now c.args.place _ (omega arith) lead (c.settle-settled.ensures c.args.singles.now)

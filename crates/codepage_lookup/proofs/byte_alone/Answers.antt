@@ -1,6 +1,6 @@
 use mathlib.Core.Path.{sym, ◌∙◌}
 use Rattle.codepage.specs.Reading.{byte_alone}
-use Rattle.codepage_lookup.proofs.tables.ByteTables.byte_alone.Goals as goal
+use Rattle.codepage_lookup.proofs.byte_alone.Goals as goal
 
 pub returns-then-is_single_class : goal.returns-then-is_single_class
 unfolding byte_alone

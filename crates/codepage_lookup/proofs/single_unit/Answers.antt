@@ -1,7 +1,7 @@
 use Rattle.codepage_lookup.proofs.ProfileLaws.{found_entry}
 use Rattle.codepage.specs.Reading.{byte_alone}
 use mathlib.Core.Path.{sym, ◌∙◌}
-use Rattle.codepage_lookup.proofs.tables.ByteTables.single_unit.Goals as goal
+use Rattle.codepage_lookup.proofs.single_unit.Goals as goal
 
 pub returns-then-is_single_class : goal.returns-then-is_single_class
 unfolding byte_alone
