@@ -25,7 +25,7 @@ use Rattle.engine.specs.Engine.{Converter, converter, limit, Fed, feed_from}
 use Rattle.convert.specs.Calls.{refusal_number, number_of, same_direction, lead_in, check, refusal, pending_unit, pending_count, pending_as, final_unit, units_read, pending_after, ended_after, run_after, fed_by, accepted_call, refused_call, run_call, Answered}
 use Rattle.codepage.specs.Lent.{over}
 use Rattle.engine.specs.Engine.{converter_of}
-use Rattle.convert.specs.Steps.{pending_byte, pending_high, run_refusal, Finished, refused_outcome}
+use Rattle.convert.specs.Steps.{pending_byte, pending_high, run_refusal, rest_refusal, Finished, refused_outcome}
 use Rattle.std.specs.Prelude.{Some, slice_get}
 use Rattle.std.proofs.lemmas.List.{length-map}
 use Rattle.engine.proofs.BoundLaws.{kept_from, widest, bounded_of}
@@ -389,6 +389,31 @@ module _ (direction : Direction) (run : Run) (p : CodePage) (piece : List ℕ) (
   unfolding run_call refused_call over
   answered_refused refusal' e =
       rw (← e, ne_eqb (refusal_number refusal') 0 (λ z. omega (arith, number_from refusal'))) (record { number = refl; read = refl; written = refl; run = refl; lent = refl })
+
+-- ---- the checks in two parts
+in_parts : (a b c : Bool) (rest : ℕ) → check 11 a (check 12 b (check 13 c rest)) ≡ pick (eqb (check 11 a (check 12 b (check 13 c 0))) 0) rest (check 11 a (check 12 b (check 13 c 0)))
+in_parts true true true rest = refl
+in_parts true true false rest = refl
+in_parts true false c rest = refl
+in_parts false b c rest = refl
+
+-- a shape that is not good is refused with 10, whatever else there is
+pub refusal_shape : (direction : Direction) (run : Run) (p : CodePage) (count : ℕ) → is_good (first_fault p) ≡ false → 10 ≡ refusal direction run p count
+unfolding refusal
+refusal_shape direction run p count e = rw e
+
+module _ (direction : Direction) (run : Run) (p : CodePage) (count : ℕ) (good : is_good (first_fault p) ≡ true) where
+  refusal_parts : refusal direction run p count ≡ pick (eqb (run_refusal direction run p.page count) 0) (rest_refusal run p.classes count) (run_refusal direction run p.page count)
+  unfolding refusal
+  refusal_parts = rw good (in_parts (leb count piece_limit) (valid_run run) (same_direction direction run.direction && eqb run.page p.page) (rest_refusal run p.classes count))
+
+  -- what checks 11 to 13 refuse is the call's refusal, if the shape is good
+  pub refusal_first : (refused : Refusal) → refusal_number refused ≡ run_refusal direction run p.page count → refusal_number refused ≡ refusal direction run p count
+  refusal_first refused e = e ∙ sym (refusal_parts ∙ rw (ne_eqb (run_refusal direction run p.page count) 0 (λ z. omega (arith, e, number_from refused))))
+
+  -- where checks 11 to 13 pass, the call's refusal is what checks 14 to 16 give
+  pub refusal_rest : run_refusal direction run p.page count ≡ 0 → {number : ℕ} → number ≡ rest_refusal run p.classes count → number ≡ refusal direction run p count
+  refusal_rest z q = q ∙ sym (refusal_parts ∙ rw (eq-eqb (run_refusal direction run p.page count) 0 z))
 
 -- what the checks of a call gave, with its direction and the count of its units written otherwise
 pub checked_as : {d direction : Direction} (run : Run) (p : CodePage) {n count k : ℕ} → d ≡ direction → count ≡ n → refusal d run p n ≡ k → refusal direction run p count ≡ k

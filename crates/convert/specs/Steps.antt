@@ -1,5 +1,5 @@
 -- Definitions that the private functions' contracts cite, and that no promise does.
-use Rattle.std.specs.Prelude.{◌&&◌, ◌≡◌, ℕ, leb, eqb}
+use Rattle.std.specs.Prelude.{not, ◌&&◌, List, ◌≡◌, ℕ, ◌+◌, leb, eqb}
 use Rattle.std.specs.Prelude.{Bool}
 use Rattle.std.specs.Prelude.{Option, None, Some}
 use Rattle.std.specs.Prelude.{Result, Ok, Err}
@@ -11,8 +11,8 @@ use Rattle.convert.specs.declared.Run.{Run}
 use Rattle.convert.specs.declared.Answer.TheVariants as answer
 use Rattle.convert.specs.declared.Refusal.{Refusal}
 use Rattle.convert.specs.declared.Outcome.{Outcome}
-use Rattle.convert.specs.Runs.{piece_limit, valid_run}
-use Rattle.convert.specs.Calls.{refusal_number, number_of, same_direction, check, units_read, run_after, ended_after}
+use Rattle.convert.specs.Runs.{piece_limit, read_limit, valid_run}
+use Rattle.convert.specs.Calls.{refusal_number, number_of, same_direction, lead_in, check, units_read, run_after, ended_after}
 
 -- the pending byte of a decoding run, or none
 abbrev pub pending_byte : Pending → Option ℕ
@@ -30,6 +30,10 @@ pending_high (High unit) = Some unit
 abbrev pub run_refusal : Direction → Run → (page count : ℕ) → ℕ
 run_refusal direction run page count =
     check 11 (leb count piece_limit) (check 12 (valid_run run) (check 13 (same_direction direction run.direction && eqb run.page page) 0))
+
+-- checks 14 to 16: what is pending, the end, and the read total
+abbrev pub rest_refusal : Run → (classes : List ℕ) → (count : ℕ) → ℕ
+rest_refusal run classes count = check 14 (lead_in classes run.pending) (check 15 (not run.ended) (check 16 (leb (run.read + count) read_limit) 0))
 
 -- the number that checks refuse with, or 0
 abbrev pub refused_as : {A : Type 0} → Result A Refusal → ℕ

@@ -184,8 +184,15 @@ pub fn call<I: Input>(
 ) -> Outcome
     ensures { Answered (run_call I.direction run (page_of tables.now) (I.units piece.now) last (length (I.written out.old))) result (I.written out.old) (I.written out.new) }
 {
-    let checked = refusals::check(I::direction(), run, tables, piece.len());
-    if let Err(refusal) = checked {
+    if !codepage::shape::good_shape(tables) {
+        return Outcome::refused(Refusal::BadShape, run);
+    }
+    let first = refusals::check_run(I::direction(), run, tables.numbers.page, piece.len());
+    if let Err(refusal) = first {
+        return Outcome::refused(refusal, run);
+    }
+    let rest = refusals::check_rest(run, tables.classes, piece.len());
+    if let Err(refusal) = rest {
         return Outcome::refused(refusal, run);
     }
     let progress = I::feed(run, tables, piece, last, out);

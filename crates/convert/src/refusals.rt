@@ -1,11 +1,10 @@
 // The refusals of a run call. (Document 01, "One call of a run", as amended by CR 5.)
-ghost use Rattle.std.specs.Prelude.{◌≡◌, true, length};
-ghost use Rattle.codepage.specs.CodePage.{page_of};
-ghost use Rattle.convert.specs.Calls.{lead_in, refusal};
-ghost use Rattle.convert.specs.Steps.{refused_as, run_refusal};
+ghost use Rattle.std.specs.Prelude.{◌≡◌, ◌≤◌, true, length};
+ghost use Rattle.convert.specs.Runs.{piece_limit, read_limit};
+ghost use Rattle.convert.specs.Calls.{lead_in};
+ghost use Rattle.convert.specs.Steps.{refused_as, run_refusal, rest_refusal};
 
 use crate::{Pending, Refusal, Run, rules};
-use codepage::TableSet;
 use engine::Direction;
 
 // Whether a pending byte is a lead byte here; of a pending unit nothing is asked.
@@ -22,7 +21,7 @@ fn pending_is_lead(pending: Pending, classes: &[u8]) -> bool
 
 // The first of the checks 11 to 13 that a call on `count` units fails. The checks are two functions, each small enough to be inlined
 // in both calls: so a run stays in registers, and a call's stack small.
-fn check_run(direction: Direction, run: Run, page: u16, count: usize) -> Result<(), Refusal>
+pub fn check_run(direction: Direction, run: Run, page: u16, count: usize) -> Result<(), Refusal>
     ensures { refused_as result ≡ run_refusal direction run page count }
 {
     if Run::PIECE_LIMIT < count {
@@ -40,16 +39,13 @@ fn check_run(direction: Direction, run: Run, page: u16, count: usize) -> Result<
     Ok(())
 }
 
-// The first check that a call on `count` units fails.
-#[tactic(auto, unfolding(crate::specs::Calls::refusal))]
-pub fn check(direction: Direction, run: Run, tables: &TableSet, count: usize) -> Result<(), Refusal>
-    ensures { refused_as result ≡ refusal direction run (page_of tables.now) count }
+// The first of the checks 14 to 16 that it fails, where those of 11 to 13 passed.
+pub fn check_rest(run: Run, classes: &[u8], count: usize) -> Result<(), Refusal>
+    requires classes_len { length classes.now ≡ 256 }
+    requires read_bound { (count ≤ piece_limit) × (run.read ≤ read_limit) }
+    ensures { refused_as result ≡ rest_refusal run classes.now count }
 {
-    if !codepage::shape::good_shape(tables) {
-        return Err(Refusal::BadShape);
-    }
-    check_run(direction, run, tables.numbers.page, count)?;
-    if !pending_is_lead(run.pending, tables.classes) {
+    if !pending_is_lead(run.pending, classes) {
         return Err(Refusal::PendingNotLead);
     }
     if run.ended {

@@ -152,7 +152,8 @@ fn take_mixed(
             written: at + count + plain,
         };
     }
-    let alone = runs::run_of_alone(&tables.tables, piece, from, at, n, out);
+    let bytes = tables.tables;
+    let alone = runs::run_of_alone(bytes.singles, piece, from, at, n, out);
     Place {
         read: from + alone,
         written: at + alone,

@@ -6,7 +6,7 @@ ghost use Rattle.codepage_lookup.specs.Tables.{byte_reader, unit_reader};
 ghost use Rattle.codepage.specs.Reading.{bytes_of};
 ghost use Rattle.engine_fastpath.specs.Runs.{Ran, SinglesTaken};
 
-use codepage_lookup::tables::{ByteTables, LeadTables, UnitTables};
+use codepage_lookup::tables::{LeadTables, UnitTables};
 
 // A run of fewer units is short.
 const FEW: usize = 8;
@@ -29,12 +29,12 @@ pub fn smaller(a: usize, b: usize) -> usize
 }
 
 // The next byte alone, if it has a character: how many bytes were taken, 0 or 1.
-fn take_one(tables: &ByteTables<'_>, piece: &[u8], i: usize, out: &mut [u16], w: usize) -> usize
-    requires { (i + 1 ≤ length piece.now) × (w + 1 ≤ length out.old) }
-    ensures { (result ≤ 1) × SinglesTaken tables.now.singles.now piece.now out.old i w out.new result }
+fn take_one(singles: &[u16], piece: &[u8], i: usize, out: &mut [u16], w: usize) -> usize
+    requires { (length singles.now ≡ 256) × (i + 1 ≤ length piece.now) × (w + 1 ≤ length out.old) }
+    ensures { (result ≤ 1) × SinglesTaken singles.now piece.now out.old i w out.new result }
 {
     let at = piece[i] as usize;
-    let unit = tables.singles[at];
+    let unit = singles[at];
     if unit == 0xFFFF {
         return 0;
     }
@@ -43,67 +43,67 @@ fn take_one(tables: &ByteTables<'_>, piece: &[u8], i: usize, out: &mut [u16], w:
 }
 
 // The next two bytes: how many were taken.
-fn take_two(tables: &ByteTables<'_>, piece: &[u8], i: usize, out: &mut [u16], w: usize) -> usize
-    requires { (i + 2 ≤ length piece.now) × (w + 2 ≤ length out.old) }
-    ensures { (result ≤ 2) × SinglesTaken tables.now.singles.now piece.now out.old i w out.new result }
+fn take_two(singles: &[u16], piece: &[u8], i: usize, out: &mut [u16], w: usize) -> usize
+    requires { (length singles.now ≡ 256) × (i + 2 ≤ length piece.now) × (w + 2 ≤ length out.old) }
+    ensures { (result ≤ 2) × SinglesTaken singles.now piece.now out.old i w out.new result }
 {
-    let taken = take_one(tables, piece, i, out, w);
+    let taken = take_one(singles, piece, i, out, w);
     if taken < 1 {
         return taken;
     }
-    1 + take_one(tables, piece, i + 1, out, w + 1)
+    1 + take_one(singles, piece, i + 1, out, w + 1)
 }
 
 // The next four bytes: how many were taken.
-fn take_four(tables: &ByteTables<'_>, piece: &[u8], i: usize, out: &mut [u16], w: usize) -> usize
-    requires { (i + 4 ≤ length piece.now) × (w + 4 ≤ length out.old) }
-    ensures { (result ≤ 4) × SinglesTaken tables.now.singles.now piece.now out.old i w out.new result }
+fn take_four(singles: &[u16], piece: &[u8], i: usize, out: &mut [u16], w: usize) -> usize
+    requires { (length singles.now ≡ 256) × (i + 4 ≤ length piece.now) × (w + 4 ≤ length out.old) }
+    ensures { (result ≤ 4) × SinglesTaken singles.now piece.now out.old i w out.new result }
 {
-    let taken = take_two(tables, piece, i, out, w);
+    let taken = take_two(singles, piece, i, out, w);
     if taken < 2 {
         return taken;
     }
-    2 + take_two(tables, piece, i + 2, out, w + 2)
+    2 + take_two(singles, piece, i + 2, out, w + 2)
 }
 
 // The next eight bytes: how many were taken.
-fn take_eight(tables: &ByteTables<'_>, piece: &[u8], i: usize, out: &mut [u16], w: usize) -> usize
-    requires { (i + 8 ≤ length piece.now) × (w + 8 ≤ length out.old) }
-    ensures { (result ≤ 8) × SinglesTaken tables.now.singles.now piece.now out.old i w out.new result }
+fn take_eight(singles: &[u16], piece: &[u8], i: usize, out: &mut [u16], w: usize) -> usize
+    requires { (length singles.now ≡ 256) × (i + 8 ≤ length piece.now) × (w + 8 ≤ length out.old) }
+    ensures { (result ≤ 8) × SinglesTaken singles.now piece.now out.old i w out.new result }
 {
-    let taken = take_four(tables, piece, i, out, w);
+    let taken = take_four(singles, piece, i, out, w);
     if taken < 4 {
         return taken;
     }
-    4 + take_four(tables, piece, i + 4, out, w + 4)
+    4 + take_four(singles, piece, i + 4, out, w + 4)
 }
 
 // The next sixteen bytes: how many were taken.
-fn take_sixteen(tables: &ByteTables<'_>, piece: &[u8], i: usize, out: &mut [u16], w: usize) -> usize
-    requires { (i + 16 ≤ length piece.now) × (w + 16 ≤ length out.old) }
-    ensures { (result ≤ 16) × SinglesTaken tables.now.singles.now piece.now out.old i w out.new result }
+fn take_sixteen(singles: &[u16], piece: &[u8], i: usize, out: &mut [u16], w: usize) -> usize
+    requires { (length singles.now ≡ 256) × (i + 16 ≤ length piece.now) × (w + 16 ≤ length out.old) }
+    ensures { (result ≤ 16) × SinglesTaken singles.now piece.now out.old i w out.new result }
 {
-    let taken = take_eight(tables, piece, i, out, w);
+    let taken = take_eight(singles, piece, i, out, w);
     if taken < 8 {
         return taken;
     }
-    8 + take_eight(tables, piece, i + 8, out, w + 8)
+    8 + take_eight(singles, piece, i + 8, out, w + 8)
 }
 
 // Bytes alone, `n` at most, one after the other: how many were taken.
 fn run_of_few(
-    tables: &ByteTables<'_>,
+    singles: &[u16],
     piece: &[u8],
     from: usize,
     at: usize,
     n: usize,
     out: &mut [u16],
 ) -> usize
-    requires { (from + n ≤ length piece.now) × (at + n ≤ length out.old) }
-    ensures { (result ≤ n) × SinglesTaken tables.now.singles.now piece.now out.old from at out.new result }
+    requires { (length singles.now ≡ 256) × (from + n ≤ length piece.now) × (at + n ≤ length out.old) }
+    ensures { (result ≤ n) × SinglesTaken singles.now piece.now out.old from at out.new result }
 {
     for k in 0..n {
-        let taken = take_one(tables, piece, from + k, out, at + k);
+        let taken = take_one(singles, piece, from + k, out, at + k);
         if taken < 1 {
             return k;
         }
@@ -112,54 +112,50 @@ fn run_of_few(
 }
 
 // Bytes alone, `n` at most, four in a turn: how many were taken.
-pub(crate) fn run_of_alone(
-    tables: &ByteTables<'_>,
+pub fn run_of_alone(
+    singles: &[u16],
     piece: &[u8],
     from: usize,
     at: usize,
     n: usize,
     out: &mut [u16],
 ) -> usize
-    requires { (from + n ≤ length piece.now) × (at + n ≤ length out.old) }
-    ensures { (result ≤ n) × SinglesTaken tables.now.singles.now piece.now out.old from at out.new result }
+    requires { (length singles.now ≡ 256) × (from + n ≤ length piece.now) × (at + n ≤ length out.old) }
+    ensures { (result ≤ n) × SinglesTaken singles.now piece.now out.old from at out.new result }
 {
-    // A copy, so that what is written can not be taken for a part of it.
-    let own = *tables;
     let mut k = 0;
     while 4 <= n - k {
-        let taken = take_four(&own, piece, from + k, out, at + k);
+        let taken = take_four(singles, piece, from + k, out, at + k);
         if taken < 4 {
             return k + taken;
         }
         k += 4;
     }
-    k + run_of_few(&own, piece, from + k, at + k, n - k, out)
+    k + run_of_few(singles, piece, from + k, at + k, n - k, out)
 }
 
 // Bytes of a page that has only singles, sixteen in a turn: how many were taken. So large a turn, with two callers, stays a function
 // of its own, whose loop has what it needs in registers.
 pub fn run_of_singles(
-    tables: &ByteTables<'_>,
+    singles: &[u16],
     piece: &[u8],
     from: usize,
     at: usize,
     out: &mut [u16],
 ) -> usize
-    requires { (from ≤ length piece.now) × (at ≤ length out.old) }
-    ensures { SinglesTaken tables.now.singles.now piece.now out.old from at out.new result }
+    requires { (length singles.now ≡ 256) × (from ≤ length piece.now) × (at ≤ length out.old) }
+    ensures { SinglesTaken singles.now piece.now out.old from at out.new result }
 {
-    // A copy, so that what is written can not be taken for a part of it.
-    let own = *tables;
     let n = smaller(piece.len() - from, out.len() - at);
     let mut k = 0;
     while 16 <= n - k {
-        let taken = take_sixteen(&own, piece, from + k, out, at + k);
+        let taken = take_sixteen(singles, piece, from + k, out, at + k);
         if taken < 16 {
             return k + taken;
         }
         k += 16;
     }
-    k + run_of_few(&own, piece, from + k, at + k, n - k, out)
+    k + run_of_few(singles, piece, from + k, at + k, n - k, out)
 }
 
 // Codes of one or two bytes. The classes of the two bytes behind a code's first are read before it is told what the code is: where

@@ -46,7 +46,8 @@ fn singles_turn(v: &ByteConverter<'_>, piece: &[u8], t: Turn, out: &mut [u16]) -
         return next;
     }
     let from = next.at;
-    let count = runs::run_of_singles(&v.tables, piece, from, after.written, out);
+    let tables = v.tables;
+    let count = runs::run_of_singles(tables.singles, piece, from, after.written, out);
     turns::moved(next, from + count, after.written + count)
 }
 
@@ -81,7 +82,8 @@ fn decode_singles(v: &ByteConverter<'_>, piece: &[u8], last: bool, out: &mut [u1
     ensures { Ends (feed_from (by_bytes v.now) last (limit (length out.old)) none piece.now) out.old out.new result }
 {
     let start = turns::start(None);
-    let first = runs::run_of_singles(&v.tables, piece, 0, 0, out);
+    let tables = v.tables;
+    let first = runs::run_of_singles(tables.singles, piece, 0, 0, out);
     let t = turns::moved(start, first, first);
     singles_rest(v, piece, t, last, out)
 }

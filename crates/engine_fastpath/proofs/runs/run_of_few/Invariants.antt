@@ -1,8 +1,8 @@
 use mathlib.Core.Path.{◌≡◌}
-use Prim.Native.Nat.{◌-◌, ◌≤◌}
+use Prim.Native.Nat.{◌≤◌}
 use lib.ListN.{length}
 use Rattle.engine_fastpath.specs.Runs.{SinglesTaken}
 use Rattle.engine_fastpath.proofs.runs.run_of_few.Given as goal
 
 abbrev pub invariant-loop-k : goal.invariant-loop-k
-invariant-loop-k l = (l.k ≤ l.n) × (length l.out ≡ length l.initial.out) × SinglesTaken l.tables.singles.now l.piece l.initial.out l.from l.at l.out l.k
+invariant-loop-k l = (l.k ≤ l.n) × (length l.out ≡ length l.initial.out) × SinglesTaken l.singles l.piece l.initial.out l.from l.at l.out l.k

@@ -8,5 +8,5 @@ returns-then-unit c = (omega arith, singles_start _ _ _ _ _ (omega arith) (omega
 pub returns : goal.returns
 returns c = (
   omega arith,
-  singles_one _ _ _ _ _ (omega arith) (omega arith) (omega (arith, c.type_inv.piece c.args.i)) c.if-unit.false,
+  singles_one _ _ _ _ _ (omega arith) (omega arith) (omega (arith, c.shared_slice_known-1.given c.args.i)) c.if-unit.false,
 )

@@ -17,7 +17,7 @@ pub run_of_singles-count-requires : goal.run_of_singles-count-requires
 run_of_singles-count-requires c =
     let single = single_no_lead _ (c.requires.only_singles (get_or c.args.piece.now c.args.t.at 0) (omega (arith, c.type_inv.piece c.args.t.at))) in
     let ready = one_ready c.take_alone-taken.ensures c.requires.ready.1 c.requires.ready.0 c.past-next.ensures c.if-after-ne0.false in
-    (ready.inside, ready.within)
+    (c.args.v.now.tables.all_singles, ready.inside, ready.within)
 
 pub overflow_add-from : goal.overflow_add-from
 overflow_add-from c =
