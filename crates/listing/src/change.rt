@@ -15,12 +15,12 @@ fn clear(table: &mut [u8])
     table[..256].fill(0);
 }
 
-// A block of 256 units is emptied.
-fn empty_block(table: &mut [u16], block: usize)
+// A block of 256 units is filled with a value.
+fn fill_block(table: &mut [u16], block: usize, value: u16)
     requires { 256 * block + 256 ≤ length table.old }
-    ensures { table.new ≡ filled table.old (256 * block) 256 0xFFFF }
+    ensures { table.new ≡ filled table.old (256 * block) 256 value }
 {
-    table[256 * block..256 * block + 256].fill(0xFFFF);
+    table[256 * block..256 * block + 256].fill(value);
 }
 
 // A byte's class, as listed.
@@ -45,7 +45,7 @@ fn put_lead(next: Progress, byte: u8, classes: &mut [u8], pairs: &mut [u16])
     ensures { (classes.new ≡ set classes.old byte (class_of next byte)) × (pairs.new ≡ filled pairs.old (256 * lead_block next byte) 256 0xFFFF) }
 {
     put_class(next, byte, classes);
-    empty_block(pairs, lead_block(next, byte));
+    fill_block(pairs, lead_block(next, byte), 0xFFFF);
 }
 
 // `M`
@@ -64,7 +64,7 @@ fn open_block(block: u8, blocks: &mut [u16])
     ensures { blocks.new ≡ opened_block blocks.old block }
 {
     if block != 0 {
-        empty_block(blocks, usize::from(block));
+        fill_block(blocks, usize::from(block), 0xFFFF);
     }
 }
 
@@ -88,9 +88,9 @@ fn empty_tables(classes: &mut [u8], singles: &mut [u16], index: &mut [u8], block
     ensures { (classes.new ≡ filled classes.old 0 256 0) × (singles.new ≡ filled singles.old 0 256 0xFFFF) × (index.new ≡ filled index.old 0 256 0) × (blocks.new ≡ filled blocks.old 0 256 0xFFFF) }
 {
     clear(classes);
-    empty_block(singles, 0);
+    fill_block(singles, 0, 0xFFFF);
     clear(index);
-    empty_block(blocks, 0);
+    fill_block(blocks, 0, 0xFFFF);
 }
 
 // What an accepted record changes.

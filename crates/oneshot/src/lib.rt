@@ -160,6 +160,17 @@ fn totals_by(whole: Progress, made: Progress) -> Totals
     }
 }
 
+// A conversion that came to 0, 2 or 3.
+fn accepted_conversion(whole: Progress, made: Progress) -> Converted
+    requires { (made.answer ≡ 0) ⊎ ((made.answer ≡ 2) ⊎ (made.answer ≡ 3)) }
+    ensures { (ending_number result.ending ≡ made.answer) × (result.totals ≡ totals_by whole made) }
+{
+    Converted {
+        ending: Ending::of(made.answer),
+        totals: totals_by(whole, made),
+    }
+}
+
 // The whole reading of a text, from its conversion: the same, unless room ended.
 fn whole_of<I: Text>(policy: Policy, tables: &TableSet, text: &[I], made: Progress) -> Progress
     requires accepted { text_refusal I.direction policy (page_of tables.now) (length (I.units text.now)) ≡ 0 }
@@ -183,10 +194,7 @@ pub fn convert_text<I: Text>(
     check(I::direction(), policy, tables, text.len())?;
     let made = I::convert(policy, tables, text, out);
     let whole = whole_of(policy, tables, text, made);
-    Ok(Converted {
-        ending: Ending::of(made.answer),
-        totals: totals_by(whole, made),
-    })
+    Ok(accepted_conversion(whole, made))
 }
 
 // Decodes a byte text, and says what all of it needs; with empty room it only counts.
@@ -215,6 +223,13 @@ pub fn encode_text(
     convert_text(policy, tables, text, out)
 }
 
+// How much of the lent output a text of units `I` filled: what was written.
+fn filled_len<I: Text>(totals: Totals) -> usize
+    ensures { result ≡ totals.written }
+{
+    totals.written
+}
+
 // Converts a text as `convert_text` does and hands back the filled part of the output.
 pub fn convert_filled<'a, I: Text>(
     policy: Policy,
@@ -225,6 +240,6 @@ pub fn convert_filled<'a, I: Text>(
     ensures { FilledAs I.written (text_of I.direction policy (page_of tables.now) (I.units text.now) (length (I.written out.old))) out.entry result }
 {
     let converted = convert_text(policy, tables, text, out)?;
-    let filled = converted.totals.written;
+    let filled = filled_len::<I>(converted.totals);
     Ok((converted, &mut out[..filled]))
 }

@@ -22,11 +22,11 @@ whole_of-whole-requires g c =
     let count = units_count g.I.Input.unit c.args.text.now _ (g.met.I.Input.each_unit c.args.text.now) in
     record { accepted = checked_as _ _ c.direction.ensures count (sym c.in_ok-check.ensures) }
 
-pub of-requires : goal.of-requires
-of-requires g c = text_answer _ _ _ (limit (length _)) _ _ c.convert-made.ensures.value
+pub accepted_conversion-requires : goal.accepted_conversion-requires
+accepted_conversion-requires g c = text_answer _ _ _ (limit (length _)) _ _ c.convert-made.ensures.value
 
 pub returns : goal.returns
 returns g c =
     let count = units_count g.I.Input.unit c.args.text.now _ (g.met.I.Input.each_unit c.args.text.now) in
     let accepted = checked_as _ _ c.direction.ensures count (sym c.in_ok-check.ensures) in
-    converted_accepted _ _ _ _ _ _ _ _ _ accepted (c.whole_of-whole.ensures _ c.convert-made.ensures.value) c.convert-made.ensures.value c.convert-made.ensures.out_after c.of.ensures c.totals_by.ensures
+    converted_accepted _ _ _ _ _ _ _ _ _ accepted (c.whole_of-whole.ensures _ c.convert-made.ensures.value) c.convert-made.ensures.value c.convert-made.ensures.out_after c.accepted_conversion.ensures.0 c.accepted_conversion.ensures.1
