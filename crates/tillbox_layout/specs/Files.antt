@@ -5,6 +5,11 @@ use Rattle.std.specs.Prelude.{Bool, true, false, List, ◌≡◌, ℕ, ◌+◌, 
 abbrev pub Front : {A : Type 0} → ℕ → List A → Type 0
 Front n xs = (n ≤ length xs) × (n ≡ length (take n xs))
 
+-- the size that the system told; none where it told a number below 0
+unfoldable pub file_size : ℤ → ℕ
+file_size (pos size) = size
+file_size (negsuc n) = 0
+
 -- how many units some bytes are, and whether they are whole units
 unfoldable pub units_in : (wide : Bool) → (bytes : ℕ) → ℕ
 units_in true bytes = bytes / 2
@@ -36,3 +41,7 @@ is_final size read total = leb (total - read) size
 unfoldable pub block_count : (read total : ℕ) → (last : Bool) → ℕ
 block_count read total true = max 1 ((total - read + 511) / 512)
 block_count read total false = (total - read + 511) / 512
+
+-- the greatest number of 64 bits
+abbrev pub greatest : ℕ
+greatest = 18446744073709551615

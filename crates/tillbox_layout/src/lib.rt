@@ -3,7 +3,7 @@
 #![tactic(auto)]
 
 ghost use Rattle.std.specs.Prelude.{◌≡◌, ◌-◌, ◌≤◌, min, length};
-ghost use Rattle.tillbox_layout.specs.Files.{last_place, Front, units_in, is_whole, place_of, block_len, is_final, block_count};
+ghost use Rattle.tillbox_layout.specs.Files.{last_place, Front, file_size, units_in, is_whole, place_of, block_len, is_final, block_count};
 
 // The most units of a block of the journal.
 pub const BLOCK: u64 = 512;
@@ -19,6 +19,16 @@ pub fn front_len<T>(count: usize, items: &[T]) -> usize
     ensures value { result ≡ min count (length items.now) }
 {
     count.min(items.len())
+}
+
+// A size that the system told as a signed number. Kept for callers that have such a one; std tells the jobs' sizes unsigned.
+pub fn size_of(size: i64) -> u64
+    ensures { result ≡ file_size size }
+{
+    if size < 0 {
+        return 0;
+    }
+    size as u64
 }
 
 // How many units some bytes are.

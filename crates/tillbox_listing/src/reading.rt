@@ -1,5 +1,5 @@
 // A listing read line by line into lent tables, and its table image put in the place of a file.
-ghost use Rattle.std.specs.Prelude.{◌≤◌, ◌<◌, length};
+ghost use Rattle.std.specs.Prelude.{◌≡◌, ◌+◌, ◌≤◌, ◌<◌, IfSome, eqb, min, length, position, unwrap_or};
 
 use crate::messages::{say_end, say_refusal};
 use crate::saving;
@@ -36,12 +36,21 @@ fn take_line(
     }
 }
 
+// Where the first line feed stands.
+fn first_line_feed(block: &[u8]) -> Option<usize>
+    ensures value { result ≡ position (λ byte. eqb byte 10) block.now }
+    ensures upper_bound { IfSome result (λ feed. feed < length block.now) }
+{
+    block.iter().position(|byte| *byte == b'\n')
+}
+
 // How many bytes the first line of a block has, its line feed with it, or all of them where it has none.
 fn line_len(block: &[u8]) -> usize
+    ensures value { result ≡ min (unwrap_or (position (λ byte. eqb byte 10) block.now) (length block.now) + 1) (length block.now) }
     ensures upper_bound { result ≤ length block.now }
     ensures lower_bound { 0 < length block.now → 0 < result }
 {
-    match block.iter().position(|byte| *byte == b'\n') {
+    match first_line_feed(block) {
         Some(feed) => feed + 1,
         None => block.len(),
     }
