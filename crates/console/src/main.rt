@@ -34,8 +34,9 @@ fn answer_lines(
     }
 }
 
-// The tables have room for one element too many, and so have the texts, the rooms and the line.
-fn main(rt: HostRuntime) {
+// Answers the input with room for the answers. The tables have room for one element too many, and so have the texts, the rooms and the
+// line.
+fn answer_input(rt: &HostRuntime, room: &mut [u8]) {
     let mut tables = (
         [0u8; 300],
         [0u16; 300],
@@ -58,8 +59,7 @@ fn main(rt: HostRuntime) {
     let mut unit_room = [0u16; 66000];
     let mut block = [0u8; 65536];
     let mut line_room = [0u8; 400001];
-    let mut room = [0u8; 400000];
-    let mut out = Output::new(&mut room);
+    let mut out = Output::new(room);
     let mut line = Output::new(&mut line_room);
     let mut input = Input::new(rt.stdin(), &mut block);
     let mut console = Console {
@@ -91,5 +91,11 @@ fn main(rt: HostRuntime) {
         byte_room: Text::new(&mut byte_room),
         unit_room: Text::new(&mut unit_room),
     };
-    answer_lines(&rt, &mut input, &mut line, &mut console, &mut out);
+    answer_lines(rt, &mut input, &mut line, &mut console, &mut out);
+}
+
+// The room for the answers, 600,000 bytes: one array of that size is too much for the proof.
+fn main(rt: HostRuntime) {
+    let mut room = [[0u8; 300000]; 2];
+    answer_input(&rt, room.as_flattened_mut());
 }

@@ -5,7 +5,7 @@ use console_print::Output;
 const STDOUT_FILENO: i32 = 1;
 
 // An output with more than this is written before the next command: no answer is longer than the rest.
-const OUT_LIMIT: usize = 100000;
+const OUT_LIMIT: usize = 300000;
 
 // Writes the output if it has much, or if the next line waits for more input.
 pub fn flush(out: &mut Output<'_>, is_waiting: bool) {

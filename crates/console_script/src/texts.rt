@@ -132,16 +132,19 @@ impl<T: Element> Text<'_, T> {
     // Other elements: as many as asked, if the buffer has room for them, those that a line spells, over and over.
     pub fn repeat(&mut self, count: usize, spelled: Spelled<'_>) {
         self.cut(count);
-        for (i, item) in self.items_mut().iter_mut().enumerate() {
-            *item = spelled.at(i);
+        let mut place = 0;
+        for item in self.items_mut() {
+            *item = T::of_digits(spelled.digits, place);
+            place = spelled.following(place);
         }
     }
 }
 
 impl Spelled<'_> {
-    // An element at a place, where they are given over and over.
-    fn at<T: Element>(self, place: usize) -> T {
-        T::of_digits(self.digits, place.checked_rem(self.count).unwrap_or(0))
+    // The place of the next element, where they are given over and over.
+    fn following(self, place: usize) -> usize {
+        let next = place.saturating_add(1);
+        if next < self.count { next } else { 0 }
     }
 }
 
@@ -159,10 +162,14 @@ pub fn is_kept<T: Filled>(room: &[T], from: usize) -> bool {
 
 // Whether the elements of a text from a place on are still those that a line spells, over and over from its front.
 pub fn repeats_from<T: Element>(spelled: Spelled<'_>, text: &[T], from: usize) -> bool {
-    text.iter()
-        .enumerate()
-        .skip(from)
-        .all(|(i, item)| *item == spelled.at(i))
+    let mut place = from.checked_rem(spelled.count).unwrap_or(0);
+    for item in text.iter().skip(from) {
+        if *item != T::of_digits(spelled.digits, place) {
+            return false;
+        }
+        place = spelled.following(place);
+    }
+    true
 }
 
 // The first elements of a slice: as many as asked, if it has them.

@@ -138,6 +138,7 @@ impl<'a> Words<'a> {
     // The next word.
     pub fn word(&mut self) -> Option<&'a [u8]>
         ensures word { MatchOption result (length self.old.line.now < self.old.at) (λ word. (self.old.at ≤ length self.old.line.now) × (word.now ≡ first_word (drop self.old.at self.old.line.now))) }
+        ensures part { IfSome result (λ word. length word.now ≤ length self.old.line.now) }
         ensures next { self.new.at ≡ next_at self.old.line.now self.old.at }
         ensures line { self.new.line.now ≡ self.old.line.now }
     {
@@ -224,7 +225,9 @@ impl<'a> Words<'a> {
     }
 
     // Hex digits; none for `-`.
-    fn digits(&mut self) -> Option<&'a [u8]> {
+    fn digits(&mut self) -> Option<&'a [u8]>
+        ensures { IfSome result (λ digits. length digits.now ≤ length self.old.line.now) }
+    {
         let word = self.word()?;
         if word == b"-".as_slice() {
             return Some(&word[..0]);
@@ -236,7 +239,9 @@ impl<'a> Words<'a> {
     }
 
     // Bytes or units in hex, at most 66,000.
-    pub fn elements<T: Element>(&mut self) -> Option<Spelled<'a>> {
+    pub fn elements<T: Element>(&mut self) -> Option<Spelled<'a>>
+        ensures { IfSome result (λ elements. length elements.digits.now ≤ length self.old.line.now) }
+    {
         let digits = self.digits()?;
         let count = T::count_of(digits)?;
         if TEXT_LIMIT < count {
@@ -257,7 +262,9 @@ impl<'a> Words<'a> {
     }
 
     // A file's name: 1 to 4,000 bytes, each printable and no space.
-    pub fn name(&mut self) -> Option<&'a [u8]> {
+    pub fn name(&mut self) -> Option<&'a [u8]>
+        ensures { IfSome result (λ name. length name.now ≤ length self.old.line.now) }
+    {
         let word = self.word()?;
         if word.is_empty() || NAME_LIMIT < word.len() {
             return None;
